@@ -16,8 +16,8 @@ use Rattle.map_facts_late.specs.Given.RawDeclared.machines.answer.There.{There}
 use Rattle.map_facts_late.specs.Given.RawDeclared.machines.answer.There.TheVariants as there
 use Rattle.map_facts_late.specs.Given.RawDeclared.machines.asking.Asking.TheVariants as asking
 use Rattle.map_facts_late.specs.Given.RawDeclared.machines.asking.Replies.{Replies}
-use Rattle.map_facts_late.specs.Given.RawDeclared.machines.asking.Reply.{Reply}
-use Rattle.map_facts_late.specs.Given.RawDeclared.machines.asking.Reply.TheVariants as reply
+use Rattle.map_facts_late.specs.Given.RawDeclared.machines.asking.MachineReply.{MachineReply}
+use Rattle.map_facts_late.specs.Given.RawDeclared.machines.asking.MachineReply.TheVariants as reply
 use Rattle.map_facts_late.specs.Given.RawDeclared.machines.asking.Takes.{Takes}
 use Rattle.map_facts_late.specs.Given.RawDeclared.machines.asking.Takes.TheVariants as takes
 use Rattle.map_facts_late.specs.Given.RawDeclared.machines.asking.Told.TheVariants as tells
@@ -32,7 +32,7 @@ use Rattle.many_calls.specs.Kind.{Kind}
 -- a question and its reply: the question is about a pair, by its number, or about none, where the key is missing
 pub record Asked (V : Type 0) : Type 0 where
   pub about : Option ℕ
-  pub told : Reply V
+  pub told : MachineReply V
 
 abbrev pub is_about : Option ℕ → Option ℕ → Bool
 is_about None None = true
@@ -40,7 +40,7 @@ is_about (Some n) (Some o) = n == o
 is_about _ _ = false
 
 -- the last reply to a question, where the last one stands first
-abbrev pub last_told : {V : Type 0} → Option ℕ → List (Asked V) → Option (Reply V)
+abbrev pub last_told : {V : Type 0} → Option ℕ → List (Asked V) → Option (MachineReply V)
 last_told about [] = None
 last_told about (a ∷ asked) = if is_about a.about about then Some a.told else last_told about asked
 

@@ -4,8 +4,8 @@ use Rattle.seize_model.specs.Given.SeizeWordsMem.{Mem, value_at}
 use Rattle.map_facts_late.specs.Given.TablesDeclared.node.Node.{Node}
 use Rattle.map_facts_late.specs.Given.RawCallPoints.{standing}
 use Rattle.map_facts_late.specs.Given.RawDeclared.machines.answer.KeyAnswer.{KeyAnswer}
-use Rattle.map_facts_late.specs.Given.RawDeclared.machines.asking.Reply.{Reply}
-use Rattle.map_facts_late.specs.Given.RawDeclared.machines.asking.Reply.TheVariants as reply
+use Rattle.map_facts_late.specs.Given.RawDeclared.machines.asking.MachineReply.{MachineReply}
+use Rattle.map_facts_late.specs.Given.RawDeclared.machines.asking.MachineReply.TheVariants as reply
 use Rattle.map_facts_late.specs.Given.RawDeclared.machines.asking.Takes.TheVariants as takes
 use Rattle.map_facts_late.specs.Given.RawDeclared.machines.call.KeyCall.{KeyCall}
 use Rattle.map_facts_late.specs.Given.RawDeclared.machines.call.Calling.{Calling}
@@ -52,7 +52,7 @@ kind_of (Begun kind pair) = kind
 kind_of (IsTold kind its asked) = kind
 
 -- a reply that is taken is kept
-abbrev pub and_told : {K V : Type 0} → Given K V → Option ℕ → Reply V → Result Unit (Reply V) → Given K V
+abbrev pub and_told : {K V : Type 0} → Given K V → Option ℕ → MachineReply V → Result Unit (MachineReply V) → Given K V
 and_told (IsTold kind its asked) about told (Ok taken) = IsTold kind its (record { about = about; told = told } ∷ asked)
 and_told given about told _ = given
 

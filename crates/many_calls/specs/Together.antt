@@ -18,7 +18,7 @@ use Rattle.map_facts_late.specs.Given.RawCallPoints.{getting, removing, insertin
 use Rattle.map_facts_late.specs.Given.RawDeclared.machines.asking.Asking.{Asking}
 use Rattle.map_facts_late.specs.Given.RawDeclared.machines.asking.Asking.TheVariants as asking
 use Rattle.map_facts_late.specs.Given.RawDeclared.machines.asking.Gap.{Gap}
-use Rattle.map_facts_late.specs.Given.RawDeclared.machines.asking.Reply.{Reply}
+use Rattle.map_facts_late.specs.Given.RawDeclared.machines.asking.MachineReply.{MachineReply}
 use Rattle.map_facts_late.specs.Given.RawDeclared.machines.call.Calling.TheVariants as at
 use Rattle.map_facts_late.specs.Given.RawDeclared.machines.answer.KeyAnswer.{KeyAnswer}
 use Rattle.map_facts_late.specs.Given.RawDeclared.machines.answer.KeyAnswer.TheVariants as answers
@@ -50,13 +50,13 @@ use Rattle.map_facts_late.specs.FactsSweeps.{SweepFacts}
 use Rattle.map_facts_late.specs.ToldSweeps.{IsRowOfSweep}
 use Rattle.seize_model.specs.Given.SeizeWordsDeclared.fault.Fault.{Fault}
 use Rattle.seize_model.specs.Given.SeizeWordsDeclared.fault.Fault.TheVariants.{RemoveNothing}
-use Rattle.seize_model.specs.Given.SeizeDeclared.progress.Progress.{Progress}
-use Rattle.seize_model.specs.Given.SeizeDeclared.progress.Progress.TheVariants as progress
+use Rattle.seize_model.specs.Given.SeizeDeclared.advance.Advance.{Advance}
+use Rattle.seize_model.specs.Given.SeizeDeclared.advance.Advance.TheVariants as progress
 use Rattle.map_facts_late.specs.Given.ResizeSum.{summing, sum_plan}
 use Rattle.map_facts_late.specs.Given.ResizeDeclared.sum.Sum.{Sum}
 use Rattle.map_facts_late.specs.Given.PointsFactsTables.{SumFacts}
-use Rattle.map_facts_late.specs.Given.ResizeDeclared.outcome.Outcome.{Outcome}
-use Rattle.map_facts_late.specs.Given.ResizeDeclared.outcome.Outcome.TheVariants as outcome
+use Rattle.map_facts_late.specs.Given.ResizeDeclared.yielding.Yielding.{Yielding}
+use Rattle.map_facts_late.specs.Given.ResizeDeclared.yielding.Yielding.TheVariants as outcome
 use Rattle.map_facts_late.specs.Given.ReservesReserve.{reserving, reserve_plan}
 use Rattle.map_facts_late.specs.Given.ReservesDeclared.reserve.Reserve.{Reserve}
 use Rattle.map_facts_late.specs.FactsReserves.{ReserveFacts}
@@ -98,12 +98,12 @@ next_of u (called.Done answer) = None
 next_of u (called.Refused fault) = None
 next_of u _ = Some (OnKey u)
 
-abbrev pub next_for_room : {K V Q : Type 0} → CallForRoom → Outcome (Node K V) Unit → Option (UnderWay K V Q)
+abbrev pub next_for_room : {K V Q : Type 0} → CallForRoom → Yielding (Node K V) Unit → Option (UnderWay K V Q)
 next_for_room r (outcome.Done end) = None
 next_for_room r (outcome.Refused fault) = None
 next_for_room r _ = Some (ForRoom r)
 
-abbrev pub next_of_counting : {K V Q : Type 0} → Sum → Progress ℕ → Option (UnderWay K V Q)
+abbrev pub next_of_counting : {K V Q : Type 0} → Sum → Advance ℕ → Option (UnderWay K V Q)
 next_of_counting sum (progress.Done count) = None
 next_of_counting sum (progress.Refused fault) = None
 next_of_counting sum _ = Some (Counting sum)
@@ -121,7 +121,7 @@ ClaimsInto t (Counting sum) = ⊥
 ClaimsInto t (OverAll o) = SweepClaims t o.sweep.stands
 
 -- what was told about this is kept, if it is taken
-abbrev pub told_about : {K V Q : Type 0} → CallOnKey K V Q → Option ℕ → Reply V → CallOnKey K V Q
+abbrev pub told_about : {K V Q : Type 0} → CallOnKey K V Q → Option ℕ → MachineReply V → CallOnKey K V Q
 told_about u about told =
     record { keys = u.keys; pair = and_told u.pair about told (replied u.call told).1; began = u.began; change = u.change; call = (replied u.call told).0 }
 
@@ -403,7 +403,7 @@ module _ {K Q : Type 0} (V : Type 0) (same : K → K → Bool) (hash : K → ℕ
       ((about : Option ℕ) × AsksAbout c seen asks_at about)
       × ((gap : Gap) → asks_at ≡ asking.Absent gap → AsksFirst u.pair None)
       × ((word n : ℕ) → asks_at ≡ asking.Present word → AsksAbout c seen asks_at (Some n) → AsksFirst u.pair (Some n))
-      × ((about : Option ℕ) → AsksAbout c seen asks_at about → (reply : Reply V) → GoesOn (told_about u about reply))
+      × ((about : Option ℕ) → AsksAbout c seen asks_at about → (reply : MachineReply V) → GoesOn (told_about u about reply))
 
   -- A call that asks is told what to do, or is told something that it does not take. All calls stand together then, and it has changed nothing by
   -- that; at all other points it takes nothing.
@@ -422,14 +422,14 @@ module _ {K Q : Type 0} (V : Type 0) (same : K → K → Bool) (hash : K → ℕ
       → (additional : ℕ) → Together w c blocks sights (with_at calls i (Some (ForRoom (record { began = c.now; reserve = reserving (in_slot setting (slot i)) additional }))))
 
   -- what a step of a reservation tells, in its table, or in one that the root has left
-  pub data RoomTold (c : Chart K) (i : ℕ) (r : CallForRoom) (p2 : Reserve) (end : Outcome (Node K V) Unit) (w2 : World (Node K V)) (c2 : Chart K) (blocks2 : Blocks) : Type 0 where
+  pub data RoomTold (c : Chart K) (i : ℕ) (r : CallForRoom) (p2 : Reserve) (end : Yielding (Node K V) Unit) (w2 : World (Node K V)) (c2 : Chart K) (blocks2 : Blocks) : Type 0 where
     FreshRoom : ReserveTold same hash i (in_slot setting (slot i)) c r.reserve w2 c2 blocks2 p2 end → RoomTold c i r p2 end w2 c2 blocks2
     LateRoom : is_incremental setting.mode ≡ false → LateReserveTold same hash i (in_slot setting (slot i)) r.began c r.reserve w2 c2 blocks2 p2 end → RoomTold c i r p2 end w2 c2 blocks2
 
   -- Where a step of a reservation leads that is none of a row: one move at most was made, by this caller, no pair of the map has changed, and all calls
   -- stand together.
   pub record RoomStepsTogether (w : World (Node K V)) (c : Chart K) (blocks : Blocks) (sights : ℕ → Sight) (calls : ℕ → Option (UnderWay K V Q)) (i : ℕ) (r : CallForRoom)
-      (m2 : Mem (Node K V)) (p2 : Reserve) (end : Outcome (Node K V) Unit) : Type 0 where
+      (m2 : Mem (Node K V)) (p2 : Reserve) (end : Yielding (Node K V) Unit) : Type 0 where
     pub inside : IsInside (w.uses (slot i))
     pub went : Went same hash (in_slot setting (slot i)) i w c (seen_by blocks (sights (slot i))) m2 (RoomTold c i r p2 end)
     pub remembers : Remembers (is_incremental setting.mode) c went.c2
@@ -446,12 +446,12 @@ module _ {K Q : Type 0} (V : Type 0) (same : K → K → Bool) (hash : K → ℕ
       → (w : World (Node K V)) (c : Chart K) (blocks : Blocks) (sights : ℕ → Sight) (calls : ℕ → Option (UnderWay K V Q)) → Together w c blocks sights calls
       → (i : ℕ) (r : CallForRoom) → calls i ≡ Some (ForRoom r) → (IsRowOfReserve r.reserve.stands → ⊥)
       → May Can Took value_at w.memory (reserve_plan hash r.reserve)
-      × ((m2 : Mem (Node K V)) (p2 : Reserve) (end : Outcome (Node K V) Unit) → Steps Took value_at w.memory (reserve_plan hash r.reserve) m2 (p2, end)
+      × ((m2 : Mem (Node K V)) (p2 : Reserve) (end : Yielding (Node K V) Unit) → Steps Took value_at w.memory (reserve_plan hash r.reserve) m2 (p2, end)
       → RoomStepsTogether w c blocks sights calls i r m2 p2 end)
 
   -- Where a step of a row within a reservation leads: as within a call on one key.
   pub record RoomRowsTogether (w : World (Node K V)) (c : Chart K) (blocks : Blocks) (sights : ℕ → Sight) (calls : ℕ → Option (UnderWay K V Q)) (i : ℕ) (r : CallForRoom)
-      (m2 : Mem (Node K V)) (p2 : Reserve) (end : Outcome (Node K V) Unit) : Type 0 where
+      (m2 : Mem (Node K V)) (p2 : Reserve) (end : Yielding (Node K V) Unit) : Type 0 where
     pub w2 : World (Node K V)
     pub memory : w2.memory ≡ m2
     pub happened : IsOneStep setting i w w2
@@ -467,7 +467,7 @@ module _ {K Q : Type 0} (V : Type 0) (same : K → K → Bool) (hash : K → ℕ
       → (w : World (Node K V)) (c : Chart K) (blocks : Blocks) (sights : ℕ → Sight) (calls : ℕ → Option (UnderWay K V Q)) → Together w c blocks sights calls
       → (i : ℕ) (r : CallForRoom) → calls i ≡ Some (ForRoom r) → IsRowOfReserve r.reserve.stands
       → May Can Took value_at w.memory (reserve_plan hash r.reserve)
-      × ((m2 : Mem (Node K V)) (p2 : Reserve) (end : Outcome (Node K V) Unit) → Steps Took value_at w.memory (reserve_plan hash r.reserve) m2 (p2, end)
+      × ((m2 : Mem (Node K V)) (p2 : Reserve) (end : Yielding (Node K V) Unit) → Steps Took value_at w.memory (reserve_plan hash r.reserve) m2 (p2, end)
       → RoomRowsTogether w c blocks sights calls i r m2 p2 end)
 
   -- A caller that has no call, and no row under way, begins to count the pairs, within a section or outside of any. In blocking mode, few calls are under
@@ -484,5 +484,5 @@ module _ {K Q : Type 0} (V : Type 0) (same : K → K → Bool) (hash : K → ℕ
       (w : World (Node K V)) (c : Chart K) (blocks : Blocks) (sights : ℕ → Sight) (calls : ℕ → Option (UnderWay K V Q)) → Together w c blocks sights calls
       → (i : ℕ) (sum : Sum) → calls i ≡ Some (Counting sum)
       → May Can Took value_at w.memory (sum_plan sum)
-      × ((m2 : Mem (Node K V)) (sum2 : Sum) (end : Progress ℕ) → Steps Took value_at w.memory (sum_plan sum) m2 (sum2, end)
+      × ((m2 : Mem (Node K V)) (sum2 : Sum) (end : Advance ℕ) → Steps Took value_at w.memory (sum_plan sum) m2 (sum2, end)
       → (m2 ≡ w.memory) × (end ≢ progress.Waits) × ((fault : Fault) → end ≢ progress.Refused fault) × Together w c blocks sights (with_at calls i (next_of_counting sum2 end)))

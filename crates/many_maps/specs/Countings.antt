@@ -4,8 +4,8 @@ use Rattle.many_calls.specs.Given.SeizeWordsMem.{Mem, Can, Took, value_at}
 use Rattle.many_calls.specs.Given.SeizeWordsPlan.{May, Steps}
 use Rattle.many_calls.specs.Given.SeizeWordsDeclared.fault.Fault.{Fault}
 use Rattle.many_calls.specs.Given.SeizeWorld.{World, Rests}
-use Rattle.many_calls.specs.Given.SeizeDeclared.progress.Progress.{Progress}
-use Rattle.many_calls.specs.Given.SeizeDeclared.progress.Progress.TheVariants as progress
+use Rattle.many_calls.specs.Given.SeizeDeclared.advance.Advance.{Advance}
+use Rattle.many_calls.specs.Given.SeizeDeclared.advance.Advance.TheVariants as progress
 use Rattle.many_calls.specs.Given.TablesChunks.{is_incremental}
 use Rattle.many_calls.specs.Given.TablesDeclared.node.Node.{Node}
 use Rattle.many_calls.specs.Given.ResizeSum.{summing, sum_plan}
@@ -33,6 +33,6 @@ module _ {K Q : Type 0} (V : Type 0) (same : K → K → Bool) (asks : Q → K �
       → EndingsTogether V same asks batch_size roots slot w maps calls makers enders
       → (m : ℕ) (s : Standing K) → maps m ≡ Some s → (i : ℕ) (sum : Sum) → calls m i ≡ Some (Counting sum)
       → May Can Took value_at w.memory (sum_plan sum)
-      × ((m2 : Mem (Node K V)) (sum2 : Sum) (end : Progress ℕ) → Steps Took value_at w.memory (sum_plan sum) m2 (sum2, end)
+      × ((m2 : Mem (Node K V)) (sum2 : Sum) (end : Advance ℕ) → Steps Took value_at w.memory (sum_plan sum) m2 (sum2, end)
       → (m2 ≡ w.memory) × (end ≢ progress.Waits) × ((fault : Fault) → end ≢ progress.Refused fault)
       × EndingsTogether V same asks batch_size roots slot w maps (with_call calls m i (next_of_counting sum2 end)) makers enders)

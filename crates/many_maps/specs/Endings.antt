@@ -5,8 +5,8 @@ use Rattle.many_calls.specs.Given.SeizeWordsPlan.{May, Steps}
 use Rattle.many_calls.specs.Given.SeizeWorld.{World, Rests, Request, MayStep, Begin, Step, Ends, Happens, Runs, LeftTo, IsNotLeft, IsInside, times, with_at}
 use Rattle.many_calls.specs.Given.SeizeDeclared.rows.settle.Settled.{Settled}
 use Rattle.many_calls.specs.Given.SeizeDeclared.rows.settle.Settled.TheVariants as settled
-use Rattle.many_calls.specs.Given.SeizeDeclared.progress.Progress.{Progress}
-use Rattle.many_calls.specs.Given.SeizeDeclared.progress.Progress.TheVariants as progress
+use Rattle.many_calls.specs.Given.SeizeDeclared.advance.Advance.{Advance}
+use Rattle.many_calls.specs.Given.SeizeDeclared.advance.Advance.TheVariants as progress
 use Rattle.many_calls.specs.Given.TablesChunks.{is_incremental}
 use Rattle.many_calls.specs.Given.TablesNodes.{deferred_word}
 use Rattle.many_calls.specs.Given.TablesDeclared.node.Node.{Node}
@@ -242,13 +242,13 @@ module _ {K Q : Type 0} (V : Type 0) (same : K → K → Bool) (asks : Q → K �
   module _ (w : World (Node K V)) (maps : ℕ → Option (Standing K)) (calls : ℕ → ℕ → Option (UnderWay K V Q)) (makers : ℕ → Option (Beginning K)) (enders : ℕ → Option (Finishing K V))
       (i : ℕ) (b : Beginning K) where
     -- what a making tells, with ends of maps under way
-    abbrev pub MakingToldAmong : World (Node K V) → NewMap × Progress Setting → Type 0
+    abbrev pub MakingToldAmong : World (Node K V) → NewMap × Advance Setting → Type 0
     MakingToldAmong w2 (n, progress.Goes) = EndingsTogether w2 maps calls (with_at makers i (Some (record b { machine = n }))) enders
     MakingToldAmong w2 (n, progress.Waits) = ⊥
     MakingToldAmong w2 (n, progress.Done answer) = (s : Standing K) × IsMade V same asks batch_size roots slot b answer s × EndingsTogether w2 (with_at maps b.map (Some s)) calls (with_at makers i None) enders
     MakingToldAmong w2 (n, progress.Refused fault) = EndingsTogether w2 maps calls (with_at makers i None) enders
 
-    pub record MakingStepsAmong (m2 : Mem (Node K V)) (end : NewMap × Progress Setting) : Type 0 where
+    pub record MakingStepsAmong (m2 : Mem (Node K V)) (end : NewMap × Advance Setting) : Type 0 where
       pub step : StepsOfMaking V same asks batch_size roots slot w maps calls makers i b m2 end
       pub told : MakingToldAmong step.w2 end
 
@@ -258,5 +258,5 @@ module _ {K Q : Type 0} (V : Type 0) (same : K → K → Bool) (asks : Q → K �
       (w : World (Node K V)) (maps : ℕ → Option (Standing K)) (calls : ℕ → ℕ → Option (UnderWay K V Q)) (makers : ℕ → Option (Beginning K)) (enders : ℕ → Option (Finishing K V))
       → EndingsTogether w maps calls makers enders → (i : ℕ) (b : Beginning K) → makers i ≡ Some b
       → May Can Took value_at w.memory (new_map_plan {K = K} {V = V} b.machine)
-      × ((m2 : Mem (Node K V)) (end : NewMap × Progress Setting) → Steps Took value_at w.memory (new_map_plan b.machine) m2 end
+      × ((m2 : Mem (Node K V)) (end : NewMap × Advance Setting) → Steps Took value_at w.memory (new_map_plan b.machine) m2 end
       → MakingStepsAmong w maps calls makers enders i b m2 end)

@@ -3,10 +3,10 @@ use Rattle.std.specs.Prelude.{◌≡◌, ◌≢◌, ℕ, ◌⊎◌, Bool, true, 
 use Rattle.many_calls.specs.Given.SeizeWordsMem.{Mem, Can, Took, value_at}
 use Rattle.many_calls.specs.Given.SeizeWordsPlan.{May, Steps}
 use Rattle.many_calls.specs.Given.SeizeWorld.{World, Rests, with_at}
-use Rattle.many_calls.specs.Given.SeizeDeclared.progress.Progress.{Progress as Counted}
+use Rattle.many_calls.specs.Given.SeizeDeclared.advance.Advance.{Advance as Counted}
 use Rattle.many_calls.specs.Given.TablesChunks.{is_incremental}
 use Rattle.many_calls.specs.Given.TablesDeclared.node.Node.{Node}
-use Rattle.many_calls.specs.Given.ResizeDeclared.outcome.Outcome.{Outcome}
+use Rattle.many_calls.specs.Given.ResizeDeclared.yielding.Yielding.{Yielding}
 use Rattle.many_calls.specs.Given.ResizeDeclared.sum.Sum.{Sum}
 use Rattle.many_calls.specs.Given.ReservesDeclared.reserve.Reserve.{Reserve}
 use Rattle.many_calls.specs.Given.ReservesDeclared.sweep.Sweep.{Sweep}
@@ -16,8 +16,8 @@ use Rattle.many_calls.specs.Given.RawMachine.{machine_plan, machine_replied, mac
 use Rattle.many_calls.specs.Given.RawProgress.{of_called, of_outcome, of_swept, of_counting}
 use Rattle.many_calls.specs.Given.RawDeclared.machines.answer.Called.{Called}
 use Rattle.many_calls.specs.Given.RawDeclared.machines.asking.Asking.{Asking}
-use Rattle.many_calls.specs.Given.RawDeclared.machines.asking.Reply.{Reply}
-use Rattle.many_calls.specs.Given.RawDeclared.machines.asking.Reply.TheVariants as reply
+use Rattle.many_calls.specs.Given.RawDeclared.machines.asking.MachineReply.{MachineReply}
+use Rattle.many_calls.specs.Given.RawDeclared.machines.asking.MachineReply.TheVariants as reply
 use Rattle.many_calls.specs.Given.RawDeclared.machines.call.Calling.TheVariants as at
 use Rattle.many_calls.specs.Given.RawDeclared.machines.call.KeyCall.{KeyCall}
 use Rattle.many_calls.specs.Given.RawDeclared.machines.machine.Machine.{Machine}
@@ -82,7 +82,7 @@ module _ {K Q : Type 0} (V : Type 0) (same : K → K → Bool) (asks : Q → K �
           ⊎ ((to : RowStepsAmong V same asks batch_size roots slot w maps calls makers enders m s i u m2 p2 end)
           × HasStayed w2 maps2 next to.step.w2 (next_of (record { keys = u.keys; pair = u.pair; began = u.began; change = u.change; call = p2 }) end)))
       DidOfKind (ForRoom r) machine told =
-          (p2 : Reserve) × (end : Outcome (Node K V) Unit) × (machine ≡ kinds.Reserve p2) × (told ≡ of_outcome end)
+          (p2 : Reserve) × (end : Yielding (Node K V) Unit) × (machine ≡ kinds.Reserve p2) × (told ≡ of_outcome end)
           × (((to : RoomStepsAmong V same asks batch_size roots slot w maps calls makers enders m s i r m2 p2 end)
           × HasMoved w2 maps2 next to.step.went.w2 to.step.went.c2 to.step.blocks2 to.step.sights2 (next_for_room (record { began = r.began; reserve = p2 }) end))
           ⊎ ((to : RoomRowsAmong V same asks batch_size roots slot w maps calls makers enders m s i r m2 p2 end)
@@ -114,7 +114,7 @@ module _ {K Q : Type 0} (V : Type 0) (same : K → K → Bool) (asks : Q → K �
       pub did : DidOfKind w2 maps2 next u machine told
 
   -- What is under way once it was told something. A call that asks goes on by that, with what it was told; one that takes no reply goes on as it was.
-  abbrev pub ToldOfKind : Standing K → ℕ → UnderWay K V Q → Reply V → UnderWay K V Q → Type 0
+  abbrev pub ToldOfKind : Standing K → ℕ → UnderWay K V Q → MachineReply V → UnderWay K V Q → Type 0
   ToldOfKind s i (OnKey u) told next =
       ((asks_at : Asking) × (about : Option ℕ) × (u.call.stands ≡ at.Asks asks_at)
       × AsksAbout V same s.hash asks s.setting slot s.chart (seen_by s.blocks (s.sights (slot i))) asks_at about
@@ -133,7 +133,7 @@ module _ {K Q : Type 0} (V : Type 0) (same : K → K → Bool) (asks : Q → K �
       (makers : ℕ → Option (Beginning K)) (enders : ℕ → Option (Finishing K V))
       → EndingsTogether V same asks batch_size roots slot w maps calls makers enders
       → (m : ℕ) (s : Standing K) → maps m ≡ Some s → (i : ℕ) (u : UnderWay K V Q) → calls m i ≡ Some u
-      → ((told : Reply V) → (next : UnderWay K V Q) × (machine_of next ≡ (machine_replied (machine_of u) told).0) × ToldOfKind s i u told next
+      → ((told : MachineReply V) → (next : UnderWay K V Q) × (machine_of next ≡ (machine_replied (machine_of u) told).0) × ToldOfKind s i u told next
       × EndingsTogether V same asks batch_size roots slot w maps (with_call calls m i (Some next)) makers enders)
       × ((next : UnderWay K V Q) × (machine_of next ≡ (machine_asked (machine_of u)).0)
       × EndingsTogether V same asks batch_size roots slot w maps (with_call calls m i (Some next)) makers enders)

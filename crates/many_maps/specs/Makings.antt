@@ -6,8 +6,8 @@ use Rattle.many_calls.specs.Given.SeizeWordsPlan.{May, Steps}
 use Rattle.many_calls.specs.Given.SeizeWordsDeclared.at.At.TheVariants.{Root, Used, Entry, Word}
 use Rattle.many_calls.specs.Given.SeizeDeclared.states.TheConstants.{NEXT}
 use Rattle.many_calls.specs.Given.SeizeWorld.{World, Making as MadeBy, LeftTo, Rests, Request, MayStep, Event, Begin, Step, Happens, Runs, IsInside, with_at}
-use Rattle.many_calls.specs.Given.SeizeDeclared.progress.Progress.{Progress}
-use Rattle.many_calls.specs.Given.SeizeDeclared.progress.Progress.TheVariants as progress
+use Rattle.many_calls.specs.Given.SeizeDeclared.advance.Advance.{Advance}
+use Rattle.many_calls.specs.Given.SeizeDeclared.advance.Advance.TheVariants as progress
 use Rattle.many_calls.specs.Given.TablesChunks.{is_incremental}
 use Rattle.many_calls.specs.Given.TablesLengths.{IsTableLen}
 use Rattle.many_calls.specs.Given.TablesNodes.{deferred_word}
@@ -77,7 +77,7 @@ IsNewChart hash setting places chart =
     ((places ≡ 0) × (chart ≡ no_table)) ⊎ ((places ≢ 0) × (limit : ℕ) × (chart ≡ after (spot_of hash) (is_incremental setting.mode) (Links (max places 8) limit) no_table))
 
 -- this block is the first table of the map that the step has brought: that map's root leads there
-abbrev pub IsFirstTable : {K V : Type 0} → World (Node K V) → NewMap × Progress Setting → ℕ → Type 0
+abbrev pub IsFirstTable : {K V : Type 0} → World (Node K V) → NewMap × Advance Setting → ℕ → Type 0
 IsFirstTable w2 (n2, progress.Done answer) x = word_at w2.memory (Root answer.root) ≡ Some (x * 2048)
 IsFirstTable w2 (n2, _) x = ⊥
 
@@ -172,7 +172,7 @@ module _ {K Q : Type 0} (V : Type 0) (same : K → K → Bool) (asks : Q → K �
 
   -- What a making has, its root and its counter, it has still as it goes on, unless the counter was taken away, and its map has it at the end. One that
   -- is refused has given its root up, and its counter was taken away; if it had no root, nothing is changed.
-  abbrev pub KeepsIts : World (Node K V) → World (Node K V) → NewMap → NewMap × Progress Setting → Type 0
+  abbrev pub KeepsIts : World (Node K V) → World (Node K V) → NewMap → NewMap × Advance Setting → Type 0
   KeepsIts w w2 n (n2, progress.Goes) =
       (HasTaken n.stands → HasTaken n2.stands × (n2.setting.root ≡ n.setting.root))
       × (HasMade n.stands → (HasMade n2.stands × (n2.setting.counter ≡ n.setting.counter)) ⊎ (value_at w2.memory n.setting.counter ≡ None))
@@ -182,13 +182,13 @@ module _ {K Q : Type 0} (V : Type 0) (same : K → K → Bool) (asks : Q → K �
       (HasTaken n.stands → IsFreeRoot w2 n.setting.root) × (HasMade n.stands → value_at w2.memory n.setting.counter ≡ None) × ((HasTaken n.stands → ⊥) → w2.memory ≡ w.memory)
 
   -- the making goes on with this root
-  abbrev pub HasComeTo : NewMap × Progress Setting → ℕ → Type 0
+  abbrev pub HasComeTo : NewMap × Advance Setting → ℕ → Type 0
   HasComeTo (n2, progress.Goes) r = HasTaken n2.stands × (n2.setting.root ≡ r)
   HasComeTo (n2, _) r = ⊥
 
   -- What a step of a making leaves of what is nobody's: each block that is left over is as it was, with its link, and so is each root but that which the
   -- making has. One that was free is so still, unless the making goes on with it.
-  pub record LeavesRest (w w2 : World (Node K V)) (n : NewMap) (end : NewMap × Progress Setting) : Type 0 where
+  pub record LeavesRest (w w2 : World (Node K V)) (n : NewMap) (end : NewMap × Advance Setting) : Type 0 where
     pub hands : (x j : ℕ) → w.hand x ≡ LeftTo j → w2.hand x ≡ LeftTo j
     pub values : (x j : ℕ) → w.hand x ≡ LeftTo j → value_at w2.memory x ≡ value_at w.memory x
     pub links : (x j word : ℕ) → w.hand x ≡ LeftTo j → word_at w.memory (Entry x NEXT) ≡ Some word → word_at w2.memory (Entry x NEXT) ≡ Some word
@@ -198,7 +198,7 @@ module _ {K Q : Type 0} (V : Type 0) (same : K → K → Bool) (asks : Q → K �
 
   module _ (w : World (Node K V)) (maps : ℕ → Option (Standing K)) (calls : ℕ → ℕ → Option (UnderWay K V Q)) (makers : ℕ → Option (Beginning K)) (i : ℕ) (b : Beginning K) where
     -- A making goes on; or its map stands, open to calls, and the making is over; or it is over without a map. It never waits.
-    abbrev pub MakingTold : World (Node K V) → NewMap × Progress Setting → Type 0
+    abbrev pub MakingTold : World (Node K V) → NewMap × Advance Setting → Type 0
     MakingTold w2 (n, progress.Goes) = MakingsTogether w2 maps calls (with_at makers i (Some (record b { machine = n })))
     MakingTold w2 (n, progress.Waits) = ⊥
     MakingTold w2 (n, progress.Done answer) = (s : Standing K) × IsMade b answer s × MakingsTogether w2 (with_at maps b.map (Some s)) calls (with_at makers i None)
@@ -206,7 +206,7 @@ module _ {K Q : Type 0} (V : Type 0) (same : K → K → Bool) (asks : Q → K �
 
     -- Where a step of a making leads: users' events alone lead there, the maps that stood stand as they were, and what is nobody's is left alone. A block
     -- that is out is in the hands that had it, and what is out then was so, or is the first table of the making's map.
-    pub record StepsOfMaking (m2 : Mem (Node K V)) (end : NewMap × Progress Setting) : Type 0 where
+    pub record StepsOfMaking (m2 : Mem (Node K V)) (end : NewMap × Advance Setting) : Type 0 where
       pub w2 : World (Node K V)
       pub events : List (Event (Node K V))
       pub users : AllUsers events
@@ -224,7 +224,7 @@ module _ {K Q : Type 0} (V : Type 0) (same : K → K → Bool) (asks : Q → K �
       (w : World (Node K V)) (maps : ℕ → Option (Standing K)) (calls : ℕ → ℕ → Option (UnderWay K V Q)) (makers : ℕ → Option (Beginning K)) → MakingsTogether w maps calls makers
       → (i : ℕ) (b : Beginning K) → makers i ≡ Some b
       → May Can Took value_at w.memory (new_map_plan {K = K} {V = V} b.machine)
-      × ((m2 : Mem (Node K V)) (end : NewMap × Progress Setting) → Steps Took value_at w.memory (new_map_plan b.machine) m2 end → StepsOfMaking w maps calls makers i b m2 end)
+      × ((m2 : Mem (Node K V)) (end : NewMap × Advance Setting) → Steps Took value_at w.memory (new_map_plan b.machine) m2 end → StepsOfMaking w maps calls makers i b m2 end)
 
   -- A caller that has no call on any map, makes none, and has no row under way, begins a call on one, within its section.
   abbrev pub CallsBeginBeside : Type 0

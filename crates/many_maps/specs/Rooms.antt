@@ -5,7 +5,7 @@ use Rattle.many_calls.specs.Given.SeizeWordsPlan.{May, Steps}
 use Rattle.many_calls.specs.Given.SeizeWorld.{World, Rests, IsInside, with_at}
 use Rattle.many_calls.specs.Given.TablesChunks.{is_incremental}
 use Rattle.many_calls.specs.Given.TablesDeclared.node.Node.{Node}
-use Rattle.many_calls.specs.Given.ResizeDeclared.outcome.Outcome.{Outcome}
+use Rattle.many_calls.specs.Given.ResizeDeclared.yielding.Yielding.{Yielding}
 use Rattle.many_calls.specs.Given.ReservesReserve.{reserving, reserve_plan}
 use Rattle.many_calls.specs.Given.ReservesDeclared.reserve.Reserve.{Reserve}
 use Rattle.many_calls.specs.Given.LateToldReserves.{IsRowOfReserve}
@@ -28,7 +28,7 @@ module _ {K Q : Type 0} (V : Type 0) (same : K → K → Bool) (asks : Q → K �
       (with_call calls m i (Some (ForRoom (record { began = s.chart.now; reserve = reserving (in_slot s.setting (slot i)) additional })))) makers enders
 
   module _ (w : World (Node K V)) (maps : ℕ → Option (Standing K)) (calls : ℕ → ℕ → Option (UnderWay K V Q)) (makers : ℕ → Option (Beginning K)) (enders : ℕ → Option (Finishing K V))
-      (m : ℕ) (s : Standing K) (i : ℕ) (r : CallForRoom) (m2 : Mem (Node K V)) (p2 : Reserve) (end : Outcome (Node K V) Unit) where
+      (m : ℕ) (s : Standing K) (i : ℕ) (r : CallForRoom) (m2 : Mem (Node K V)) (p2 : Reserve) (end : Yielding (Node K V) Unit) where
     -- where a step of a reservation leads that is none of a row: in its own map as if this were the only one
     pub record RoomStepsAmong : Type 0 where
       pub no_row : IsRowOfReserve r.reserve.stands → ⊥
@@ -49,7 +49,7 @@ module _ {K Q : Type 0} (V : Type 0) (same : K → K → Bool) (asks : Q → K �
       → EndingsTogether V same asks batch_size roots slot w maps calls makers enders
       → (m : ℕ) (s : Standing K) → maps m ≡ Some s → (i : ℕ) (r : CallForRoom) → calls m i ≡ Some (ForRoom r) → (IsRowOfReserve r.reserve.stands → ⊥)
       → May Can Took value_at w.memory (reserve_plan s.hash r.reserve)
-      × ((m2 : Mem (Node K V)) (p2 : Reserve) (end : Outcome (Node K V) Unit) → Steps Took value_at w.memory (reserve_plan s.hash r.reserve) m2 (p2, end)
+      × ((m2 : Mem (Node K V)) (p2 : Reserve) (end : Yielding (Node K V) Unit) → Steps Took value_at w.memory (reserve_plan s.hash r.reserve) m2 (p2, end)
       → RoomStepsAmong w maps calls makers enders m s i r m2 p2 end)
 
   -- The promise of the steps of rows within reservations.
@@ -59,5 +59,5 @@ module _ {K Q : Type 0} (V : Type 0) (same : K → K → Bool) (asks : Q → K �
       → EndingsTogether V same asks batch_size roots slot w maps calls makers enders
       → (m : ℕ) (s : Standing K) → maps m ≡ Some s → (i : ℕ) (r : CallForRoom) → calls m i ≡ Some (ForRoom r) → IsRowOfReserve r.reserve.stands
       → May Can Took value_at w.memory (reserve_plan s.hash r.reserve)
-      × ((m2 : Mem (Node K V)) (p2 : Reserve) (end : Outcome (Node K V) Unit) → Steps Took value_at w.memory (reserve_plan s.hash r.reserve) m2 (p2, end)
+      × ((m2 : Mem (Node K V)) (p2 : Reserve) (end : Yielding (Node K V) Unit) → Steps Took value_at w.memory (reserve_plan s.hash r.reserve) m2 (p2, end)
       → RoomRowsAmong w maps calls makers enders m s i r m2 p2 end)

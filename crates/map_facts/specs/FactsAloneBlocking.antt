@@ -1,8 +1,8 @@
 -- What a copier knows, in blocking mode, where no other caller has a part in the copying: a table that was given up says so, and a count that is
 -- full is its own to go on from.
 use Rattle.std.specs.Prelude.{◌≡◌, ◌≢◌, ℕ, ◌<◌, ◌≤◌, true, false}
-use Rattle.map_rule.specs.Given.ResizeDeclared.outcome.Outcome.{Outcome}
-use Rattle.map_rule.specs.Given.ResizeDeclared.outcome.Outcome.TheVariants as outcome
+use Rattle.map_rule.specs.Given.ResizeDeclared.yielding.Yielding.{Yielding}
+use Rattle.map_rule.specs.Given.ResizeDeclared.yielding.Yielding.TheVariants as outcome
 use Rattle.papaya_raw.specs.Given.TablesDeclared.status.TheConstants.Status.{ABORTED}
 use Rattle.papaya_raw.specs.Given.TablesDeclared.table.Table.{Table}
 use Rattle.map_rule.specs.Given.ResizeDeclared.copier.Copier.{Copier}
@@ -37,7 +37,7 @@ module _ {K : Type 0} (c : Chart K) where
   AloneBlocking p _ = AllAborted × AllUncounted × (p.spent ≡ false)
 
   -- where a step of a caller that is alone leads: it never waits
-  abbrev pub LeadsAlone : {T : Type 0} → ℕ → Copier × Outcome T Table → Type 0
+  abbrev pub LeadsAlone : {T : Type 0} → ℕ → Copier × Yielding T Table → Type 0
   LeadsAlone caller (p, outcome.Goes) = OthersIdle caller c × AloneBlocking p p.stands
   LeadsAlone caller (p, outcome.Waits) = ⊥
   LeadsAlone caller (p, outcome.Gave value) = ⊥

@@ -2,8 +2,8 @@
 use Rattle.std.specs.Prelude.{◌≡◌, ℕ, suc, Bool, List, Option}
 use Rattle.map_rule.specs.Given.SeizeWordsMem.{Mem, Took, value_at}
 use Rattle.map_rule.specs.Given.SeizeWordsPlan.{Steps}
-use Rattle.papaya_raw.specs.Given.SeizeDeclared.progress.Progress.{Progress}
-use Rattle.papaya_raw.specs.Given.SeizeDeclared.progress.Progress.TheVariants.{Goes}
+use Rattle.papaya_raw.specs.Given.SeizeDeclared.advance.Advance.{Advance}
+use Rattle.papaya_raw.specs.Given.SeizeDeclared.advance.Advance.TheVariants.{Goes}
 use Rattle.papaya_raw.specs.Given.TablesDeclared.node.Node.{Node}
 use Rattle.papaya_raw.specs.Given.TablesDeclared.resize_mode.ResizeMode.{ResizeMode}
 use Rattle.papaya_raw.specs.Given.TablesDeclared.table.Table.{Table}
@@ -28,5 +28,5 @@ module _ {K : Type 0} (V : Type 0) (same : K → K → Bool) (hash : K → ℕ) 
       AreLawful same hash → (mode : ResizeMode) (root : ℕ) (keys : K → Bool) (code : ℕ) (m : Mem (Node K V)) (c : Chart K) (blocks : Blocks) (l : Lookup)
       → IsClass same hash keys code → IsMap same hash mode root m c blocks → LookupFacts same hash mode root keys code c blocks l
       → (tables : List Table) (loads : ℕ) → HasLooked l.stands tables loads
-      → (m2 : Mem (Node K V)) (end : Lookup × Progress (Option ℕ)) → Steps Took value_at m (lookup_plan keys l) m2 end
+      → (m2 : Mem (Node K V)) (end : Lookup × Advance (Option ℕ)) → Steps Took value_at m (lookup_plan keys l) m2 end
       → end.1 ≡ Goes → HasLooked end.0.stands (entered l.stands end.0.stands tables) (suc loads)

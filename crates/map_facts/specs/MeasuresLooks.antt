@@ -3,8 +3,8 @@ use Rattle.std.specs.Prelude.{◌≡◌, ℕ, suc, ◌+◌, ◌-◌, ◌≤◌, 
 use Rattle.map_rule.specs.Given.SeizeWordsDeclared.at.At.{At}
 use Rattle.map_rule.specs.Given.SeizeWordsOp.{Load}
 use Rattle.map_rule.specs.Given.SeizeWordsPlan.{Plan, Turn, Do}
-use Rattle.papaya_raw.specs.Given.SeizeDeclared.progress.Progress.{Progress}
-use Rattle.papaya_raw.specs.Given.SeizeDeclared.progress.Progress.TheVariants as progress
+use Rattle.papaya_raw.specs.Given.SeizeDeclared.advance.Advance.{Advance}
+use Rattle.papaya_raw.specs.Given.SeizeDeclared.advance.Advance.TheVariants as progress
 use Rattle.papaya_raw.specs.Given.TablesDeclared.table.Table.{Table}
 use Rattle.map_rule.specs.Given.ResizeDeclared.lookup.Lookup.{Lookup}
 use Rattle.map_rule.specs.Given.ResizeDeclared.lookup.Looking.{Looking}
@@ -31,7 +31,7 @@ LoadLeads (at.Nexts table) (at.Probes trial) = (trial.table.turn ≡ suc table.t
 LoadLeads _ _ = ⊥
 
 -- where a step goes on from here
-abbrev pub LookupLeads : Looking → Lookup × Progress (Option ℕ) → Type 0
+abbrev pub LookupLeads : Looking → Lookup × Advance (Option ℕ) → Type 0
 LookupLeads stands (l, progress.Goes) = LoadLeads stands l.stands
 LookupLeads stands (l, _) = Unit {0}
 

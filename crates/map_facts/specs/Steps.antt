@@ -4,12 +4,12 @@ use Rattle.std.specs.Int.{IsPowerOfTwo}
 use Rattle.map_rule.specs.Given.SeizeWordsMem.{Mem, Can, Took, value_at}
 use Rattle.map_rule.specs.Given.SeizeWordsPlan.{May, Steps}
 use Rattle.papaya_raw.specs.Given.SeizeWorld.{World}
-use Rattle.papaya_raw.specs.Given.SeizeDeclared.progress.Progress.{Progress}
+use Rattle.papaya_raw.specs.Given.SeizeDeclared.advance.Advance.{Advance}
 use Rattle.papaya_raw.specs.Call.{call_plan}
 use Rattle.papaya_raw.specs.CallAsks.{computing, updating, updating_or_inserting, trying_to_insert_with, removing_if, replied}
 use Rattle.papaya_raw.specs.CallPoints.{getting, removing, inserting, trying_to_insert}
 use Rattle.papaya_raw.specs.declared.machines.answer.KeyAnswer.{KeyAnswer}
-use Rattle.papaya_raw.specs.declared.machines.asking.Reply.{Reply}
+use Rattle.papaya_raw.specs.declared.machines.asking.MachineReply.{MachineReply}
 use Rattle.papaya_raw.specs.declared.machines.asking.Told.{Told}
 use Rattle.papaya_raw.specs.declared.machines.asking.Told.TheVariants as tells
 use Rattle.map_rule.specs.Given.ResizeLookup.{lookup_plan, looking}
@@ -51,7 +51,7 @@ module _ {K : Type 0} (V : Type 0) (same : K → K → Bool) (hash : K → ℕ) 
       AreLawful same hash → (mode : ResizeMode) (root : ℕ) (keys : K → Bool) (code : ℕ) (m : Mem (Node K V)) (c : Chart K) (blocks : Blocks) (l : Lookup)
       → IsClass same hash keys code → IsMap same hash mode root m c blocks → LookupFacts same hash mode root keys code c blocks l
       → May Can Took value_at m (lookup_plan keys l)
-      × ((m2 : Mem (Node K V)) (end : Lookup × Progress (Option ℕ)) → Steps Took value_at m (lookup_plan keys l) m2 end
+      × ((m2 : Mem (Node K V)) (end : Lookup × Advance (Option ℕ)) → Steps Took value_at m (lookup_plan keys l) m2 end
       → (m2 ≡ m) × LookupTold same hash mode root keys code c blocks end)
 
 module _ {K Q : Type 0} (V : Type 0) (same : K → K → Bool) (hash : K → ℕ) (asks : Q → K → Bool) where
@@ -98,6 +98,6 @@ module _ {K Q : Type 0} (V : Type 0) (same : K → K → Bool) (hash : K → ℕ
   RepliesAreTaken =
       AreLawful same hash → (setting : Setting) → IsPowerOfTwo setting.initial
       → (w : World (Node K V)) (caller : ℕ) (c : Chart K) (blocks : Blocks) (keys : K → Bool) (change : Change) (p : KeyCall K V Q)
-      → IsMapIn same hash setting w c blocks → CallFacts same hash asks w caller setting c blocks keys change p → (reply : Reply V)
+      → IsMapIn same hash setting w c blocks → CallFacts same hash asks w caller setting c blocks keys change p → (reply : MachineReply V)
       → CallFacts same hash asks w caller setting c blocks keys change (replied p reply).0
       × ((answer : KeyAnswer) → HasAnswered answer (replied p reply).0.stands → HasAnswered answer p.stands)

@@ -2,14 +2,14 @@
 use Rattle.std.specs.Prelude.{◌≡◌, ◌≢◌, ℕ, Bool, true, Option, ◌⊎◌}
 use Rattle.map_rule.specs.Given.SeizeWordsDeclared.at.At.{At}
 use Rattle.papaya_raw.specs.Given.SeizeWorld.{World}
-use Rattle.papaya_raw.specs.Given.SeizeDeclared.progress.Progress.{Progress}
-use Rattle.papaya_raw.specs.Given.SeizeDeclared.progress.Progress.TheVariants as progress
+use Rattle.papaya_raw.specs.Given.SeizeDeclared.advance.Advance.{Advance}
+use Rattle.papaya_raw.specs.Given.SeizeDeclared.advance.Advance.TheVariants as progress
 use Rattle.papaya_raw.specs.Given.SeizeDeclared.rows.settle.Settled.{Settled}
 use Rattle.papaya_raw.specs.Given.SeizeDeclared.rows.settle.Settled.TheVariants as settled
 use Rattle.papaya_raw.specs.Given.TablesChunks.{is_incremental}
 use Rattle.papaya_raw.specs.Given.TablesDeclared.node.Node.{Node}
-use Rattle.map_rule.specs.Given.ResizeDeclared.outcome.Outcome.{Outcome}
-use Rattle.map_rule.specs.Given.ResizeDeclared.outcome.Outcome.TheVariants as outcome
+use Rattle.map_rule.specs.Given.ResizeDeclared.yielding.Yielding.{Yielding}
+use Rattle.map_rule.specs.Given.ResizeDeclared.yielding.Yielding.TheVariants as outcome
 use Rattle.papaya_raw.specs.Given.TablesDeclared.resize_mode.ResizeMode.{ResizeMode}
 use Rattle.papaya_raw.specs.Given.TablesDeclared.setting.Setting.{Setting}
 use Rattle.papaya_raw.specs.Given.TablesDeclared.table.Table.{Table}
@@ -44,7 +44,7 @@ use Rattle.map_facts.specs.FactsCalls.{IsCopying, Change, Unchanged, AnswersOf, 
 use Rattle.map_facts.specs.FactsIdle.{IsIdle}
 
 -- a counting goes on, or ends; it never waits, and is never refused
-abbrev pub SumTold : Setting → Sum × Progress ℕ → Type 0
+abbrev pub SumTold : Setting → Sum × Advance ℕ → Type 0
 SumTold setting (sum, progress.Goes) = SumFacts setting sum
 SumTold setting (sum, progress.Waits) = ⊥
 SumTold setting (sum, progress.Done count) = Unit {0}
@@ -52,7 +52,7 @@ SumTold setting (sum, progress.Refused fault) = ⊥
 
 module _ {K : Type 0} (same : K → K → Bool) (hash : K → ℕ) (mode : ResizeMode) (root : ℕ) (keys : K → Bool) (code : ℕ) (c : Chart K) (blocks : Blocks) where
   -- a lookup ends with what is so
-  abbrev pub LookupTold : Lookup × Progress (Option ℕ) → Type 0
+  abbrev pub LookupTold : Lookup × Advance (Option ℕ) → Type 0
   LookupTold (l, progress.Goes) = LookupFacts same hash mode root keys code c blocks l
   LookupTold (l, progress.Waits) = ⊥
   LookupTold (l, progress.Done found) = Answers same hash mode root keys code c blocks found
@@ -60,7 +60,7 @@ module _ {K : Type 0} (same : K → K → Bool) (hash : K → ℕ) (mode : Resiz
 
 module _ {K V : Type 0} (w : World (Node K V)) (caller : ℕ) (setting : Setting) (c : Chart K) (blocks : Blocks) where
   -- a making of a table ends with the table that stands there
-  abbrev pub NewTableTold : At → ℕ → NewTable × Progress Table → Type 0
+  abbrev pub NewTableTold : At → ℕ → NewTable × Advance Table → Type 0
   NewTableTold link turn (n, progress.Goes) = NewTableFacts w caller setting c blocks link turn n
   NewTableTold link turn (n, progress.Waits) = ⊥
   NewTableTold link turn (n, progress.Done table) = IsMadeFor setting c blocks link turn table
@@ -75,7 +75,7 @@ module _ {K V : Type 0} (w : World (Node K V)) (caller : ℕ) (setting : Setting
 
   module _ (same : K → K → Bool) (hash : K → ℕ) where
     -- in incremental mode, a copier waits only if it copies a whole table, and at its end it is to copy nothing, and has nothing to count
-    abbrev pub CopierTold : Copier × Outcome (Node K V) Table → Type 0
+    abbrev pub CopierTold : Copier × Yielding (Node K V) Table → Type 0
     CopierTold (p, outcome.Goes) = CopierFacts same hash w caller setting c blocks p
     CopierTold (p, outcome.Waits) = (p.whole ≡ true) × CopierFacts same hash w caller setting c blocks p
     CopierTold (p, outcome.Gave value) = ⊥
@@ -83,7 +83,7 @@ module _ {K V : Type 0} (w : World (Node K V)) (caller : ℕ) (setting : Setting
     CopierTold (p, outcome.Refused fault) = HasDone same hash w caller setting c blocks 0 × ClaimsNone same hash w caller setting c blocks
 
     -- in blocking mode, its end is the root, and at its end it has no part in any copying
-    abbrev pub CopierToldBlocking : Copier × Outcome (Node K V) Table → Type 0
+    abbrev pub CopierToldBlocking : Copier × Yielding (Node K V) Table → Type 0
     CopierToldBlocking (p, outcome.Goes) = CopierFactsBlocking same hash w caller setting c blocks p
     CopierToldBlocking (p, outcome.Waits) = CopierFactsBlocking same hash w caller setting c blocks p
     CopierToldBlocking (p, outcome.Gave value) = ⊥
@@ -155,7 +155,7 @@ abbrev pub OnlyLinks : {K : Type 0} → (K → ℕ) → ResizeMode → Chart K �
 OnlyLinks hash mode c c2 = (c2 ≡ c) ⊎ ((len : ℕ) × (limit : ℕ) × (c2 ≡ after (spot_of hash) (is_incremental mode) (Links len limit) c))
 
 -- no move was made, or the table with this turn was linked behind all others, and the step ended with it
-abbrev pub LinksLast : {K : Type 0} → (K → ℕ) → ResizeMode → ℕ → Chart K → Chart K → NewTable × Progress Table → Type 0
+abbrev pub LinksLast : {K : Type 0} → (K → ℕ) → ResizeMode → ℕ → Chart K → Chart K → NewTable × Advance Table → Type 0
 LinksLast hash mode turn c c2 end =
     (c2 ≡ c)
     ⊎ ((turn ≡ c.past) × (table : Table) × (end.1 ≡ progress.Done table) × (c2 ≡ after (spot_of hash) (is_incremental mode) (Links table.len table.limit) c))

@@ -2,8 +2,8 @@
 use Rattle.std.specs.Prelude.{◌≡◌, ◌≢◌, ℕ, suc, true, ◌⊎◌}
 use Rattle.map_rule.specs.Given.ResizeCopierStates.{standing}
 use Rattle.papaya_raw.specs.Given.TablesDeclared.node.Node.{Node}
-use Rattle.map_rule.specs.Given.ResizeDeclared.outcome.Outcome.{Outcome}
-use Rattle.map_rule.specs.Given.ResizeDeclared.outcome.Outcome.TheVariants.{Goes}
+use Rattle.map_rule.specs.Given.ResizeDeclared.yielding.Yielding.{Yielding}
+use Rattle.map_rule.specs.Given.ResizeDeclared.yielding.Yielding.TheVariants.{Goes}
 use Rattle.papaya_raw.specs.Given.TablesDeclared.table.Table.{Table}
 use Rattle.map_rule.specs.Given.ResizeDeclared.copier.Copier.{Copier}
 use Rattle.map_rule.specs.Given.ResizeDeclared.copier.Copying.{Copying as Point}
@@ -32,14 +32,14 @@ module _ {K : Type 0} (hash : K → ℕ) (caller : ℕ) (c : Chart K) where
   MovedCounts p c2 = c2 ≡ after (spot_of hash) true (Counts caller (suc c.first) p.done) c
 
   -- the next table was made the root, unless another caller was faster
-  abbrev pub MovedPromotes : {V : Type 0} → Copier → Copier × Outcome (Node K V) Table → Chart K → Type 0
+  abbrev pub MovedPromotes : {V : Type 0} → Copier → Copier × Yielding (Node K V) Table → Chart K → Type 0
   MovedPromotes p end c2 =
       ((end ≡ (standing p at.Announces, Goes)) × (c2 ≡ after (spot_of hash) true (Promotes (suc c.first)) c)) ⊎ ((c2 ≡ c) × (p.source.turn ≢ c.first))
 
   abbrev pub MovedAnnounces : Copier → Chart K → Type 0
   MovedAnnounces p c2 = c2 ≡ after (spot_of hash) true (Announces p.target.turn) c
 
-  abbrev pub MovedAt : {V : Type 0} → Copier → Point → Copier × Outcome (Node K V) Table → Chart K → Type 0
+  abbrev pub MovedAt : {V : Type 0} → Copier → Point → Copier × Yielding (Node K V) Table → Chart K → Type 0
   MovedAt p at.Counts end c2 = MovedCounts p c2
   MovedAt p (at.Tallies word fault) end c2 = MovedCounts p c2
   MovedAt p at.Promotes end c2 = MovedPromotes p end c2

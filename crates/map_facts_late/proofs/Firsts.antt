@@ -5,8 +5,8 @@ use Rattle.map_facts.specs.Given.SeizeWordsDeclared.at.At.TheVariants.{Root}
 use Rattle.map_facts.specs.Given.SeizeWordsMem.{Mem, value_at, Can, Took}
 use Rattle.map_facts.specs.Given.SeizeWordsPlan.{May, Steps}
 use Rattle.map_facts.specs.Given.SeizeWorld.{World}
-use Rattle.map_facts.specs.Given.SeizeDeclared.progress.Progress.{Progress}
-use Rattle.map_facts.specs.Given.SeizeDeclared.progress.Progress.TheVariants as progress
+use Rattle.map_facts.specs.Given.SeizeDeclared.advance.Advance.{Advance}
+use Rattle.map_facts.specs.Given.SeizeDeclared.advance.Advance.TheVariants as progress
 use Rattle.map_facts.specs.Given.TablesDeclared.node.Node.{Node}
 use Rattle.map_facts.specs.Given.TablesDeclared.setting.Setting.{Setting}
 use Rattle.map_facts.specs.Given.TablesDeclared.status.TheConstants.Status.{PENDING, PROMOTED}
@@ -47,7 +47,7 @@ module _ {K : Type 0} (hash : K → ℕ) (setting : Setting) (c c2 : Chart K) (b
 module _ {K V : Type 0} (same : K → K → Bool) (hash : K → ℕ) (caller : ℕ) (setting : Setting) (began : ℕ) (w : World (Node K V)) (c : Chart K) (blocks : Blocks)
     (map : IsMapIn same hash setting w c blocks) (making : NewTable) where
   -- a first table came too late: its making ends with the one that was there
-  abbrev pub FirstTells : World (Node K V) → Chart K → Blocks → NewTable × Progress Table → Type 0
+  abbrev pub FirstTells : World (Node K V) → Chart K → Blocks → NewTable × Advance Table → Type 0
   FirstTells w2 c2 blocks2 end = SparesPairs w w2 × (c2 ≡ c) × (table : Table) × (u : ℕ) × IsTable c2 blocks2 table u × Left c2 began u × (end.1 ≡ progress.Done table)
 
   may_at : (stands : Point) → LateFirst w caller setting c blocks began stands → May Can Took value_at w.memory (plan_at making stands)
@@ -59,14 +59,14 @@ module _ {K V : Type 0} (same : K → K → Bool) (hash : K → ℕ) (caller : �
   may_at (makes.Links table) point = absurd point
   may_at (makes.Refused fault) point = absurd point
 
-  went_at : (stands : Point) → LateFirst w caller setting c blocks began stands → (m2 : Mem (Node K V)) (end : NewTable × Progress Table) → Steps Took value_at w.memory (plan_at making stands) m2 end
+  went_at : (stands : Point) → LateFirst w caller setting c blocks began stands → (m2 : Mem (Node K V)) (end : NewTable × Advance Table) → Steps Took value_at w.memory (plan_at making stands) m2 end
       → Went same hash setting caller w c blocks m2 (λ w2 c2 blocks2. FirstTells w2 c2 blocks2 end)
   went_at (makes.Drops table found) (own, planned, u, left, made, known, is) m2 end steps =
       drops_tell same hash w caller setting c blocks map making table (first_status (Root setting.root)) own found u made known is FirstTells
       (λ w2 map2 spares found_one entered. (spares, refl, found_one, u, entered, left, refl)) m2 end steps
   went_at (makes.Over table) (u, entered, left) m2 end steps =
       went_still same hash setting caller w c blocks map m2 steps.0 (λ w2 c2 blocks2. FirstTells w2 c2 blocks2 end)
-      (spares_same w, refl, table, u, entered, left, ap (λ (x : NewTable × Progress Table). x.1) steps.1)
+      (spares_same w, refl, table, u, entered, left, ap (λ (x : NewTable × Advance Table). x.1) steps.1)
   went_at (makes.Sums before reason sum) point m2 end steps = absurd point
   went_at (makes.Makes table) point m2 end steps = absurd point
   went_at (makes.Promotes table) point m2 end steps = absurd point
@@ -76,6 +76,6 @@ module _ {K V : Type 0} (same : K → K → Bool) (hash : K → ℕ) (caller : �
   pub may_first : LateFirstFacts w caller setting c blocks began making → May Can Took value_at w.memory (new_table_plan making)
   may_first facts = may_at making.stands facts.point
 
-  pub went_first : LateFirstFacts w caller setting c blocks began making → (m2 : Mem (Node K V)) (end : NewTable × Progress Table) → Steps Took value_at w.memory (new_table_plan making) m2 end
+  pub went_first : LateFirstFacts w caller setting c blocks began making → (m2 : Mem (Node K V)) (end : NewTable × Advance Table) → Steps Took value_at w.memory (new_table_plan making) m2 end
       → Went same hash setting caller w c blocks m2 (λ w2 c2 blocks2. FirstTells w2 c2 blocks2 end)
   went_first facts m2 end steps = went_at making.stands facts.point m2 end steps

@@ -5,7 +5,7 @@ use Rattle.map_facts.specs.Given.SeizeWordsDeclared.fault.Fault.{Fault}
 use Rattle.map_facts.specs.Given.SeizeWordsDeclared.fault.Fault.TheVariants.{Capacity}
 use Rattle.map_facts.specs.Given.SeizeWordsMem.{Mem, value_at, word_at, Took}
 use Rattle.map_facts.specs.Given.SeizeWordsPlan.{Steps}
-use Rattle.map_facts.specs.Given.SeizeDeclared.progress.Progress.TheVariants as progress
+use Rattle.map_facts.specs.Given.SeizeDeclared.advance.Advance.TheVariants as progress
 use Rattle.map_facts.specs.Given.TablesLengths.{GoesByTable, NoneFollows}
 use Rattle.map_facts.specs.Given.TablesTablePlaces.{at_word}
 use Rattle.map_facts.specs.Given.TablesDeclared.lengths.Reason.{Reason}

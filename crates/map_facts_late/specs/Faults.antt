@@ -10,8 +10,8 @@ use Rattle.map_facts.specs.Given.TablesDeclared.node.Node.{Node}
 use Rattle.map_facts.specs.Given.TablesDeclared.table.Table.{Table}
 use Rattle.map_facts.specs.Given.ReservesReserve.{reserve_plan}
 use Rattle.map_facts.specs.Given.ReservesDeclared.reserve.Reserve.{Reserve}
-use Rattle.map_facts.specs.Given.ResizeDeclared.outcome.Outcome.{Outcome}
-use Rattle.map_facts.specs.Given.ResizeDeclared.outcome.Outcome.TheVariants as outcome
+use Rattle.map_facts.specs.Given.ResizeDeclared.yielding.Yielding.{Yielding}
+use Rattle.map_facts.specs.Given.ResizeDeclared.yielding.Yielding.TheVariants as outcome
 use Rattle.map_facts.specs.Given.ResizeDeclared.copier.Copying.{Copying}
 use Rattle.map_facts.specs.Given.ResizeDeclared.copier.Copying.TheVariants as copies
 use Rattle.map_facts.specs.Given.ResizeDeclared.new_table.Making.{Making}
@@ -105,7 +105,7 @@ module _ (Is : Fault → Type 0) where
   SoInCalling _ = Unit {0}
 
   -- and an outcome that is a refusal is one for this
-  abbrev pub RefusesSo : {T R : Type 0} → Outcome T R → Type 0
+  abbrev pub RefusesSo : {T R : Type 0} → Yielding T R → Type 0
   RefusesSo (outcome.Refused fault) = Is fault
   RefusesSo _ = Unit {0}
 
@@ -130,7 +130,7 @@ RoomInReserving p = SoInReserving IsRoom p
 abbrev pub RoomInSweeping : Sweeping → Type 0
 RoomInSweeping p = SoInSweeping IsRoom p
 
-abbrev pub RefusesRoom : {T R : Type 0} → Outcome T R → Type 0
+abbrev pub RefusesRoom : {T R : Type 0} → Yielding T R → Type 0
 RefusesRoom end = RefusesSo IsRoom end
 
 abbrev pub SweepRefusesRoom : {T : Type 0} → Swept T → Type 0
@@ -140,13 +140,13 @@ module _ (K V : Type 0) where
   -- at each of its steps a reservation is refused for this alone
   abbrev pub ReservesRefuseRoom : Type 0
   ReservesRefuseRoom =
-      (hash : K → ℕ) (p : Reserve) → RoomInReserving p.stands → (m m2 : Mem (Node K V)) (end : Reserve × Outcome (Node K V) Unit)
+      (hash : K → ℕ) (p : Reserve) → RoomInReserving p.stands → (m m2 : Mem (Node K V)) (end : Reserve × Yielding (Node K V) Unit)
       → Steps Took value_at m (reserve_plan hash p) m2 end → RoomInReserving end.0.stands × RefusesRoom end.1
 
   -- and goes on to ask for as many further pairs as it was begun for
   abbrev pub ReservesAskOn : Type 0
   ReservesAskOn =
-      (hash : K → ℕ) (p : Reserve) (m m2 : Mem (Node K V)) (end : Reserve × Outcome (Node K V) Unit)
+      (hash : K → ℕ) (p : Reserve) (m m2 : Mem (Node K V)) (end : Reserve × Yielding (Node K V) Unit)
       → Steps Took value_at m (reserve_plan hash p) m2 end → end.0.additional ≡ p.additional
 
   -- at each of its steps a sweep is refused for this alone

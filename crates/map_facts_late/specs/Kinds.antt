@@ -24,7 +24,7 @@ use Rattle.map_facts.specs.Given.RawCallAsks.{computing, updating, updating_or_i
 use Rattle.map_facts.specs.Given.RawDeclared.machines.asking.Asking.{Asking}
 use Rattle.map_facts.specs.Given.RawDeclared.machines.asking.Asking.TheVariants as asking
 use Rattle.map_facts.specs.Given.RawDeclared.machines.asking.Replies.{Replies}
-use Rattle.map_facts.specs.Given.RawDeclared.machines.asking.Reply.{Reply}
+use Rattle.map_facts.specs.Given.RawDeclared.machines.asking.MachineReply.{MachineReply}
 use Rattle.map_facts.specs.Given.RawDeclared.machines.asking.Takes.{Takes}
 use Rattle.map_facts.specs.Given.RawDeclared.machines.asking.Takes.TheVariants as told
 use Rattle.map_facts.specs.Given.RawDeclared.machines.asking.Told.{Told}
@@ -158,7 +158,7 @@ module _ (K V Q : Type 0) where
   -- and so it does when it is told what it has asked, or is told something else.
   abbrev pub RepliesKeepTheKind : Type 0
   RepliesKeepTheKind =
-      (present : There) (absent : Missing) (takes : Takes) (p : KeyCall K V Q) → IsFit present absent takes p → (reply : Reply V) → IsFit present absent takes (replied p reply).0
+      (present : There) (absent : Missing) (takes : Takes) (p : KeyCall K V Q) → IsFit present absent takes p → (reply : MachineReply V) → IsFit present absent takes (replied p reply).0
 
 -- a lookup: it has no block of its own, and looks for its key until it is over
 abbrev pub LooksAt : Calling → Type 0

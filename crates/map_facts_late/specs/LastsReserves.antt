@@ -7,7 +7,7 @@ use Rattle.map_facts.specs.Given.SeizeWorld.{World}
 use Rattle.map_facts.specs.Given.TablesChunks.{is_incremental}
 use Rattle.map_facts.specs.Given.TablesDeclared.node.Node.{Node}
 use Rattle.map_facts.specs.Given.TablesDeclared.setting.Setting.{Setting}
-use Rattle.map_facts.specs.Given.ResizeDeclared.outcome.Outcome.{Outcome}
+use Rattle.map_facts.specs.Given.ResizeDeclared.yielding.Yielding.{Yielding}
 use Rattle.map_facts.specs.Given.ReservesReserve.{reserve_plan}
 use Rattle.map_facts.specs.Given.ReservesDeclared.reserve.Reserve.{Reserve}
 use Rattle.map_facts.specs.Given.RuleChart.{Chart}
@@ -32,7 +32,7 @@ module _ {K : Type 0} (V : Type 0) (same : K → K → Bool) (hash : K → ℕ) 
       → IsMapIn same hash setting w c blocks → Moments (is_incremental setting.mode) c → ClaimsAreFew c
       → LateReserveFacts same hash w caller setting c blocks began p → (IsRowOfReserve p.stands → ⊥)
       → May Can Took value_at w.memory (reserve_plan hash p)
-      × ((m2 : Mem (Node K V)) (p2 : Reserve) (outcome : Outcome (Node K V) Unit) → Steps Took value_at w.memory (reserve_plan hash p) m2 (p2, outcome)
+      × ((m2 : Mem (Node K V)) (p2 : Reserve) (outcome : Yielding (Node K V) Unit) → Steps Took value_at w.memory (reserve_plan hash p) m2 (p2, outcome)
       → Went same hash setting caller w c blocks m2 (λ w2 c2 blocks2. SparesPairs w w2 × LateReserveTold same hash caller setting began c p w2 c2 blocks2 p2 outcome))
 
   -- While others step, a reservation that began at this moment knows on what its program point is to know; or, where the root leaves its table in

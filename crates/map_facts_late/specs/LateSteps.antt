@@ -4,7 +4,7 @@ use Rattle.std.specs.Int.{IsPowerOfTwo}
 use Rattle.map_facts.specs.Given.SeizeWordsMem.{Mem, Can, Took, value_at}
 use Rattle.map_facts.specs.Given.SeizeWordsPlan.{May, Steps}
 use Rattle.map_facts.specs.Given.SeizeWorld.{World}
-use Rattle.map_facts.specs.Given.SeizeDeclared.progress.Progress.{Progress}
+use Rattle.map_facts.specs.Given.SeizeDeclared.advance.Advance.{Advance}
 use Rattle.map_facts.specs.Given.TablesChunks.{is_incremental}
 use Rattle.map_facts.specs.Given.TablesDeclared.node.Node.{Node}
 use Rattle.map_facts.specs.Given.TablesDeclared.resize_mode.ResizeMode.{ResizeMode}
@@ -14,7 +14,7 @@ use Rattle.map_facts.specs.Given.ResizeCopier.{copier_plan}
 use Rattle.map_facts.specs.Given.ResizeLookup.{lookup_plan}
 use Rattle.map_facts.specs.Given.ResizeDeclared.copier.Copier.{Copier}
 use Rattle.map_facts.specs.Given.ResizeDeclared.lookup.Lookup.{Lookup}
-use Rattle.map_facts.specs.Given.ResizeDeclared.outcome.Outcome.{Outcome}
+use Rattle.map_facts.specs.Given.ResizeDeclared.yielding.Yielding.{Yielding}
 use Rattle.map_facts.specs.Given.RawCall.{call_plan}
 use Rattle.map_facts.specs.Given.RawDeclared.machines.answer.Called.{Called}
 use Rattle.map_facts.specs.Given.RawDeclared.machines.call.KeyCall.{KeyCall}
@@ -28,7 +28,7 @@ use Rattle.map_facts.specs.FactsCalls.{Unchanged, CallFacts}
 use Rattle.map_facts.specs.Told.{IsRowOfCall, IsRowOfCopier, HasAnswered}
 use Rattle.map_facts.specs.Given.RawCallAsks.{replied}
 use Rattle.map_facts.specs.Given.RawDeclared.machines.answer.KeyAnswer.{KeyAnswer}
-use Rattle.map_facts.specs.Given.RawDeclared.machines.asking.Reply.{Reply}
+use Rattle.map_facts.specs.Given.RawDeclared.machines.asking.MachineReply.{MachineReply}
 use Rattle.map_facts_late.specs.Left.{ClaimsAreFew}
 use Rattle.map_facts_late.specs.LateLooks.{LateLookupFacts}
 use Rattle.map_facts_late.specs.LateCopies.{LateCopierFacts}
@@ -43,7 +43,7 @@ module _ {K : Type 0} (V : Type 0) (same : K → K → Bool) (hash : K → ℕ) 
       → (root : ℕ) (keys : K → Bool) (code began : ℕ) (m : Mem (Node K V)) (c : Chart K) (blocks : Blocks) (l : Lookup)
       → IsClass same hash keys code → IsMap same hash mode root m c blocks → Moments false c → LateLookupFacts same hash keys code c blocks began mode root l
       → May Can Took value_at m (lookup_plan keys l)
-      × ((m2 : Mem (Node K V)) (end : Lookup × Progress (Option ℕ)) → Steps Took value_at m (lookup_plan keys l) m2 end
+      × ((m2 : Mem (Node K V)) (end : Lookup × Advance (Option ℕ)) → Steps Took value_at m (lookup_plan keys l) m2 end
       → (m2 ≡ m) × LateLookupTold same hash mode root keys code c blocks began end)
 
   -- A copier of such a table may take its step, if that is none of a row of the collector, while claims are few. It makes one move at most, and the
@@ -54,7 +54,7 @@ module _ {K : Type 0} (V : Type 0) (same : K → K → Bool) (hash : K → ℕ) 
       → (w : World (Node K V)) (caller : ℕ) (c : Chart K) (blocks : Blocks) (began : ℕ) (p : Copier)
       → IsMapIn same hash setting w c blocks → Moments false c → ClaimsAreFew c → LateCopierFacts same hash w caller setting c blocks began p → (IsRowOfCopier p.stands → ⊥)
       → May Can Took value_at w.memory (copier_plan hash p)
-      × ((m2 : Mem (Node K V)) (end : Copier × Outcome (Node K V) Table) → Steps Took value_at w.memory (copier_plan hash p) m2 end
+      × ((m2 : Mem (Node K V)) (end : Copier × Yielding (Node K V) Table) → Steps Took value_at w.memory (copier_plan hash p) m2 end
       → Went same hash setting caller w c blocks m2 (λ w2 c2 blocks2. SparesPairs w w2 × LateCopierTold same hash caller setting began w2 c2 blocks2 c end))
 
 module _ {K Q : Type 0} (V : Type 0) (same : K → K → Bool) (hash : K → ℕ) (asks : Q → K → Bool) where
@@ -74,6 +74,6 @@ module _ {K Q : Type 0} (V : Type 0) (same : K → K → Bool) (hash : K → ℕ
   LateRepliesAreTaken =
       AreLawful same hash
       → (setting : Setting) (w : World (Node K V)) (caller : ℕ) (c : Chart K) (blocks : Blocks) (keys : K → Bool) (began : ℕ) (p : KeyCall K V Q)
-      → IsMapIn same hash setting w c blocks → LateCallFacts same hash asks w caller setting c blocks keys began p → (reply : Reply V)
+      → IsMapIn same hash setting w c blocks → LateCallFacts same hash asks w caller setting c blocks keys began p → (reply : MachineReply V)
       → (CallFacts same hash asks w caller setting c blocks keys Unchanged (replied p reply).0 ⊎ LateCallFacts same hash asks w caller setting c blocks keys began (replied p reply).0)
       × ((answer : KeyAnswer) → HasAnswered answer (replied p reply).0.stands → HasAnswered answer p.stands)

@@ -1,16 +1,16 @@
 -- What a step tells that is taken in a table that the root has left, in blocking mode.
 use Rattle.std.specs.Prelude.{◌≡◌, ℕ, Bool, Option, Some, None, ◌⊎◌}
 use Rattle.map_facts.specs.Given.SeizeWorld.{World}
-use Rattle.map_facts.specs.Given.SeizeDeclared.progress.Progress.{Progress}
-use Rattle.map_facts.specs.Given.SeizeDeclared.progress.Progress.TheVariants as progress
+use Rattle.map_facts.specs.Given.SeizeDeclared.advance.Advance.{Advance}
+use Rattle.map_facts.specs.Given.SeizeDeclared.advance.Advance.TheVariants as progress
 use Rattle.map_facts.specs.Given.TablesDeclared.node.Node.{Node}
 use Rattle.map_facts.specs.Given.TablesDeclared.resize_mode.ResizeMode.{ResizeMode}
 use Rattle.map_facts.specs.Given.TablesDeclared.setting.Setting.{Setting}
 use Rattle.map_facts.specs.Given.TablesDeclared.table.Table.{Table}
 use Rattle.map_facts.specs.Given.ResizeDeclared.copier.Copier.{Copier}
 use Rattle.map_facts.specs.Given.ResizeDeclared.lookup.Lookup.{Lookup}
-use Rattle.map_facts.specs.Given.ResizeDeclared.outcome.Outcome.{Outcome}
-use Rattle.map_facts.specs.Given.ResizeDeclared.outcome.Outcome.TheVariants as outcome
+use Rattle.map_facts.specs.Given.ResizeDeclared.yielding.Yielding.{Yielding}
+use Rattle.map_facts.specs.Given.ResizeDeclared.yielding.Yielding.TheVariants as outcome
 use Rattle.map_facts.specs.Given.RawDeclared.machines.answer.Called.{Called}
 use Rattle.map_facts.specs.Given.RawDeclared.machines.answer.Called.TheVariants as called
 use Rattle.map_facts.specs.Given.RawDeclared.machines.answer.KeyAnswer.{KeyAnswer}
@@ -35,7 +35,7 @@ answer_of None = answers.Absent
 
 module _ {K : Type 0} (same : K → K → Bool) (hash : K → ℕ) (mode : ResizeMode) (root : ℕ) (keys : K → Bool) (code : ℕ) (c : Chart K) (blocks : Blocks) (began : ℕ) where
   -- a lookup stays in its table, and ends with what was so as the root left it
-  abbrev pub LateLookupTold : Lookup × Progress (Option ℕ) → Type 0
+  abbrev pub LateLookupTold : Lookup × Advance (Option ℕ) → Type 0
   LateLookupTold (l, progress.Goes) = LateLookupFacts same hash keys code c blocks began mode root l
   LateLookupTold (l, progress.Waits) = ⊥
   LateLookupTold (l, progress.Done found) = SoSince hash c blocks keys began (answer_of found)
@@ -43,7 +43,7 @@ module _ {K : Type 0} (same : K → K → Bool) (hash : K → ℕ) (mode : Resiz
 
 module _ {K V : Type 0} (same : K → K → Bool) (hash : K → ℕ) (caller : ℕ) (setting : Setting) (began : ℕ) (w : World (Node K V)) (c : Chart K) (blocks : Blocks) where
   -- a copier ends with a table that is the root's, or was since its call began, and has no part in a copying then
-  abbrev pub LateCopierAfter : Copier × Outcome (Node K V) Table → Type 0
+  abbrev pub LateCopierAfter : Copier × Yielding (Node K V) Table → Type 0
   LateCopierAfter (p, outcome.Goes) = CopierFactsBlocking same hash w caller setting c blocks p ⊎ LateCopierFacts same hash w caller setting c blocks began p
   LateCopierAfter (p, outcome.Waits) = LateCopierFacts same hash w caller setting c blocks began p
   LateCopierAfter (p, outcome.Gave value) = ⊥
@@ -51,7 +51,7 @@ module _ {K V : Type 0} (same : K → K → Bool) (hash : K → ℕ) (caller : �
   LateCopierAfter (p, outcome.Refused fault) = HasNoShares same hash w caller setting c blocks
 
   -- it changes none of the pairs that the map has
-  abbrev pub LateCopierTold : Chart K → Copier × Outcome (Node K V) Table → Type 0
+  abbrev pub LateCopierTold : Chart K → Copier × Yielding (Node K V) Table → Type 0
   LateCopierTold before end = LateCopierAfter end × (c.current ≡ before.current)
 
 module _ {K V Q : Type 0} (same : K → K → Bool) (hash : K → ℕ) (asks : Q → K → Bool) (caller : ℕ) (setting : Setting) (keys : K → Bool) (began : ℕ) where

@@ -3,8 +3,8 @@ use Rattle.std.specs.Prelude.{◌≡◌, ℕ, Bool, ◌⊎◌}
 use Rattle.map_facts.specs.Given.SeizeWorld.{World}
 use Rattle.map_facts.specs.Given.TablesDeclared.node.Node.{Node}
 use Rattle.map_facts.specs.Given.TablesDeclared.setting.Setting.{Setting}
-use Rattle.map_facts.specs.Given.ResizeDeclared.outcome.Outcome.{Outcome}
-use Rattle.map_facts.specs.Given.ResizeDeclared.outcome.Outcome.TheVariants as outcome
+use Rattle.map_facts.specs.Given.ResizeDeclared.yielding.Yielding.{Yielding}
+use Rattle.map_facts.specs.Given.ResizeDeclared.yielding.Yielding.TheVariants as outcome
 use Rattle.map_facts.specs.Given.ReservesDeclared.reserve.Reserve.{Reserve}
 use Rattle.map_facts.specs.Given.RuleChart.{Chart}
 use Rattle.map_facts.specs.Given.RuleWords.{Blocks}
@@ -15,7 +15,7 @@ use Rattle.map_facts_late.specs.LateReserves.{LateReserveFacts}
 
 module _ {K V : Type 0} (same : K → K → Bool) (hash : K → ℕ) (caller : ℕ) (setting : Setting) (began : ℕ) where
   -- it goes on there, or in the root's table; at its end it has no part in a copying
-  abbrev pub LateReserveAfter : World (Node K V) → Chart K → Blocks → Reserve × Outcome (Node K V) Unit → Type 0
+  abbrev pub LateReserveAfter : World (Node K V) → Chart K → Blocks → Reserve × Yielding (Node K V) Unit → Type 0
   LateReserveAfter w c blocks (p, outcome.Goes) = ReserveFacts same hash w caller setting c blocks p ⊎ LateReserveFacts same hash w caller setting c blocks began p
   LateReserveAfter w c blocks (p, outcome.Waits) = LateReserveFacts same hash w caller setting c blocks began p
   LateReserveAfter w c blocks (p, outcome.Gave value) = ⊥
@@ -23,7 +23,7 @@ module _ {K V : Type 0} (same : K → K → Bool) (hash : K → ℕ) (caller : �
   LateReserveAfter w c blocks (p, outcome.Refused fault) = HasNoShares same hash w caller setting c blocks
 
   -- it changes no pair of the map there, and beside its copying it links a table at most
-  pub record LateReserveTold (c : Chart K) (p : Reserve) (w2 : World (Node K V)) (c2 : Chart K) (blocks2 : Blocks) (p2 : Reserve) (end : Outcome (Node K V) Unit) : Type 0 where
+  pub record LateReserveTold (c : Chart K) (p : Reserve) (w2 : World (Node K V)) (c2 : Chart K) (blocks2 : Blocks) (p2 : Reserve) (end : Yielding (Node K V) Unit) : Type 0 where
     pub facts : LateReserveAfter w2 c2 blocks2 (p2, end)
     pub same_pairs : c2.current ≡ c.current
     pub beside : (CopiesPairs p.stands → ⊥) → OnlyLinks hash setting.mode c c2

@@ -6,7 +6,7 @@ use Rattle.map_facts.specs.Given.SeizeWordsPlan.{May, Steps}
 use Rattle.map_facts.specs.Given.SeizeWorld.{World}
 use Rattle.map_facts.specs.Given.TablesDeclared.node.Node.{Node}
 use Rattle.map_facts.specs.Given.TablesDeclared.setting.Setting.{Setting}
-use Rattle.map_facts.specs.Given.ResizeDeclared.outcome.Outcome.{Outcome}
+use Rattle.map_facts.specs.Given.ResizeDeclared.yielding.Yielding.{Yielding}
 use Rattle.map_facts.specs.Given.ReservesReserve.{reserving, reserve_plan}
 use Rattle.map_facts.specs.Given.ReservesDeclared.reserve.Reserve.{Reserve}
 use Rattle.map_facts.specs.Given.RuleChart.{Chart}
@@ -32,5 +32,5 @@ module _ {K : Type 0} (V : Type 0) (same : K → K → Bool) (hash : K → ℕ) 
       → (w : World (Node K V)) (caller : ℕ) (c : Chart K) (blocks : Blocks) (p : Reserve)
       → IsMapIn same hash setting w c blocks → ReserveFacts same hash w caller setting c blocks p → (IsRowOfReserve p.stands → ⊥)
       → May Can Took value_at w.memory (reserve_plan hash p)
-      × ((m2 : Mem (Node K V)) (p2 : Reserve) (outcome : Outcome (Node K V) Unit) → Steps Took value_at w.memory (reserve_plan hash p) m2 (p2, outcome)
+      × ((m2 : Mem (Node K V)) (p2 : Reserve) (outcome : Yielding (Node K V) Unit) → Steps Took value_at w.memory (reserve_plan hash p) m2 (p2, outcome)
       → Went same hash setting caller w c blocks m2 (λ w2 c2 blocks2. SparesPairs w w2 × ReserveTold same hash caller setting c p w2 c2 blocks2 p2 outcome))

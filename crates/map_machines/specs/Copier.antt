@@ -3,8 +3,8 @@ use Rattle.std.specs.Prelude.{ℕ}
 use Rattle.seize_words.specs.OneMemory.Plan.{Plan, Turn, Now}
 use Rattle.map_tables.specs.declared.node.Node.{Node}
 use Rattle.map_tables.specs.declared.table.Table.{Table}
-use Rattle.map_machines.specs.declared.outcome.Outcome.{Outcome}
-use Rattle.map_machines.specs.declared.outcome.Outcome.TheVariants.{Done, Refused}
+use Rattle.map_machines.specs.declared.yielding.Yielding.{Yielding}
+use Rattle.map_machines.specs.declared.yielding.Yielding.TheVariants.{Done, Refused}
 use Rattle.map_machines.specs.declared.copier.Copier.{Copier}
 use Rattle.map_machines.specs.declared.copier.Copying.{Copying}
 use Rattle.map_machines.specs.declared.copier.Copying.TheVariants as at
@@ -17,7 +17,7 @@ use Rattle.map_machines.specs.CopierPromotes.{promotes, announces, succeeds, ret
 
 module _ {K V : Type 0} where
   -- each point
-  abbrev pub plan_at : (K → ℕ) → Copier → Copying → Plan (Node K V) (Copier × Outcome (Node K V) Table)
+  abbrev pub plan_at : (K → ℕ) → Copier → Copying → Plan (Node K V) (Copier × Yielding (Node K V) Table)
   plan_at hash c at.Begins = begins c
   plan_at hash c at.Follows = follows c
   plan_at hash c at.Asks = asks c
@@ -44,5 +44,5 @@ module _ {K V : Type 0} where
   plan_at hash c (at.Refused fault) = Turn (Now (c, Refused fault))
 
   -- what its next step does, where this function gives the hash of each key
-  abbrev pub copier_plan : (K → ℕ) → Copier → Plan (Node K V) (Copier × Outcome (Node K V) Table)
+  abbrev pub copier_plan : (K → ℕ) → Copier → Plan (Node K V) (Copier × Yielding (Node K V) Table)
   copier_plan hash c = plan_at hash c c.stands

@@ -7,8 +7,8 @@ use Rattle.map_tables.specs.declared.node.Node.{Node}
 use Rattle.map_tables.specs.declared.node.Node.TheVariants.{Pair}
 use Rattle.map_tables.specs.declared.table.Table.{Table}
 use Rattle.map_tables.specs.declared.marks.TheConstants.{COPYING, COPIED}
-use Rattle.map_machines.specs.declared.outcome.Outcome.{Outcome}
-use Rattle.map_machines.specs.declared.outcome.Outcome.TheVariants.{Goes, Waits}
+use Rattle.map_machines.specs.declared.yielding.Yielding.{Yielding}
+use Rattle.map_machines.specs.declared.yielding.Yielding.TheVariants.{Goes, Waits}
 use Rattle.map_machines.specs.declared.copier.Copier.{Copier}
 use Rattle.map_machines.specs.declared.copier.Copying.TheVariants as at
 use Rattle.map_tables.specs.Chunks.{is_incremental}
@@ -35,7 +35,7 @@ probing c word hash table = standing c (at.Probes word hash table (probe_from ha
 
 module _ {K V : Type 0} where
   -- further steps are needed
-  abbrev pub to : Copier → Then (Node K V) (Copier × Outcome (Node K V) Table)
+  abbrev pub to : Copier → Then (Node K V) (Copier × Yielding (Node K V) Table)
   to c = Now (c, Goes)
 
   -- the hash of the key of a pair
@@ -44,22 +44,22 @@ module _ {K V : Type 0} where
   key_hash hash _ = 0
 
   -- an empty place or a tombstone is done once it is marked
-  abbrev pub mine_marked : (K → ℕ) → Copier → ℕ → Then (Node K V) (Copier × Outcome (Node K V) Table)
+  abbrev pub mine_marked : (K → ℕ) → Copier → ℕ → Then (Node K V) (Copier × Yielding (Node K V) Table)
   mine_marked hash c word =
       if block_in word == 0 then to (place_done c) else
       Seeing (block_in word) (λ value. to (probing c (without_copying word) (key_hash hash value) c.target))
 
   -- the place is marked: by this caller, or by another one before
-  abbrev pub marked : (K → ℕ) → Copier → Out (Node K V) → Then (Node K V) (Copier × Outcome (Node K V) Table)
+  abbrev pub marked : (K → ℕ) → Copier → Out (Node K V) → Then (Node K V) (Copier × Yielding (Node K V) Table)
   marked hash c (Found word) =
       if is_mine c word then mine_marked hash c word else
       (if is_awaited c word then Now (c, Waits) else to (next_place c))
   marked hash c _ = to c
 
   -- marks a place
-  abbrev pub marks : (K → ℕ) → Copier → Plan (Node K V) (Copier × Outcome (Node K V) Table)
+  abbrev pub marks : (K → ℕ) → Copier → Plan (Node K V) (Copier × Yielding (Node K V) Table)
   marks hash c = Do (Or (at_place c.source c.place) COPYING) (marked hash c)
 
   -- marks a place as copied: from now on its pair is looked for in later tables
-  abbrev pub covers : Copier → ℕ → Plan (Node K V) (Copier × Outcome (Node K V) Table)
+  abbrev pub covers : Copier → ℕ → Plan (Node K V) (Copier × Yielding (Node K V) Table)
   covers c word = Do (Store (at_place c.source c.place) (bit_or (bit_or word COPYING) COPIED)) (λ out. to (place_done c))

@@ -6,8 +6,8 @@ use Rattle.map_tables.specs.declared.node.Node.{Node}
 use Rattle.map_tables.specs.declared.table.Table.{Table}
 use Rattle.map_tables.specs.declared.probe.Probe.{Probe}
 use Rattle.map_tables.specs.declared.marks.TheConstants.{BORROWED}
-use Rattle.map_machines.specs.declared.outcome.Outcome.{Outcome}
-use Rattle.map_machines.specs.declared.outcome.Outcome.TheVariants.{Goes}
+use Rattle.map_machines.specs.declared.yielding.Yielding.{Yielding}
+use Rattle.map_machines.specs.declared.yielding.Yielding.TheVariants.{Goes}
 use Rattle.map_machines.specs.declared.copier.Copier.{Copier}
 use Rattle.map_machines.specs.declared.copier.Copying.TheVariants as at
 use Rattle.map_tables.specs.Chunks.{is_incremental}
@@ -32,25 +32,25 @@ pair_put c word = if is_incremental c.setting.mode then standing c (at.Covers wo
 
 module _ {K V : Type 0} where
   -- further steps are needed
-  abbrev pub to : Copier → Then (Node K V) (Copier × Outcome (Node K V) Table)
+  abbrev pub to : Copier → Then (Node K V) (Copier × Yielding (Node K V) Table)
   to c = Now (c, Goes)
 
   -- an empty place is to be taken
-  abbrev pub place_read : Copier → ℕ → ℕ → Table → Probe → Out (Node K V) → Then (Node K V) (Copier × Outcome (Node K V) Table)
+  abbrev pub place_read : Copier → ℕ → ℕ → Table → Probe → Out (Node K V) → Then (Node K V) (Copier × Yielding (Node K V) Table)
   place_read c word hash table probe (Found found) =
       if found == 0 then to (standing c (at.Puts word hash table probe)) else to (next_try c word hash table probe)
   place_read c word hash table probe _ = to c
 
   -- reads a place of the pair's key
-  abbrev pub probes : Copier → ℕ → ℕ → Table → Probe → Plan (Node K V) (Copier × Outcome (Node K V) Table)
+  abbrev pub probes : Copier → ℕ → ℕ → Table → Probe → Plan (Node K V) (Copier × Yielding (Node K V) Table)
   probes c word hash table probe = Do (Load (at_place table probe.i)) (place_read c word hash table probe)
 
   -- the place is taken, unless another caller was faster
-  abbrev pub put_told : Copier → ℕ → ℕ → Table → Probe → Out (Node K V) → Then (Node K V) (Copier × Outcome (Node K V) Table)
+  abbrev pub put_told : Copier → ℕ → ℕ → Table → Probe → Out (Node K V) → Then (Node K V) (Copier × Yielding (Node K V) Table)
   put_told c word hash table probe (Exchanged (Ok found)) = to (pair_put c word)
   put_told c word hash table probe (Exchanged (Err found)) = to (next_try c word hash table probe)
   put_told c word hash table probe _ = to c
 
   -- puts the pair into an empty place
-  abbrev pub puts : Copier → ℕ → ℕ → Table → Probe → Plan (Node K V) (Copier × Outcome (Node K V) Table)
+  abbrev pub puts : Copier → ℕ → ℕ → Table → Probe → Plan (Node K V) (Copier × Yielding (Node K V) Table)
   puts c word hash table probe = Do (Exchange (at_place table probe.i) 0 (copied_word c word)) (put_told c word hash table probe)

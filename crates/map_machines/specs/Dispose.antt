@@ -4,8 +4,8 @@ use Rattle.seize_words.specs.OneMemory.Word.{block_in}
 use Rattle.seize_words.specs.declared.at.At.TheVariants.{Root, Word}
 use Rattle.seize_words.specs.OneMemory.Op.{Out, Load, Found}
 use Rattle.seize_words.specs.OneMemory.Plan.{Plan, Then, Turn, Do, Now, Seeing, plan_as}
-use Rattle.map_tables.specs.Given.SeizeDeclared.progress.Progress.{Progress}
-use Rattle.map_tables.specs.Given.SeizeDeclared.progress.Progress.TheVariants as progress
+use Rattle.map_tables.specs.Given.SeizeDeclared.advance.Advance.{Advance}
+use Rattle.map_tables.specs.Given.SeizeDeclared.advance.Advance.TheVariants as progress
 use Rattle.map_tables.specs.Given.SeizeDeclared.rows.defer.Defer.{Defer}
 use Rattle.map_tables.specs.Given.SeizeDeclared.rows.settle.Settle.{Settle}
 use Rattle.map_tables.specs.Given.SeizeDeclared.rows.settle.Settled.{Settled}
@@ -59,7 +59,7 @@ module _ {T : Type 0} where
   settled c (settle, Done) = (standing c at.Over, Done)
 
   -- a step of the putting, which nothing refuses, as a step of its own
-  abbrev pub deferred : Dispose → Defer × Progress Unit → Dispose × Settled T
+  abbrev pub deferred : Dispose → Defer × Advance Unit → Dispose × Settled T
   deferred c (defer, progress.Goes) = (standing c (at.Defers defer), Goes)
   deferred c (defer, progress.Waits) = (standing c (at.Defers defer), Waits)
   deferred c (defer, progress.Done end) = (standing c at.Over, Done)

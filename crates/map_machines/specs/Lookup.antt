@@ -4,8 +4,8 @@ use Rattle.seize_words.specs.OneMemory.Word.{block_in}
 use Rattle.seize_words.specs.declared.at.At.TheVariants.{Root}
 use Rattle.seize_words.specs.OneMemory.Op.{Out, Load, Found}
 use Rattle.seize_words.specs.OneMemory.Plan.{Plan, Then, Turn, Do, Now, Seeing}
-use Rattle.map_tables.specs.Given.SeizeDeclared.progress.Progress.{Progress}
-use Rattle.map_tables.specs.Given.SeizeDeclared.progress.Progress.TheVariants.{Goes, Done}
+use Rattle.map_tables.specs.Given.SeizeDeclared.advance.Advance.{Advance}
+use Rattle.map_tables.specs.Given.SeizeDeclared.advance.Advance.TheVariants.{Goes, Done}
 use Rattle.map_tables.specs.Chunks.{is_incremental}
 use Rattle.map_tables.specs.Nodes.{table_seen}
 use Rattle.map_tables.specs.TablePlaces.{at_word}
@@ -29,31 +29,31 @@ abbrev pub looking : ℕ → ResizeMode → ℕ → Lookup
 looking root mode hash = record { root = root; mode = mode; hash = hash; stands = at.Roots }
 
 -- it goes on elsewhere
-abbrev pub going : Lookup → Looking → Lookup × Progress (Option ℕ)
+abbrev pub going : Lookup → Looking → Lookup × Advance (Option ℕ)
 going c stands = (record c { stands = stands }, Goes)
 
 -- it ends
-abbrev pub answered : Lookup → Option ℕ → Lookup × Progress (Option ℕ)
+abbrev pub answered : Lookup → Option ℕ → Lookup × Advance (Option ℕ)
 answered c found = (record c { stands = at.Over found }, Done found)
 
 -- All tries at a table are made. Where all pairs are copied at once, no later table has a pair that this one has not.
-abbrev pub beyond : Lookup → Table → Lookup × Progress (Option ℕ)
+abbrev pub beyond : Lookup → Table → Lookup × Advance (Option ℕ)
 beyond c table = if is_incremental c.mode then going c (at.Nexts table) else answered c None
 
 -- a try was passed
-abbrev pub passed : Lookup → Table → Option Trial → Lookup × Progress (Option ℕ)
+abbrev pub passed : Lookup → Table → Option Trial → Lookup × Advance (Option ℕ)
 passed c table (Some trial) = going c (at.Probes trial)
 passed c table None = beyond c table
 
 -- how it goes on by what the word of a try says
-abbrev pub told_of : Lookup → Trial → ℕ → Finding → Lookup × Progress (Option ℕ)
+abbrev pub told_of : Lookup → Trial → ℕ → Finding → Lookup × Advance (Option ℕ)
 told_of c trial word is.Free = answered c None
 told_of c trial word is.Passed = passed c trial.table (next_trial trial)
 told_of c trial word is.Moved = going c (at.Nexts trial.table)
 told_of c trial word is.Copying = answered c (Some word)
 told_of c trial word is.There = answered c (Some word)
 
-abbrev pub told : Lookup → Trial → ℕ → Bool → Lookup × Progress (Option ℕ)
+abbrev pub told : Lookup → Trial → ℕ → Bool → Lookup × Advance (Option ℕ)
 told c trial word same = told_of c trial word (finding c.mode Looks word same)
 
 module _ {K V : Type 0} where
@@ -63,44 +63,44 @@ module _ {K V : Type 0} where
   names_pair keys _ = false
 
   -- the link to a table was read: the table is entered, if there is one
-  abbrev pub table_read : Lookup → ℕ → Then (Node K V) (Lookup × Progress (Option ℕ))
+  abbrev pub table_read : Lookup → ℕ → Then (Node K V) (Lookup × Advance (Option ℕ))
   table_read c link =
       if link == 0 then Now (answered c None)
       else Seeing (block_in link) (λ value. Now (going c (at.Probes (first_trial (table_seen link value) c.hash))))
 
-  abbrev pub link_found : Lookup → Out (Node K V) → Then (Node K V) (Lookup × Progress (Option ℕ))
+  abbrev pub link_found : Lookup → Out (Node K V) → Then (Node K V) (Lookup × Advance (Option ℕ))
   link_found c (Found link) = table_read c link
   link_found c _ = Now (c, Goes)
 
   -- reads the root
-  abbrev pub roots : Lookup → Plan (Node K V) (Lookup × Progress (Option ℕ))
+  abbrev pub roots : Lookup → Plan (Node K V) (Lookup × Advance (Option ℕ))
   roots c = Do (Load (Root c.root)) (link_found c)
 
   -- reads the link to the next table
-  abbrev pub nexts : Lookup → Table → Plan (Node K V) (Lookup × Progress (Option ℕ))
+  abbrev pub nexts : Lookup → Table → Plan (Node K V) (Lookup × Advance (Option ℕ))
   nexts c table = Do (Load (at_word table NEXT)) (link_found c)
 
   -- the word of a try was read: its pair is looked at where it may be one of the key
-  abbrev pub word_read : (K → Bool) → Lookup → Trial → ℕ → Then (Node K V) (Lookup × Progress (Option ℕ))
+  abbrev pub word_read : (K → Bool) → Lookup → Trial → ℕ → Then (Node K V) (Lookup × Advance (Option ℕ))
   word_read keys c trial word =
       if may_name c.hash word then Seeing (block_in word) (λ value. Now (told c trial word (names_pair keys value)))
       else Now (told c trial word false)
 
-  abbrev pub word_found : (K → Bool) → Lookup → Trial → Out (Node K V) → Then (Node K V) (Lookup × Progress (Option ℕ))
+  abbrev pub word_found : (K → Bool) → Lookup → Trial → Out (Node K V) → Then (Node K V) (Lookup × Advance (Option ℕ))
   word_found keys c trial (Found word) = word_read keys c trial word
   word_found keys c trial _ = Now (c, Goes)
 
   -- reads the word of a try
-  abbrev pub probes : (K → Bool) → Lookup → Trial → Plan (Node K V) (Lookup × Progress (Option ℕ))
+  abbrev pub probes : (K → Bool) → Lookup → Trial → Plan (Node K V) (Lookup × Advance (Option ℕ))
   probes keys c trial = Do (Load (place_tried trial)) (word_found keys c trial)
 
   -- each point
-  abbrev pub plan_at : (K → Bool) → Lookup → Looking → Plan (Node K V) (Lookup × Progress (Option ℕ))
+  abbrev pub plan_at : (K → Bool) → Lookup → Looking → Plan (Node K V) (Lookup × Advance (Option ℕ))
   plan_at keys c at.Roots = roots c
   plan_at keys c (at.Probes trial) = probes keys c trial
   plan_at keys c (at.Nexts table) = nexts c table
   plan_at keys c (at.Over found) = Turn (Now (c, Done found))
 
   -- what its next step does, for these keys
-  abbrev pub lookup_plan : (K → Bool) → Lookup → Plan (Node K V) (Lookup × Progress (Option ℕ))
+  abbrev pub lookup_plan : (K → Bool) → Lookup → Plan (Node K V) (Lookup × Advance (Option ℕ))
   lookup_plan keys c = plan_at keys c c.stands

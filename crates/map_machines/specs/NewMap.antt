@@ -5,8 +5,8 @@ use Rattle.seize_words.specs.declared.fault.Fault.{Fault}
 use Rattle.seize_words.specs.declared.fault.Fault.TheVariants.{RootsUsedUp, Memory}
 use Rattle.seize_words.specs.OneMemory.Op.{Out, Store, Exchange, Make, Take, Exchanged, Made}
 use Rattle.seize_words.specs.OneMemory.Plan.{Plan, Then, Turn, Do, Now, plan_as}
-use Rattle.map_tables.specs.Given.SeizeDeclared.progress.Progress.{Progress}
-use Rattle.map_tables.specs.Given.SeizeDeclared.progress.Progress.TheVariants.{Goes, Waits, Done, Refused}
+use Rattle.map_tables.specs.Given.SeizeDeclared.advance.Advance.{Advance}
+use Rattle.map_tables.specs.Given.SeizeDeclared.advance.Advance.TheVariants.{Goes, Waits, Done, Refused}
 use Rattle.map_tables.specs.declared.setting.Setting.{Setting}
 use Rattle.map_tables.specs.declared.node.Node.{Node}
 use Rattle.map_tables.specs.declared.node.Node.TheVariants as node
@@ -33,27 +33,27 @@ abbrev pub standing : NewMap → Opening → NewMap
 standing c stands = record c { stands = stands }
 
 -- it goes on, and how it ends
-abbrev pub goes : NewMap → Opening → NewMap × Progress Setting
+abbrev pub goes : NewMap → Opening → NewMap × Advance Setting
 goes c stands = (standing c stands, Goes)
 
-abbrev pub done : NewMap → NewMap × Progress Setting
+abbrev pub done : NewMap → NewMap × Advance Setting
 done c = (standing c at.Over, Done c.setting)
 
-abbrev pub refused : NewMap → Fault → NewMap × Progress Setting
+abbrev pub refused : NewMap → Fault → NewMap × Advance Setting
 refused c fault = (standing c (at.Refused fault), Refused fault)
 
 -- the next root, if there is one
-abbrev pub next_root : NewMap → NewMap × Progress Setting
+abbrev pub next_root : NewMap → NewMap × Advance Setting
 next_root c =
     if nat_lt c.setting.root (c.roots - 1) then (record c { setting = at_root c.setting (c.setting.root + 1) }, Goes)
     else refused c RootsUsedUp
 
 -- a map that is to have no table is there once its counter is
-abbrev pub with_shards : NewMap → NewMap × Progress Setting
+abbrev pub with_shards : NewMap → NewMap × Advance Setting
 with_shards c = if c.len == 0 then done c else goes c (at.Tables (first_table c.setting c.len))
 
 -- a step of the making of its first table, as a step of its own
-abbrev pub opened : NewMap → NewTable × Progress Table → NewMap × Progress Setting
+abbrev pub opened : NewMap → NewTable × Advance Table → NewMap × Advance Setting
 opened c (making, Goes) = goes c (at.Tables making)
 opened c (making, Waits) = (standing c (at.Tables making), Waits)
 opened c (making, Done table) = done c
@@ -61,36 +61,36 @@ opened c (making, Refused fault) = goes c (at.Unmakes fault)
 
 module _ {T : Type 0} where
   -- the root is taken, unless another map has it
-  abbrev pub taken : NewMap → Out T → Then T (NewMap × Progress Setting)
+  abbrev pub taken : NewMap → Out T → Then T (NewMap × Advance Setting)
   taken c (Exchanged (Ok free)) = Now (goes c at.Shards)
   taken c (Exchanged (Err used)) = Now (next_root c)
   taken c _ = Now (c, Goes)
 
   -- takes a root
-  abbrev pub takes : NewMap → Plan T (NewMap × Progress Setting)
+  abbrev pub takes : NewMap → Plan T (NewMap × Advance Setting)
   takes c = Do (Exchange (Used c.setting.root) 0 1) (taken c)
 
   -- gives the root up
-  abbrev pub frees : NewMap → Fault → Plan T (NewMap × Progress Setting)
+  abbrev pub frees : NewMap → Fault → Plan T (NewMap × Advance Setting)
   frees c fault = Do (Store (Used c.setting.root) 0) (λ out. Now (refused c fault))
 
 module _ {K V : Type 0} where
   -- the shards are made, unless memory was refused
-  abbrev pub made : NewMap → Out (Node K V) → Then (Node K V) (NewMap × Progress Setting)
+  abbrev pub made : NewMap → Out (Node K V) → Then (Node K V) (NewMap × Advance Setting)
   made c (Made (Ok block)) = Now (with_shards (record c { setting = with_counter c.setting block }))
   made c (Made (Err value)) = Now (goes c (at.Frees Memory))
   made c _ = Now (c, Goes)
 
   -- makes the shards
-  abbrev pub shards : NewMap → Plan (Node K V) (NewMap × Progress Setting)
+  abbrev pub shards : NewMap → Plan (Node K V) (NewMap × Advance Setting)
   shards c = Do (Make node.Shards ((c.setting.mask + 1) % 2 ^ 64)) (made c)
 
   -- takes the shards away
-  abbrev pub unmakes : NewMap → Fault → Plan (Node K V) (NewMap × Progress Setting)
+  abbrev pub unmakes : NewMap → Fault → Plan (Node K V) (NewMap × Advance Setting)
   unmakes c fault = Do (Take c.setting.counter) (λ out. Now (goes c (at.Frees fault)))
 
   -- each point
-  abbrev pub plan_at : NewMap → Opening → Plan (Node K V) (NewMap × Progress Setting)
+  abbrev pub plan_at : NewMap → Opening → Plan (Node K V) (NewMap × Advance Setting)
   plan_at c at.Takes = takes c
   plan_at c at.Shards = shards c
   plan_at c (at.Tables making) = plan_as (opened c) (new_table_plan making)
@@ -100,5 +100,5 @@ module _ {K V : Type 0} where
   plan_at c (at.Refused fault) = Turn (Now (c, Refused fault))
 
   -- what its next step does
-  abbrev pub new_map_plan : NewMap → Plan (Node K V) (NewMap × Progress Setting)
+  abbrev pub new_map_plan : NewMap → Plan (Node K V) (NewMap × Advance Setting)
   new_map_plan c = plan_at c c.stands

@@ -7,8 +7,8 @@ use Rattle.seize_words.specs.declared.fault.Fault.{Fault}
 use Rattle.seize_words.specs.declared.fault.Fault.TheVariants.{Capacity, Memory}
 use Rattle.seize_words.specs.OneMemory.Op.{Out, Store, Exchange, Make, Take, Exchanged, Made}
 use Rattle.seize_words.specs.OneMemory.Plan.{Plan, Then, Turn, Do, Now, Seeing, plan_as}
-use Rattle.map_tables.specs.Given.SeizeDeclared.progress.Progress.{Progress}
-use Rattle.map_tables.specs.Given.SeizeDeclared.progress.Progress.TheVariants.{Goes, Waits, Done, Refused}
+use Rattle.map_tables.specs.Given.SeizeDeclared.advance.Advance.{Advance}
+use Rattle.map_tables.specs.Given.SeizeDeclared.advance.Advance.TheVariants.{Goes, Waits, Done, Refused}
 use Rattle.map_tables.specs.declared.setting.Setting.{Setting}
 use Rattle.map_tables.specs.declared.node.Node.{Node}
 use Rattle.map_tables.specs.declared.node.Node.TheVariants as node
@@ -71,17 +71,17 @@ abbrev pub standing : NewTable → Making → NewTable
 standing c stands = record c { stands = stands }
 
 -- it goes on, and how it ends
-abbrev pub goes : NewTable → Making → NewTable × Progress Table
+abbrev pub goes : NewTable → Making → NewTable × Advance Table
 goes c stands = (standing c stands, Goes)
 
-abbrev pub done : NewTable → Table → NewTable × Progress Table
+abbrev pub done : NewTable → Table → NewTable × Advance Table
 done c table = (standing c (at.Over table), Done table)
 
-abbrev pub refused : NewTable → Fault → NewTable × Progress Table
+abbrev pub refused : NewTable → Fault → NewTable × Advance Table
 refused c fault = (standing c (at.Refused fault), Refused fault)
 
 -- a step of its counting, as a step of its own: once the count is known, so is the table
-abbrev pub counted : NewTable → Table → Reason → Sum × Progress ℕ → NewTable × Progress Table
+abbrev pub counted : NewTable → Table → Reason → Sum × Advance ℕ → NewTable × Advance Table
 counted c before reason (sum, Goes) = goes c (at.Sums before reason sum)
 counted c before reason (sum, Waits) = (standing c (at.Sums before reason sum), Waits)
 counted c before reason (sum, Done count) = goes c (making_of reason before (next_len reason before.len count c.setting.initial))
@@ -98,41 +98,41 @@ after_making _ table = at.Links table
 
 module _ {K V : Type 0} where
   -- the table is made, unless memory was refused
-  abbrev pub made : NewTable → Table → Out (Node K V) → Then (Node K V) (NewTable × Progress Table)
+  abbrev pub made : NewTable → Table → Out (Node K V) → Then (Node K V) (NewTable × Advance Table)
   made c table (Made (Ok block)) = Now (goes c (after_making c.link (with_block table block)))
   made c table (Made (Err value)) = Now (refused c Memory)
   made c table _ = Now (c, Goes)
 
   -- makes the table, with its words
-  abbrev pub makes : NewTable → Table → Plan (Node K V) (NewTable × Progress Table)
+  abbrev pub makes : NewTable → Table → Plan (Node K V) (NewTable × Advance Table)
   makes c table = Do (Make (node.Table table.len table.limit table.turn) ((table.len + PLACES) % 2 ^ 64)) (made c table)
 
   -- the other call's table is the answer
-  abbrev pub other : NewTable → ℕ → Then (Node K V) (NewTable × Progress Table)
+  abbrev pub other : NewTable → ℕ → Then (Node K V) (NewTable × Advance Table)
   other c found = Seeing (block_in found) (λ value. Now (done c (table_seen found value)))
 
   -- takes the table away, and looks at the other call's
-  abbrev pub drops : NewTable → Table → ℕ → Plan (Node K V) (NewTable × Progress Table)
+  abbrev pub drops : NewTable → Table → ℕ → Plan (Node K V) (NewTable × Advance Table)
   drops c table found = Do (Take (block_in table.link)) (λ out. other c found)
 
 module _ {T : Type 0} where
   -- marks the table as promoted
-  abbrev pub promotes : NewTable → Table → Plan T (NewTable × Progress Table)
+  abbrev pub promotes : NewTable → Table → Plan T (NewTable × Advance Table)
   promotes c table = Do (Store (Word (block_in table.link) STATUS) PROMOTED) (λ out. Now (goes c (at.Links table)))
 
   -- the table stands where it is to stand, or another one does
-  abbrev pub linked : NewTable → Table → Out T → Then T (NewTable × Progress Table)
+  abbrev pub linked : NewTable → Table → Out T → Then T (NewTable × Advance Table)
   linked c table (Exchanged (Ok empty)) = Now (done c table)
   linked c table (Exchanged (Err found)) = Now (goes c (at.Drops table found))
   linked c table _ = Now (c, Goes)
 
   -- puts the table where none stands
-  abbrev pub links : NewTable → Table → Plan T (NewTable × Progress Table)
+  abbrev pub links : NewTable → Table → Plan T (NewTable × Advance Table)
   links c table = Do (Exchange c.link 0 table.link) (linked c table)
 
 module _ {K V : Type 0} where
   -- each point
-  abbrev pub plan_at : NewTable → Making → Plan (Node K V) (NewTable × Progress Table)
+  abbrev pub plan_at : NewTable → Making → Plan (Node K V) (NewTable × Advance Table)
   plan_at c (at.Sums before reason sum) = plan_as (counted c before reason) (sum_plan sum)
   plan_at c (at.Makes table) = makes c table
   plan_at c (at.Promotes table) = promotes c table
@@ -142,5 +142,5 @@ module _ {K V : Type 0} where
   plan_at c (at.Refused fault) = Turn (Now (c, Refused fault))
 
   -- what its next step does
-  abbrev pub new_table_plan : NewTable → Plan (Node K V) (NewTable × Progress Table)
+  abbrev pub new_table_plan : NewTable → Plan (Node K V) (NewTable × Advance Table)
   new_table_plan c = plan_at c c.stands

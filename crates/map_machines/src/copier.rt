@@ -5,7 +5,7 @@ ghost use Rattle.map_machines.specs.Copier.{copier_plan};
 ghost use Rattle.map_machines.specs.CopierStates.{helping, copying_all, behind, none_left, next_place, place_done};
 
 use crate::new_table::NewTable;
-use crate::outcome::Outcome;
+use crate::yielding::Yielding;
 use map_tables::named::Settle;
 use map_tables::{Hashes, Node, Probe, Setting, Table};
 use seize_words::{Fault, Memory};
@@ -237,7 +237,7 @@ impl Copier {
         &mut self,
         memory: &mut M,
         hasher: &S,
-    ) -> Outcome<Node<K, V>, Table>
+    ) -> Yielding<Node<K, V>, Table>
         requires { May M.can M.took M.shown memory.old (copier_plan (S.hash hasher.now) self.old) }
         ensures { Steps M.took M.shown memory.old (copier_plan (S.hash hasher.now) self.old) memory.new (self.new, result) }
     {
@@ -274,8 +274,8 @@ impl Copier {
             Copying::Announces => self.announces(memory),
             Copying::Succeeds { table } => self.succeeds(memory, table),
             Copying::Retires { .. } => self.retires(memory),
-            Copying::Over => Outcome::Done(self.target),
-            Copying::Refused(fault) => Outcome::Refused(fault),
+            Copying::Over => Yielding::Done(self.target),
+            Copying::Refused(fault) => Yielding::Refused(fault),
         }
     }
 }

@@ -5,7 +5,7 @@ ghost use Rattle.map_machines.specs.declared.dispose.Disposing.TheVariants as at
 ghost use Rattle.seize_words.specs.OneMemory.Plan.{May, Steps};
 
 use map_tables::marks::{BORROWED, has, link_of};
-use map_tables::named::{Defer, Machine, Progress, Settle, Settled};
+use map_tables::named::{Advance, Defer, Settle, Settled, StepMachine};
 use map_tables::table_words::{DEFERRED, NEXT};
 use map_tables::{Node, ResizeMode, Setting, Table};
 use seize_words::{At, Link, Memory};
@@ -136,13 +136,13 @@ impl Dispose {
     }
 
     /// Goes on after a step of the putting.
-    fn deferred<T>(&mut self, progress: Progress<()>) -> Settled<T>
+    fn deferred<T>(&mut self, progress: Advance<()>) -> Settled<T>
         ensures { (begun : Dispose) (defer : Defer) → self.old ≡ standing begun (at.Defers defer) → (self.new, result) ≡ deferred begun (defer, progress) }
     {
         match progress {
-            Progress::Goes => Settled::Goes,
-            Progress::Waits => Settled::Waits,
-            Progress::Done(()) | Progress::Refused(_) => {
+            Advance::Goes => Settled::Goes,
+            Advance::Waits => Settled::Waits,
+            Advance::Done(()) | Advance::Refused(_) => {
                 self.stands = Disposing::Over;
                 Settled::Done
             }
@@ -150,7 +150,7 @@ impl Dispose {
     }
 }
 
-impl<K, V> Machine<Node<K, V>> for Dispose {
+impl<K, V> StepMachine<Node<K, V>> for Dispose {
     type Progress = Settled<Node<K, V>>;
 
     ghost plan = { dispose_plan };

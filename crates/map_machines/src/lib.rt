@@ -9,8 +9,8 @@ mod lookup;
 pub mod named;
 mod new_map;
 mod new_table;
-mod outcome;
 mod sum;
+mod yielding;
 
 pub use copier::{Copier, Copying, key_hash};
 pub use counts::count;
@@ -18,5 +18,5 @@ pub use dispose::{Dispose, Disposing};
 pub use lookup::{Looking, Lookup, asks_for};
 pub use new_map::{NewMap, Opening};
 pub use new_table::{Making, NewTable};
-pub use outcome::Outcome;
 pub use sum::{Sum, Summing};
+pub use yielding::Yielding;

@@ -3,7 +3,7 @@ ghost use Rattle.std.specs.Prelude.{◌≡◌};
 ghost use Rattle.seize_words.specs.OneMemory.Plan.{May, MaySee, Steps, Ends};
 ghost use Rattle.map_machines.specs.Lookup.{looking, going, answered, beyond, told, table_read, word_read, roots, probes, nexts, lookup_plan, names_pair};
 
-use map_tables::named::Progress;
+use map_tables::named::Advance;
 use map_tables::table_words::NEXT;
 use map_tables::{Aim, Equivalent, Finding, Node, Probe, ResizeMode, Table, Trial, may_be, seen};
 use seize_words::{At, Link, Look};
@@ -73,7 +73,7 @@ impl Lookup {
         &mut self,
         memory: &mut M,
         asked: &Q,
-    ) -> Progress<Option<u64>>
+    ) -> Advance<Option<u64>>
         requires { May M.can M.took M.shown memory.old (lookup_plan (Q.Equivalent.equivalent asked.now) self.old) }
         ensures { Steps M.took M.shown memory.old (lookup_plan (Q.Equivalent.equivalent asked.now) self.old) memory.new (self.new, result) }
     {
@@ -81,12 +81,12 @@ impl Lookup {
             Looking::Roots => self.roots(memory),
             Looking::Probes { trial } => self.probes(memory, asked, trial),
             Looking::Nexts { table } => self.nexts(memory, table),
-            Looking::Over { found } => Progress::Done(found),
+            Looking::Over { found } => Advance::Done(found),
         }
     }
 
     /// Reads the root.
-    fn roots<K, V, M: Look<Node<K, V>>>(&mut self, memory: &mut M) -> Progress<Option<u64>>
+    fn roots<K, V, M: Look<Node<K, V>>>(&mut self, memory: &mut M) -> Advance<Option<u64>>
         requires { May M.can M.took M.shown memory.old (roots self.old) }
         ensures { Steps M.took M.shown memory.old (roots self.old) memory.new (self.new, result) }
     {
@@ -100,7 +100,7 @@ impl Lookup {
         memory: &mut M,
         asked: &Q,
         trial: Trial,
-    ) -> Progress<Option<u64>>
+    ) -> Advance<Option<u64>>
         requires { May M.can M.took M.shown memory.old (probes (Q.Equivalent.equivalent asked.now) self.old trial) }
         ensures { Steps M.took M.shown memory.old (probes (Q.Equivalent.equivalent asked.now) self.old trial) memory.new (self.new, result) }
     {
@@ -114,7 +114,7 @@ impl Lookup {
         &mut self,
         memory: &mut M,
         table: Table,
-    ) -> Progress<Option<u64>>
+    ) -> Advance<Option<u64>>
         requires { May M.can M.took M.shown memory.old (nexts self.old table) }
         ensures { Steps M.took M.shown memory.old (nexts self.old table) memory.new (self.new, result) }
     {
@@ -123,7 +123,7 @@ impl Lookup {
     }
 
     /// Enters the table of a link, if there is one.
-    fn enter<K, V, M: Look<Node<K, V>>>(&mut self, memory: &M, link: u64) -> Progress<Option<u64>>
+    fn enter<K, V, M: Look<Node<K, V>>>(&mut self, memory: &M, link: u64) -> Advance<Option<u64>>
         requires { MaySee (M.shown memory.now) (table_read self.old link) }
         ensures { Ends (M.shown memory.now) (table_read self.old link) (self.new, result) }
     {
@@ -134,11 +134,11 @@ impl Lookup {
         self.stands = Looking::Probes {
             trial: Trial::first(table, self.hash),
         };
-        Progress::Goes
+        Advance::Goes
     }
 
     /// Goes on by what the word of a try says. `same` tells whether it names a pair of the key.
-    fn told(&mut self, trial: Trial, word: u64, same: bool) -> Progress<Option<u64>>
+    fn told(&mut self, trial: Trial, word: u64, same: bool) -> Advance<Option<u64>>
         ensures { (self.new, result) ≡ told self.old trial word same }
     {
         match seen(self.mode, Aim::Looks, word, same) {
@@ -153,7 +153,7 @@ impl Lookup {
     }
 
     /// Goes on once all tries at a table are made: with the next one, in incremental mode.
-    fn go_beyond(&mut self, table: Table) -> Progress<Option<u64>>
+    fn go_beyond(&mut self, table: Table) -> Advance<Option<u64>>
         ensures { (self.new, result) ≡ beyond self.old table }
     {
         if self.mode.is_incremental() {
@@ -164,18 +164,18 @@ impl Lookup {
     }
 
     /// Goes on elsewhere.
-    fn go_to(&mut self, stands: Looking) -> Progress<Option<u64>>
+    fn go_to(&mut self, stands: Looking) -> Advance<Option<u64>>
         ensures { (self.new, result) ≡ going self.old stands }
     {
         self.stands = stands;
-        Progress::Goes
+        Advance::Goes
     }
 
     /// Ends.
-    fn answer(&mut self, found: Option<u64>) -> Progress<Option<u64>>
+    fn answer(&mut self, found: Option<u64>) -> Advance<Option<u64>>
         ensures { (self.new, result) ≡ answered self.old found }
     {
         self.stands = Looking::Over { found };
-        Progress::Done(found)
+        Advance::Done(found)
     }
 }

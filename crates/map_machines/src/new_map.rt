@@ -5,7 +5,7 @@ ghost use Rattle.map_machines.specs.NewTable.{new_table_plan};
 ghost use Rattle.seize_words.specs.OneMemory.Plan.{May, Steps, plan_as};
 
 use crate::new_table::NewTable;
-use map_tables::named::{Machine, Progress};
+use map_tables::named::{Advance, StepMachine};
 use map_tables::{Counter, Node, Setting, Table};
 use seize_words::{At, Fault, Memory};
 
@@ -56,22 +56,22 @@ impl NewMap {
     }
 
     /// Takes a root, or goes on to the next one.
-    fn takes<T, M: Memory<T>>(&mut self, memory: &mut M) -> Progress<Setting>
+    fn takes<T, M: Memory<T>>(&mut self, memory: &mut M) -> Advance<Setting>
         requires { May M.can M.took M.shown memory.old (takes self.old) }
         ensures { Steps M.took M.shown memory.old (takes self.old) memory.new (self.new, result) }
     {
         match memory.exchange(At::Used(self.setting.root), 0, 1) {
             Ok(_) => {
                 self.stands = Opening::Shards;
-                Progress::Goes
+                Advance::Goes
             }
             Err(_) => {
                 if self.setting.root < self.roots.saturating_sub(1) {
                     self.setting.root += 1;
-                    Progress::Goes
+                    Advance::Goes
                 } else {
                     self.stands = Opening::Refused(Fault::RootsUsedUp);
-                    Progress::Refused(Fault::RootsUsedUp)
+                    Advance::Refused(Fault::RootsUsedUp)
                 }
             }
         }
@@ -81,7 +81,7 @@ impl NewMap {
     fn shards<K: Drop, V: Drop, M: Memory<Node<K, V>>>(
         &mut self,
         memory: &mut M,
-    ) -> Progress<Setting>
+    ) -> Advance<Setting>
         requires { May M.can M.took M.shown memory.old (shards {K = K} {V = V} self.old) }
         ensures { Steps M.took M.shown memory.old (shards {K = K} {V = V} self.old) memory.new (self.new, result) }
     {
@@ -93,15 +93,15 @@ impl NewMap {
                 self.setting.counter = block;
                 if self.len == 0 {
                     self.stands = Opening::Over;
-                    Progress::Done(self.setting)
+                    Advance::Done(self.setting)
                 } else {
                     self.stands = Opening::Tables(NewTable::first(self.setting, self.len));
-                    Progress::Goes
+                    Advance::Goes
                 }
             }
             Err(_) => {
                 self.stands = Opening::Frees(Fault::Memory);
-                Progress::Goes
+                Advance::Goes
             }
         }
     }
@@ -111,7 +111,7 @@ impl NewMap {
         &mut self,
         memory: &mut M,
         mut making: NewTable,
-    ) -> Progress<Setting>
+    ) -> Advance<Setting>
         requires { May M.can M.took M.shown memory.old (plan_as (opened self.old) (new_table_plan {K = K} {V = V} making)) }
         ensures { Steps M.took M.shown memory.old (plan_as (opened self.old) (new_table_plan {K = K} {V = V} making)) memory.new (self.new, result) }
     {
@@ -120,20 +120,20 @@ impl NewMap {
     }
 
     /// Goes on after a step of that making.
-    fn opened(&mut self, making: NewTable, progress: Progress<Table>) -> Progress<Setting>
+    fn opened(&mut self, making: NewTable, progress: Advance<Table>) -> Advance<Setting>
         ensures { (self.new, result) ≡ opened self.old (making, progress) }
     {
         self.stands = Opening::Tables(making);
         match progress {
-            Progress::Goes => Progress::Goes,
-            Progress::Waits => Progress::Waits,
-            Progress::Done(_) => {
+            Advance::Goes => Advance::Goes,
+            Advance::Waits => Advance::Waits,
+            Advance::Done(_) => {
                 self.stands = Opening::Over;
-                Progress::Done(self.setting)
+                Advance::Done(self.setting)
             }
-            Progress::Refused(fault) => {
+            Advance::Refused(fault) => {
                 self.stands = Opening::Unmakes(fault);
-                Progress::Goes
+                Advance::Goes
             }
         }
     }
@@ -143,42 +143,42 @@ impl NewMap {
         &mut self,
         memory: &mut M,
         fault: Fault,
-    ) -> Progress<Setting>
+    ) -> Advance<Setting>
         requires { May M.can M.took M.shown memory.old (unmakes {K = K} {V = V} self.old fault) }
         ensures { Steps M.took M.shown memory.old (unmakes {K = K} {V = V} self.old fault) memory.new (self.new, result) }
     {
         drop(memory.take(self.setting.counter));
         self.stands = Opening::Frees(fault);
-        Progress::Goes
+        Advance::Goes
     }
 
     /// Gives the root up again.
-    fn frees<T, M: Memory<T>>(&mut self, memory: &mut M, fault: Fault) -> Progress<Setting>
+    fn frees<T, M: Memory<T>>(&mut self, memory: &mut M, fault: Fault) -> Advance<Setting>
         requires { May M.can M.took M.shown memory.old (frees self.old fault) }
         ensures { Steps M.took M.shown memory.old (frees self.old fault) memory.new (self.new, result) }
     {
         memory.store(At::Used(self.setting.root), 0);
         self.stands = Opening::Refused(fault);
-        Progress::Refused(fault)
+        Advance::Refused(fault)
     }
 }
 
-impl<K: Drop, V: Drop> Machine<Node<K, V>> for NewMap {
+impl<K: Drop, V: Drop> StepMachine<Node<K, V>> for NewMap {
     ghost use Rattle.map_machines.specs.NewMap.{new_map_plan};
 
-    type Progress = Progress<Setting>;
+    type Progress = Advance<Setting>;
 
     ghost plan = { new_map_plan };
 
-    fn step<M: Memory<Node<K, V>>>(&mut self, memory: &mut M) -> Progress<Setting> {
+    fn step<M: Memory<Node<K, V>>>(&mut self, memory: &mut M) -> Advance<Setting> {
         match self.stands {
             Opening::Takes => self.takes(memory),
             Opening::Shards => self.shards(memory),
             Opening::Tables(making) => self.tables(memory, making),
             Opening::Unmakes(fault) => self.unmakes(memory, fault),
             Opening::Frees(fault) => self.frees(memory, fault),
-            Opening::Over => Progress::Done(self.setting),
-            Opening::Refused(fault) => Progress::Refused(fault),
+            Opening::Over => Advance::Done(self.setting),
+            Opening::Refused(fault) => Advance::Refused(fault),
         }
     }
 }

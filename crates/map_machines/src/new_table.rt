@@ -6,7 +6,7 @@ ghost use Rattle.seize_words.specs.OneMemory.Plan.{May, Steps, plan_as};
 
 use crate::sum::Sum;
 use map_tables::lengths::{LEAST_LEN, MOST_LEN, Reason, len_after, limit_after, turn_after};
-use map_tables::named::{Machine, Progress};
+use map_tables::named::{Advance, StepMachine};
 use map_tables::table_words::{NEXT, PLACES, STATUS};
 use map_tables::{Node, Setting, Status, Table, limit};
 use seize_words::{At, Fault, Link, Memory};
@@ -109,7 +109,7 @@ impl NewTable {
         before: Table,
         reason: Reason,
         mut sum: Sum,
-    ) -> Progress<Table>
+    ) -> Advance<Table>
         requires { May M.can M.took M.shown memory.old (plan_as (counted self.old before reason) (sum_plan sum)) }
         ensures { Steps M.took M.shown memory.old (plan_as (counted self.old before reason) (sum_plan sum)) memory.new (self.new, result) }
     {
@@ -120,16 +120,16 @@ impl NewTable {
             sum,
         };
         match progress {
-            Progress::Goes => Progress::Goes,
-            Progress::Waits => Progress::Waits,
-            Progress::Done(count) => {
+            Advance::Goes => Advance::Goes,
+            Advance::Waits => Advance::Waits,
+            Advance::Done(count) => {
                 let len = len_after(reason, before.len, count, self.setting.initial);
                 self.stands = Making::of(reason, before, len);
-                Progress::Goes
+                Advance::Goes
             }
-            Progress::Refused(fault) => {
+            Advance::Refused(fault) => {
                 self.stands = Making::Refused(fault);
-                Progress::Refused(fault)
+                Advance::Refused(fault)
             }
         }
     }
@@ -139,7 +139,7 @@ impl NewTable {
         &mut self,
         memory: &mut M,
         table: Table,
-    ) -> Progress<Table>
+    ) -> Advance<Table>
         requires { May M.can M.took M.shown memory.old (makes {K = K} {V = V} self.old table) }
         ensures { Steps M.took M.shown memory.old (makes {K = K} {V = V} self.old table) memory.new (self.new, result) }
     {
@@ -158,17 +158,17 @@ impl NewTable {
                     At::Root(_) => Making::Promotes(table),
                     _ => Making::Links(table),
                 };
-                Progress::Goes
+                Advance::Goes
             }
             Err(_) => {
                 self.stands = Making::Refused(Fault::Memory);
-                Progress::Refused(Fault::Memory)
+                Advance::Refused(Fault::Memory)
             }
         }
     }
 
     /// Marks a first table as promoted.
-    fn promotes<T, M: Memory<T>>(&mut self, memory: &mut M, table: Table) -> Progress<Table>
+    fn promotes<T, M: Memory<T>>(&mut self, memory: &mut M, table: Table) -> Advance<Table>
         requires { May M.can M.took M.shown memory.old (promotes self.old table) }
         ensures { Steps M.took M.shown memory.old (promotes self.old table) memory.new (self.new, result) }
     {
@@ -177,22 +177,22 @@ impl NewTable {
             Status::PROMOTED,
         );
         self.stands = Making::Links(table);
-        Progress::Goes
+        Advance::Goes
     }
 
     /// Puts the table where none stands.
-    fn links<T, M: Memory<T>>(&mut self, memory: &mut M, table: Table) -> Progress<Table>
+    fn links<T, M: Memory<T>>(&mut self, memory: &mut M, table: Table) -> Advance<Table>
         requires { May M.can M.took M.shown memory.old (links self.old table) }
         ensures { Steps M.took M.shown memory.old (links self.old table) memory.new (self.new, result) }
     {
         match memory.exchange(self.link, 0, table.link) {
             Ok(_) => {
                 self.stands = Making::Over(table);
-                Progress::Done(table)
+                Advance::Done(table)
             }
             Err(found) => {
                 self.stands = Making::Drops { table, found };
-                Progress::Goes
+                Advance::Goes
             }
         }
     }
@@ -203,14 +203,14 @@ impl NewTable {
         memory: &mut M,
         table: Table,
         found: u64,
-    ) -> Progress<Table>
+    ) -> Advance<Table>
         requires { May M.can M.took M.shown memory.old (drops {K = K} {V = V} self.old table found) }
         ensures { Steps M.took M.shown memory.old (drops {K = K} {V = V} self.old table found) memory.new (self.new, result) }
     {
         drop(memory.take(Link::block_of(table.link)));
         let other = Table::seen(found, memory.value(Link::block_of(found)));
         self.stands = Making::Over(other);
-        Progress::Done(other)
+        Advance::Done(other)
     }
 }
 
@@ -264,14 +264,14 @@ impl Making {
     }
 }
 
-impl<K: Drop, V: Drop> Machine<Node<K, V>> for NewTable {
+impl<K: Drop, V: Drop> StepMachine<Node<K, V>> for NewTable {
     ghost use Rattle.map_machines.specs.NewTable.{new_table_plan};
 
-    type Progress = Progress<Table>;
+    type Progress = Advance<Table>;
 
     ghost plan = { new_table_plan };
 
-    fn step<M: Memory<Node<K, V>>>(&mut self, memory: &mut M) -> Progress<Table> {
+    fn step<M: Memory<Node<K, V>>>(&mut self, memory: &mut M) -> Advance<Table> {
         match self.stands {
             Making::Sums {
                 before,
@@ -282,8 +282,8 @@ impl<K: Drop, V: Drop> Machine<Node<K, V>> for NewTable {
             Making::Promotes(table) => self.promotes(memory, table),
             Making::Links(table) => self.links(memory, table),
             Making::Drops { table, found } => self.drops(memory, table, found),
-            Making::Over(table) => Progress::Done(table),
-            Making::Refused(fault) => Progress::Refused(fault),
+            Making::Over(table) => Advance::Done(table),
+            Making::Refused(fault) => Advance::Refused(fault),
         }
     }
 }

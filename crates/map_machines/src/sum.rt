@@ -3,7 +3,7 @@ ghost use Rattle.std.specs.Prelude.{◌≡◌};
 ghost use Rattle.map_machines.specs.Sum.{summing, adds};
 ghost use Rattle.seize_words.specs.OneMemory.Plan.{May, Steps};
 
-use map_tables::named::{Machine, Progress};
+use map_tables::named::{Advance, StepMachine};
 use map_tables::{Counter, Setting};
 use seize_words::{At, Memory};
 
@@ -42,7 +42,7 @@ impl Sum {
     }
 
     /// Reads a shard.
-    fn adds<T, M: Memory<T>>(&mut self, memory: &mut M, shard: u64, total: u64) -> Progress<u64>
+    fn adds<T, M: Memory<T>>(&mut self, memory: &mut M, shard: u64, total: u64) -> Advance<u64>
         requires { May M.can M.took M.shown memory.old (adds self.old shard total) }
         ensures { Steps M.took M.shown memory.old (adds self.old shard total) memory.new (self.new, result) }
     {
@@ -53,26 +53,26 @@ impl Sum {
                 shard: shard + 1,
                 total,
             };
-            Progress::Goes
+            Advance::Goes
         } else {
             let count = Counter::read(total);
             self.stands = Summing::Over(count);
-            Progress::Done(count)
+            Advance::Done(count)
         }
     }
 }
 
-impl<T> Machine<T> for Sum {
+impl<T> StepMachine<T> for Sum {
     ghost use Rattle.map_machines.specs.Sum.{sum_plan};
 
-    type Progress = Progress<u64>;
+    type Progress = Advance<u64>;
 
     ghost plan = { sum_plan };
 
-    fn step<M: Memory<T>>(&mut self, memory: &mut M) -> Progress<u64> {
+    fn step<M: Memory<T>>(&mut self, memory: &mut M) -> Advance<u64> {
         match self.stands {
             Summing::Adds { shard, total } => self.adds(memory, shard, total),
-            Summing::Over(count) => Progress::Done(count),
+            Summing::Over(count) => Advance::Done(count),
         }
     }
 }

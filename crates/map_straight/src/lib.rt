@@ -19,6 +19,6 @@ pub use disposing::{Disposed, dispose, dispose_of};
 pub use iter::pairs_of;
 pub use looking::{Glance, Sight, look_up};
 pub use pairs::Pairs;
-pub use removing::{Removal, Removed, Sought, removal_of, remove};
-pub use storing::{Spot, Stored, Tried, call_of, store};
+pub use removing::{Removal, RemovalAt, Sought, removal_of, remove};
+pub use storing::{Stored, StoringPoint, Tried, call_of, store};
 pub use tables::{root_of, table_behind};

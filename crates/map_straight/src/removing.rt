@@ -38,7 +38,7 @@ pub enum Removal {
 
 /// Where a call that removes the pair of a key has come to.
 #[derive(Clone, Copy)]
-pub enum Removed {
+pub enum RemovalAt {
     /// It has ended with this answer.
     Answered(KeyAnswer),
     /// It stands here, at this try.
@@ -51,7 +51,7 @@ pub enum Sought {
     /// It is to make this try.
     Next(Trial),
     /// It makes no further try at the table.
-    Ends(Removed),
+    Ends(RemovalAt),
 }
 
 /// Whether a word names a pair of the key.
@@ -77,13 +77,13 @@ fn is_asked<K: Eq + Hash, V, Q: Equivalent<K>, M: Look<Node<K, V>>>(
 
 /// All tries at a table are made. In incremental mode the key may be in the next one.
 #[inline(always)]
-fn past(setting: Setting, met: Trial) -> Removed
+fn past(setting: Setting, met: Trial) -> RemovalAt
     ensures { result ≡ past_all setting.mode met }
 {
     if setting.mode.is_incremental() {
-        Removed::Stands(met, Removal::Nexts)
+        RemovalAt::Stands(met, Removal::Nexts)
     } else {
-        Removed::Answered(KeyAnswer::Absent)
+        RemovalAt::Answered(KeyAnswer::Absent)
     }
 }
 
@@ -101,7 +101,7 @@ fn weigh<K, V, Q>(
         → ComesTo CallGoes (told_of loaded (seeking {K = K} {V = V} {Q = Q} setting hash asked.now trial stands) word finding) (sought_at setting hash asked.now result) }
 {
     match finding {
-        Finding::Free => Sought::Ends(Removed::Answered(KeyAnswer::Absent)),
+        Finding::Free => Sought::Ends(RemovalAt::Answered(KeyAnswer::Absent)),
         Finding::Passed => {
             let met = trial.meets(word);
             match met.next() {
@@ -109,9 +109,9 @@ fn weigh<K, V, Q>(
                 None => Sought::Ends(past(setting, met)),
             }
         }
-        Finding::Moved => Sought::Ends(Removed::Stands(trial, Removal::Nexts)),
-        Finding::Copying => Sought::Ends(Removed::Stands(trial, Removal::Probes)),
-        Finding::There => Sought::Ends(Removed::Stands(trial, Removal::Tries(word))),
+        Finding::Moved => Sought::Ends(RemovalAt::Stands(trial, Removal::Nexts)),
+        Finding::Copying => Sought::Ends(RemovalAt::Stands(trial, Removal::Probes)),
+        Finding::There => Sought::Ends(RemovalAt::Stands(trial, Removal::Tries(word))),
     }
 }
 
@@ -164,7 +164,7 @@ fn seek_on<K: Eq + Hash, V, Q: Equivalent<K>, S: Hashes<K>, M: Memory<Node<K, V>
     hash: u64,
     asked: &Q,
     first: Trial,
-) -> Removed
+) -> RemovalAt
     requires { MayCall Q.Equivalent.equivalent K.eq (S.hash hasher.now) M.took M.shown M.can (seeking setting hash asked.now first at.Probes) memory.old }
     ensures { CallReaches Q.Equivalent.equivalent K.eq (S.hash hasher.now) M.took M.shown (seeking setting hash asked.now first at.Probes)
         memory.old memory.new (removed_at setting hash asked.now result) }
@@ -176,17 +176,17 @@ fn seek_on<K: Eq + Hash, V, Q: Equivalent<K>, S: Hashes<K>, M: Memory<Node<K, V>
             Sought::Ends(end) => return end,
         }
     }
-    Removed::Stands(trial, Removal::Probes)
+    RemovalAt::Stands(trial, Removal::Probes)
 }
 
 /// The pair of a word was removed, and its disposal has come to this.
 #[inline(always)]
-fn gone(trial: Trial, word: u64, disposed: Disposed) -> Removed
+fn gone(trial: Trial, word: u64, disposed: Disposed) -> RemovalAt
     ensures { result ≡ removed_by trial word disposed }
 {
     match disposed {
-        Disposed::Retires(Retired::Ended) => Removed::Answered(KeyAnswer::Removed(word)),
-        disposed => Removed::Stands(trial, Removal::Disposes(word, disposed)),
+        Disposed::Retires(Retired::Ended) => RemovalAt::Answered(KeyAnswer::Removed(word)),
+        disposed => RemovalAt::Stands(trial, Removal::Disposes(word, disposed)),
     }
 }
 
@@ -200,7 +200,7 @@ fn bury<K: Eq + Hash, V, Q: Equivalent<K>, S: Hashes<K>, M: Memory<Node<K, V>>>(
     asked: &Q,
     trial: Trial,
     word: u64,
-) -> Removed
+) -> RemovalAt
     requires { MayCall Q.Equivalent.equivalent K.eq (S.hash hasher.now) M.took M.shown M.can (seeking setting hash asked.now trial (at.Tries word BURIED))
         memory.old }
     ensures { CallReaches Q.Equivalent.equivalent K.eq (S.hash hasher.now) M.took M.shown (seeking setting hash asked.now trial (at.Tries word BURIED))
@@ -209,14 +209,14 @@ fn bury<K: Eq + Hash, V, Q: Equivalent<K>, S: Hashes<K>, M: Memory<Node<K, V>>>(
     match memory.exchange(trial.at(), word, TOMBSTONE) {
         Ok(_) => {
             if word == 0 {
-                return Removed::Stands(trial, Removal::Counts(word));
+                return RemovalAt::Stands(trial, Removal::Counts(word));
             }
             count(setting, memory, word);
             let disposed = dispose(memory, setting, word, trial.table);
             gone(trial, word, disposed)
         }
         Err(found) => match reread::<K, V, Q, M>(memory, setting, hash, asked, trial, found) {
-            Sought::Next(next) => Removed::Stands(next, Removal::Probes),
+            Sought::Next(next) => RemovalAt::Stands(next, Removal::Probes),
             Sought::Ends(end) => end,
         },
     }
@@ -230,23 +230,23 @@ pub fn remove<K: Eq + Hash, V, Q: Equivalent<K>, S: Hashes<K>, M: Memory<Node<K,
     setting: Setting,
     hash: u64,
     asked: &Q,
-) -> Removed
+) -> RemovalAt
     requires { MayCall Q.Equivalent.equivalent K.eq (S.hash hasher.now) M.took M.shown M.can (seeking setting hash asked.now untried at.Roots) memory.old }
     ensures { CallReaches Q.Equivalent.equivalent K.eq (S.hash hasher.now) M.took M.shown (seeking setting hash asked.now untried at.Roots)
         memory.old memory.new (removed_at setting hash asked.now result) }
 {
     let link = memory.load(At::Root(setting.root));
     if link == 0 {
-        return Removed::Answered(KeyAnswer::Absent);
+        return RemovalAt::Answered(KeyAnswer::Absent);
     }
     let table = Table::seen(link, memory.value(Link::block_of(link)));
     let first = Trial::first(table, hash);
     match seek_on::<K, V, Q, S, M>(memory, hasher, setting, hash, asked, first) {
-        Removed::Stands(trial, Removal::Tries(word)) => {
+        RemovalAt::Stands(trial, Removal::Tries(word)) => {
             bury::<K, V, Q, S, M>(memory, hasher, setting, hash, asked, trial, word)
         }
-        Removed::Stands(trial, removal) => Removed::Stands(trial, removal),
-        Removed::Answered(answer) => Removed::Answered(answer),
+        RemovalAt::Stands(trial, removal) => RemovalAt::Stands(trial, removal),
+        RemovalAt::Answered(answer) => RemovalAt::Answered(answer),
     }
 }
 

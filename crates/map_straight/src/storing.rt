@@ -25,7 +25,7 @@ use std::hash::Hash;
 
 /// A point of a call that stores its own block. A pair is named by the word that links to it.
 #[derive(Clone, Copy)]
-pub enum Spot {
+pub enum StoringPoint {
     /// It is to read the root.
     Roots,
     /// The map has no table, and it makes the first one.
@@ -48,7 +48,7 @@ pub enum Tried {
     /// It is to make this try.
     Next(Trial),
     /// It stands here, at this try.
-    Stands(Trial, Spot),
+    Stands(Trial, StoringPoint),
 }
 
 /// Where a call that stores its own block has come to.
@@ -57,7 +57,7 @@ pub enum Stored {
     /// It has ended with this answer.
     Answered(KeyAnswer),
     /// It stands here, at this try.
-    Stands(Trial, Spot),
+    Stands(Trial, StoringPoint),
 }
 
 /// Whether a call does no more with a pair of its key than to replace it, or to find it.
@@ -113,19 +113,19 @@ fn judge<K, V, Q>(
         → HasTried {K = K} {V = V} {Q = Q} setting hash there own (told_of loaded (storing setting hash there own trial stands) word finding) result }
 {
     match finding {
-        Finding::Free => Tried::Stands(trial, Spot::Tries(0)),
+        Finding::Free => Tried::Stands(trial, StoringPoint::Tries(0)),
         Finding::Passed => {
             let met = trial.meets(word);
             match met.next() {
                 Some(next) => Tried::Next(next),
-                None => Tried::Stands(met, Spot::Nexts),
+                None => Tried::Stands(met, StoringPoint::Nexts),
             }
         }
-        Finding::Moved => Tried::Stands(trial, Spot::Nexts),
-        Finding::Copying => Tried::Stands(trial, Spot::Probes),
+        Finding::Moved => Tried::Stands(trial, StoringPoint::Nexts),
+        Finding::Copying => Tried::Stands(trial, StoringPoint::Probes),
         Finding::There => match there {
-            There::Puts => Tried::Stands(trial, Spot::Tries(word)),
-            There::Answers => Tried::Stands(trial, Spot::Finds(word)),
+            There::Puts => Tried::Stands(trial, StoringPoint::Tries(word)),
+            There::Answers => Tried::Stands(trial, StoringPoint::Finds(word)),
             There::Removes | There::Asks => unreachable!(),
         },
     }
@@ -234,7 +234,7 @@ fn put<K: Eq + Hash, V, Q: Equivalent<K>, S: Hashes<K>, M: Memory<Node<K, V>>>(
             replaced(trial, own, word, disposed)
         }
         Err(found) => match read::<K, V, Q, M>(memory, setting, hash, there, own, trial, found) {
-            Tried::Next(next) => Stored::Stands(next, Spot::Probes),
+            Tried::Next(next) => Stored::Stands(next, StoringPoint::Probes),
             Tried::Stands(trial, spot) => Stored::Stands(trial, spot),
         },
     }
@@ -250,7 +250,7 @@ fn replaced(trial: Trial, own: u64, word: u64, disposed: Disposed) -> Stored
             old: word,
             new: own,
         }),
-        disposed => Stored::Stands(trial, Spot::Disposes(word, disposed)),
+        disposed => Stored::Stands(trial, StoringPoint::Disposes(word, disposed)),
     }
 }
 
@@ -278,7 +278,7 @@ pub fn call_of<K, V, Q>(
     there: There,
     own: u64,
     trial: Trial,
-    spot: Spot,
+    spot: StoringPoint,
 ) -> KeyCall<K, V, Q>
     ensures { result ≡ call_at setting hash there own trial spot }
 {
@@ -304,17 +304,17 @@ pub fn call_of<K, V, Q>(
 }
 
 /// The point where it has stopped.
-fn calling_of(setting: Setting, own: u64, trial: Trial, spot: Spot) -> Calling
+fn calling_of(setting: Setting, own: u64, trial: Trial, spot: StoringPoint) -> Calling
     ensures { result ≡ calling_at setting own trial spot }
 {
     match spot {
-        Spot::Roots => Calling::Roots,
-        Spot::Firsts => Calling::Firsts(NewTable::first(setting, FIRST_LEN)),
-        Spot::Probes => Calling::Probes,
-        Spot::Nexts => Calling::Nexts,
-        Spot::Tries(word) => Calling::Tries { word, new: own },
-        Spot::Finds(word) => Calling::Drops(End::Answered(KeyAnswer::Found(word))),
-        Spot::Disposes(word, disposed) => Calling::Disposes {
+        StoringPoint::Roots => Calling::Roots,
+        StoringPoint::Firsts => Calling::Firsts(NewTable::first(setting, FIRST_LEN)),
+        StoringPoint::Probes => Calling::Probes,
+        StoringPoint::Nexts => Calling::Nexts,
+        StoringPoint::Tries(word) => Calling::Tries { word, new: own },
+        StoringPoint::Finds(word) => Calling::Drops(End::Answered(KeyAnswer::Found(word))),
+        StoringPoint::Disposes(word, disposed) => Calling::Disposes {
             dispose: dispose_of(setting, word, trial.table, disposed),
             answer: KeyAnswer::Replaced {
                 old: word,
@@ -340,25 +340,25 @@ pub fn store<K: Eq + Hash, V, Q: Equivalent<K>, S: Hashes<K>, M: Memory<Node<K, 
 {
     let none = no_trial();
     if !is_plain(there) {
-        return Stored::Stands(none, Spot::Roots);
+        return Stored::Stands(none, StoringPoint::Roots);
     }
     if own == 0 {
-        return Stored::Stands(none, Spot::Roots);
+        return Stored::Stands(none, StoringPoint::Roots);
     }
     if own == TOMBSTONE {
-        return Stored::Stands(none, Spot::Roots);
+        return Stored::Stands(none, StoringPoint::Roots);
     }
     let link = memory.load(At::Root(setting.root));
     if link == 0 {
-        return Stored::Stands(none, Spot::Firsts);
+        return Stored::Stands(none, StoringPoint::Firsts);
     }
     let table = Table::seen(link, memory.value(Link::block_of(link)));
     let first = Trial::first(table, hash);
     match try_places::<K, V, Q, S, M>(memory, hasher, setting, hash, there, own, first) {
-        Tried::Stands(trial, Spot::Tries(word)) => {
+        Tried::Stands(trial, StoringPoint::Tries(word)) => {
             put::<K, V, Q, S, M>(memory, hasher, setting, hash, there, own, trial, word)
         }
         Tried::Stands(trial, spot) => Stored::Stands(trial, spot),
-        Tried::Next(trial) => Stored::Stands(trial, Spot::Probes),
+        Tried::Next(trial) => Stored::Stands(trial, StoringPoint::Probes),
     }
 }

@@ -9,9 +9,9 @@ ghost use Rattle.map_machines.specs.Given.SeizeWordsPlan.{May, Steps, plan_as};
 use map_machines::named::lengths::{MOST_LEN, Reason, len_after};
 use map_machines::named::table_words::NEXT;
 use map_machines::named::{
-    At, Fault, Hashes, Link, Machine, Memory, Node, Progress, Setting, Table,
+    Advance, At, Fault, Hashes, Link, Memory, Node, Setting, StepMachine, Table,
 };
-use map_machines::{Copier, NewTable, Outcome, Sum};
+use map_machines::{Copier, NewTable, Sum, Yielding};
 
 /// Where a reservation stands.
 #[derive(Clone, Copy)]
@@ -103,23 +103,23 @@ impl Reserve {
     }
 
     /// Ends where the root is long enough, and else looks for the table behind it. It is refused where no table has so many places.
-    fn compare<T>(&mut self, table: Table, need: u64) -> Outcome<T, ()>
+    fn compare<T>(&mut self, table: Table, need: u64) -> Yielding<T, ()>
         ensures { (self.new, result) ≡ enough self.old table need }
     {
         if need > MOST_LEN {
             self.stands = Reserving::Refused(Fault::Capacity);
-            Outcome::Refused(Fault::Capacity)
+            Yielding::Refused(Fault::Capacity)
         } else if table.len < need {
             self.stands = Reserving::Follows { table, need };
-            Outcome::Goes
+            Yielding::Goes
         } else {
             self.stands = Reserving::Over;
-            Outcome::Done(())
+            Yielding::Done(())
         }
     }
 
     /// Reads the root. Where the map has no table, a first one is made.
-    fn reads<K, V, M: Memory<Node<K, V>>>(&mut self, memory: &mut M) -> Outcome<Node<K, V>, ()>
+    fn reads<K, V, M: Memory<Node<K, V>>>(&mut self, memory: &mut M) -> Yielding<Node<K, V>, ()>
         requires { May M.can M.took M.shown memory.old (reads self.old) }
         ensures { Steps M.took M.shown memory.old (reads self.old) memory.new (self.new, result) }
     {
@@ -130,7 +130,7 @@ impl Reserve {
             let table = Table::seen(root, memory.value(Link::block_of(root)));
             self.count(table);
         }
-        Outcome::Goes
+        Yielding::Goes
     }
 
     /// Takes a step of the making of a first table.
@@ -138,7 +138,7 @@ impl Reserve {
         &mut self,
         memory: &mut M,
         mut making: NewTable,
-    ) -> Outcome<Node<K, V>, ()>
+    ) -> Yielding<Node<K, V>, ()>
         requires { May M.can M.took M.shown memory.old (plan_as (made {K = K} {V = V} self.old) (new_table_plan making)) }
         ensures { Steps M.took M.shown memory.old (plan_as (made {K = K} {V = V} self.old) (new_table_plan making)) memory.new (self.new, result) }
     {
@@ -147,20 +147,20 @@ impl Reserve {
     }
 
     /// Goes on after a step of that making.
-    fn made<K, V>(&mut self, making: NewTable, progress: Progress<Table>) -> Outcome<Node<K, V>, ()>
+    fn made<K, V>(&mut self, making: NewTable, progress: Advance<Table>) -> Yielding<Node<K, V>, ()>
         ensures { (self.new, result) ≡ made self.old (making, progress) }
     {
         self.stands = Reserving::Makes(making);
         match progress {
-            Progress::Goes => Outcome::Goes,
-            Progress::Waits => Outcome::Waits,
-            Progress::Done(table) => {
+            Advance::Goes => Yielding::Goes,
+            Advance::Waits => Yielding::Waits,
+            Advance::Done(table) => {
                 self.count(table);
-                Outcome::Goes
+                Yielding::Goes
             }
-            Progress::Refused(fault) => {
+            Advance::Refused(fault) => {
                 self.stands = Reserving::Refused(fault);
-                Outcome::Refused(fault)
+                Yielding::Refused(fault)
             }
         }
     }
@@ -171,7 +171,7 @@ impl Reserve {
         memory: &mut M,
         table: Table,
         mut sum: Sum,
-    ) -> Outcome<T, ()>
+    ) -> Yielding<T, ()>
         requires { May M.can M.took M.shown memory.old (plan_as (summed {T = T} self.old table) (sum_plan sum)) }
         ensures { Steps M.took M.shown memory.old (plan_as (summed {T = T} self.old table) (sum_plan sum)) memory.new (self.new, result) }
     {
@@ -180,17 +180,17 @@ impl Reserve {
     }
 
     /// Goes on after a step of the counting.
-    fn summed<T>(&mut self, table: Table, sum: Sum, progress: Progress<u64>) -> Outcome<T, ()>
+    fn summed<T>(&mut self, table: Table, sum: Sum, progress: Advance<u64>) -> Yielding<T, ()>
         ensures { (self.new, result) ≡ summed self.old table (sum, progress) }
     {
         self.stands = Reserving::Sums { table, sum };
         match progress {
-            Progress::Goes => Outcome::Goes,
-            Progress::Waits => Outcome::Waits,
-            Progress::Done(count) => self.compare(table, self.need(count)),
-            Progress::Refused(fault) => {
+            Advance::Goes => Yielding::Goes,
+            Advance::Waits => Yielding::Waits,
+            Advance::Done(count) => self.compare(table, self.need(count)),
+            Advance::Refused(fault) => {
                 self.stands = Reserving::Refused(fault);
-                Outcome::Refused(fault)
+                Yielding::Refused(fault)
             }
         }
     }
@@ -201,7 +201,7 @@ impl Reserve {
         memory: &mut M,
         table: Table,
         need: u64,
-    ) -> Outcome<Node<K, V>, ()>
+    ) -> Yielding<Node<K, V>, ()>
         requires { May M.can M.took M.shown memory.old (follows self.old table need) }
         ensures { Steps M.took M.shown memory.old (follows self.old table need) memory.new (self.new, result) }
     {
@@ -215,7 +215,7 @@ impl Reserve {
             let next = Table::seen(link, memory.value(Link::block_of(link)));
             self.copy(table, next);
         }
-        Outcome::Goes
+        Yielding::Goes
     }
 
     /// Takes a step of the making of a table behind the root.
@@ -224,7 +224,7 @@ impl Reserve {
         memory: &mut M,
         table: Table,
         mut making: NewTable,
-    ) -> Outcome<Node<K, V>, ()>
+    ) -> Yielding<Node<K, V>, ()>
         requires { May M.can M.took M.shown memory.old (plan_as (grown {K = K} {V = V} self.old table) (new_table_plan making)) }
         ensures { Steps M.took M.shown memory.old (plan_as (grown {K = K} {V = V} self.old table) (new_table_plan making)) memory.new (self.new, result) }
     {
@@ -237,21 +237,21 @@ impl Reserve {
         &mut self,
         table: Table,
         making: NewTable,
-        progress: Progress<Table>,
-    ) -> Outcome<Node<K, V>, ()>
+        progress: Advance<Table>,
+    ) -> Yielding<Node<K, V>, ()>
         ensures { (self.new, result) ≡ grown self.old table (making, progress) }
     {
         self.stands = Reserving::Grows { table, making };
         match progress {
-            Progress::Goes => Outcome::Goes,
-            Progress::Waits => Outcome::Waits,
-            Progress::Done(next) => {
+            Advance::Goes => Yielding::Goes,
+            Advance::Waits => Yielding::Waits,
+            Advance::Done(next) => {
                 self.copy(table, next);
-                Outcome::Goes
+                Yielding::Goes
             }
-            Progress::Refused(fault) => {
+            Advance::Refused(fault) => {
                 self.stands = Reserving::Refused(fault);
-                Outcome::Refused(fault)
+                Yielding::Refused(fault)
             }
         }
     }
@@ -262,7 +262,7 @@ impl Reserve {
         memory: &mut M,
         hasher: &S,
         mut copier: Copier,
-    ) -> Outcome<Node<K, V>, ()>
+    ) -> Yielding<Node<K, V>, ()>
         requires { May M.can M.took M.shown memory.old (plan_as (copied {K = K} {V = V} self.old) (copier_plan (S.hash hasher.now) copier)) }
         ensures { Steps M.took M.shown memory.old (plan_as (copied {K = K} {V = V} self.old) (copier_plan (S.hash hasher.now) copier)) memory.new (self.new, result) }
     {
@@ -274,22 +274,22 @@ impl Reserve {
     fn copied<K, V>(
         &mut self,
         copier: Copier,
-        outcome: Outcome<Node<K, V>, Table>,
-    ) -> Outcome<Node<K, V>, ()>
+        outcome: Yielding<Node<K, V>, Table>,
+    ) -> Yielding<Node<K, V>, ()>
         ensures { (self.new, result) ≡ copied self.old (copier, outcome) }
     {
         self.stands = Reserving::Copies(copier);
         match outcome {
-            Outcome::Goes => Outcome::Goes,
-            Outcome::Waits => Outcome::Waits,
-            Outcome::Gave(value) => Outcome::Gave(value),
-            Outcome::Done(root) => {
+            Yielding::Goes => Yielding::Goes,
+            Yielding::Waits => Yielding::Waits,
+            Yielding::Gave(value) => Yielding::Gave(value),
+            Yielding::Done(root) => {
                 self.count(root);
-                Outcome::Goes
+                Yielding::Goes
             }
-            Outcome::Refused(fault) => {
+            Yielding::Refused(fault) => {
                 self.stands = Reserving::Refused(fault);
-                Outcome::Refused(fault)
+                Yielding::Refused(fault)
             }
         }
     }
@@ -299,7 +299,7 @@ impl Reserve {
         &mut self,
         memory: &mut M,
         hasher: &S,
-    ) -> Outcome<Node<K, V>, ()>
+    ) -> Yielding<Node<K, V>, ()>
         requires { May M.can M.took M.shown memory.old (reserve_plan (S.hash hasher.now) self.old) }
         ensures { Steps M.took M.shown memory.old (reserve_plan (S.hash hasher.now) self.old) memory.new (self.new, result) }
     {
@@ -310,8 +310,8 @@ impl Reserve {
             Reserving::Follows { table, need } => self.follows(memory, table, need),
             Reserving::Grows { table, making } => self.grows(memory, table, making),
             Reserving::Copies(copier) => self.copies(memory, hasher, copier),
-            Reserving::Over => Outcome::Done(()),
-            Reserving::Refused(fault) => Outcome::Refused(fault),
+            Reserving::Over => Yielding::Done(()),
+            Reserving::Refused(fault) => Yielding::Refused(fault),
         }
     }
 }

@@ -4,7 +4,7 @@ ghost use Rattle.owner_calls.specs.Given.CallersKind.{Kind};
 ghost use Rattle.owner_calls.specs.Given.CallersPairs.{IsTold};
 ghost use Rattle.owner_calls.specs.Given.CallersTogether.{IsBegun};
 ghost use Rattle.papaya_raw.specs.CallAsks.{replied};
-ghost use Rattle.papaya_raw.specs.declared.machines.asking.Reply.TheVariants as replies;
+ghost use Rattle.papaya_raw.specs.declared.machines.asking.MachineReply.TheVariants as replies;
 ghost use Rattle.papaya_raw.specs.declared.machines.asking.Told.TheVariants as tells;
 ghost use Rattle.owner_asks.specs.Asks.Asking.{IsTaken, EndsAs, Pauses, StartsAs, ToldThis, HasKeyBack, HasPairBack};
 ghost use Rattle.owner_calls.specs.Owned.Calling.{StopsTold, stop_by};
@@ -14,7 +14,7 @@ ghost use Rattle.owner_calls.specs.Owned.Owned.{Holds};
 
 use map_tables::{Equivalent, Hashes, Node, Setting};
 use owner_calls::{OnKey, Stop, run_skimming};
-use papaya_raw::machines::{KeyAnswer, Reply, Told};
+use papaya_raw::machines::{KeyAnswer, MachineReply, Told};
 use seize_words::{Fault, Plain};
 use std::hash::Hash;
 use std::mem;
@@ -41,7 +41,7 @@ pub(crate) fn finish<K: Eq + Hash + Drop, V: Drop, Q: Equivalent<K>, S: Hashes<K
     memory: &mut Plain<Node<K, V>>,
     _setting: Setting,
     machine: &mut OnKey<'_, K, V, Q, S>,
-    reply: Reply<V>,
+    reply: MachineReply<V>,
 ) -> Result<KeyAnswer, Fault>
     requires { (xs : List (K × V)) × (kind : Kind) × (its : Option K) × (keys : K → Bool) × (asked : Option ℕ)
         × Pauses Q.Equivalent.equivalent K.eq S.hash _setting kind its keys xs machine.old memory.old asked × IsTaken kind.takes asked reply }

@@ -10,7 +10,7 @@ use crate::asking::{key_of, start};
 use crate::updates::replied;
 use map_tables::{Hashes, Node, Setting};
 use owner_calls::{OnKey, Stop, shown_at};
-use papaya_raw::machines::{KeyAnswer, KeyCall, Reply};
+use papaya_raw::machines::{KeyAnswer, KeyCall, MachineReply};
 use seize_words::{Operation, Plain, RefusedKey};
 use std::hash::{BuildHasher, Hash};
 
@@ -57,16 +57,26 @@ pub fn compute<
                 memory,
                 setting,
                 &mut machine,
-                Reply::Insert(value),
+                MachineReply::Insert(value),
             ) {
                 Ok(answer) => Ok(Computed::Changed(answer)),
                 Err(refused) => Err(refused),
             },
-            Operation::Remove => match replied(memory, setting, &mut machine, Reply::Remove) {
+            Operation::Remove => match replied(
+                memory,
+                setting,
+                &mut machine,
+                MachineReply::Remove,
+            ) {
                 Ok(answer) => Ok(Computed::Changed(answer)),
                 Err(refused) => Err(refused),
             },
-            Operation::Abort(end) => match replied(memory, setting, &mut machine, Reply::Abort) {
+            Operation::Abort(end) => match replied(
+                memory,
+                setting,
+                &mut machine,
+                MachineReply::Abort,
+            ) {
                 Ok(answer) => Ok(Computed::Aborted(end, answer)),
                 Err(refused) => Err(refused),
             },

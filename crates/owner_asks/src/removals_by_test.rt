@@ -1,7 +1,7 @@
 //! Removals of the pair of a key, which is asked for by whatever is equivalent to it. Each is run to its end by the one owner.
 ghost use Rattle.std.specs.Prelude.{◌≡◌, List, [], None, if◌then◌else◌};
 ghost use Rattle.std.specs.Option.{ForSome};
-ghost use Rattle.papaya_raw.specs.declared.machines.asking.Reply.TheVariants as replies;
+ghost use Rattle.papaya_raw.specs.declared.machines.asking.MachineReply.TheVariants as replies;
 ghost use Rattle.owner_calls.specs.Given.CallersKind.{removes, removes_if};
 ghost use Rattle.owner_calls.specs.Given.CallersPairs.{Begun, IsTold};
 ghost use Rattle.owner_asks.specs.Asks.Asking.{EndsAs, by_lent};
@@ -13,7 +13,7 @@ use crate::asking::{finish, start};
 use crate::lent::Lent;
 use map_tables::{Equivalent, Hashes, Node, Setting};
 use owner_calls::{OnKey, Stop, pair_at, run_removal};
-use papaya_raw::machines::{KeyAnswer, KeyCall, Reply};
+use papaya_raw::machines::{KeyAnswer, KeyCall, MachineReply};
 use seize_words::{Fault, Plain};
 use std::hash::{BuildHasher, Hash};
 use std::marker::PhantomData;
@@ -39,10 +39,14 @@ pub fn remove<K: Eq + Hash + Drop, V: Drop, Q: Equivalent<K>, S: BuildHasher>(
 }
 
 /// A choice, as a reply.
-fn chosen<V>(yes: bool) -> Reply<V>
+fn chosen<V>(yes: bool) -> MachineReply<V>
     ensures { result ≡ (if yes then replies.Yes else replies.No) }
 {
-    if yes { Reply::Yes } else { Reply::No }
+    if yes {
+        MachineReply::Yes
+    } else {
+        MachineReply::No
+    }
 }
 
 /// Removes the pair of a key, if a test of it answers yes. The test is called where the key is there, and else not at all.

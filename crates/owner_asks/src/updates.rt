@@ -8,13 +8,13 @@ ghost use Rattle.owner_asks.specs.Asks.Asking.{IsTaken, Pauses, ToldThis};
 ghost use Rattle.owner_asks.specs.Asks.Closures.{ComesTo, ComesToWith, Updating, UpdatingOrStoring, Storing};
 ghost use Rattle.owner_calls.specs.Owned.Calling.{HasStopped, StopsTold, stop_by};
 ghost use Rattle.owner_calls.specs.Owned.Owned.{Holds, found_by, hashed_by};
-ghost use Rattle.papaya_raw.specs.declared.machines.asking.Reply.TheVariants as replies;
+ghost use Rattle.papaya_raw.specs.declared.machines.asking.MachineReply.TheVariants as replies;
 ghost use Rattle.papaya_raw.specs.declared.machines.asking.Takes.TheVariants as takes;
 
 use crate::asking::{finish, key_of, pair_of, start};
 use map_tables::{Hashes, Node, Setting};
 use owner_calls::{OnKey, Stop, pair_at};
-use papaya_raw::machines::{KeyAnswer, KeyCall, Reply};
+use papaya_raw::machines::{KeyAnswer, KeyCall, MachineReply};
 use seize_words::{Fault, Plain, Refused, RefusedKey};
 use std::hash::{BuildHasher, Hash};
 
@@ -23,7 +23,7 @@ pub(crate) fn replied<K: Eq + Hash + Drop, V: Drop, S: Hashes<K>>(
     memory: &mut Plain<Node<K, V>>,
     setting: Setting,
     machine: &mut OnKey<'_, K, V, K, S>,
-    reply: Reply<V>,
+    reply: MachineReply<V>,
 ) -> Result<KeyAnswer, RefusedKey<K>>
     requires { (xs : List (K × V)) × (kind : Kind) × (key : K) × (asked : Option ℕ)
         × Pauses K.eq K.eq S.hash setting kind (Some key) (K.eq key) xs machine.old memory.old asked × IsTaken kind.takes asked reply }
@@ -65,7 +65,7 @@ pub fn update<K: Eq + Hash + Drop, V: Drop, S: BuildHasher, F: FnOnce(&V) -> V>(
         Ok(Stop::Answered(answer)) => Ok(answer),
         Ok(Stop::Asks(Some(word))) => {
             let value = make(pair_at(memory, word).1);
-            replied(memory, setting, &mut machine, Reply::Insert(value))
+            replied(memory, setting, &mut machine, MachineReply::Insert(value))
         }
         Ok(Stop::Asks(None)) => unreachable!(),
         Err(fault) => {
@@ -108,11 +108,11 @@ pub fn update_or_insert_with<
         Ok(Stop::Answered(answer)) => Ok(answer),
         Ok(Stop::Asks(Some(word))) => {
             let value = make(pair_at(memory, word).1);
-            replied(memory, setting, &mut machine, Reply::Insert(value))
+            replied(memory, setting, &mut machine, MachineReply::Insert(value))
         }
         Ok(Stop::Asks(None)) => {
             let value = begin();
-            replied(memory, setting, &mut machine, Reply::Insert(value))
+            replied(memory, setting, &mut machine, MachineReply::Insert(value))
         }
         Err(fault) => {
             let key = key_of(&mut machine);
@@ -149,7 +149,7 @@ pub fn update_or_insert<K: Eq + Hash + Drop, V: Drop, S: BuildHasher, F: FnOnce(
         Ok(Stop::Answered(answer)) => Ok(answer),
         Ok(Stop::Asks(Some(word))) => {
             let new = make(pair_at(memory, word).1);
-            match replied(memory, setting, &mut machine, Reply::Insert(new)) {
+            match replied(memory, setting, &mut machine, MachineReply::Insert(new)) {
                 Ok(answer) => Ok(answer),
                 Err(refused) => Err(Refused {
                     fault: refused.fault,
@@ -178,7 +178,7 @@ fn stored<K: Eq + Hash + Drop, V: Drop, S: Hashes<K>>(
         → ComesToWith K.eq (S.hash machine.old.hasher.now) setting memory.new key xs value (ToldThis (K.eq key) xs (replies.Insert value)) result }
     ensures ran { StopsTold K.eq K.eq S.hash machine.old memory.old (replies.Insert value) memory.new (stop_by (λ r. r.fault) result) }
 {
-    match finish(memory, setting, machine, Reply::Insert(value)) {
+    match finish(memory, setting, machine, MachineReply::Insert(value)) {
         Ok(answer) => Ok(answer),
         Err(fault) => {
             let (key, value) = pair_of(machine);
@@ -213,7 +213,7 @@ pub fn insert_with<K: Eq + Hash + Drop, V: Drop, S: BuildHasher, B: FnOnce() -> 
         Ok(Stop::Asks(Some(_))) => unreachable!(),
         Ok(Stop::Asks(None)) => {
             let value = begin();
-            replied(memory, setting, &mut machine, Reply::Insert(value))
+            replied(memory, setting, &mut machine, MachineReply::Insert(value))
         }
         Err(fault) => {
             let key = key_of(&mut machine);

@@ -2,7 +2,7 @@
 ghost use Rattle.std.specs.Prelude.{◌≡◌, IfSome};
 ghost use Rattle.seize_words.specs.OneMemory.Mem.{Can, Took, value_at};
 ghost use Rattle.seize_words.specs.OneMemory.Plan.{May, Steps};
-ghost use Rattle.seize.specs.declared.progress.Progress.TheVariants as progress;
+ghost use Rattle.seize.specs.declared.advance.Advance.TheVariants as progress;
 ghost use Rattle.owner_whole.specs.Strides.Ending.{Ends, Leads, Strides};
 ghost use Rattle.owner_calls.specs.Owned.Machines.{at_trial, on_key_plan};
 ghost use Rattle.papaya_raw.specs.declared.machines.call.Calling.TheVariants as at;
@@ -11,7 +11,7 @@ use crate::machines::{OnKey, Stop};
 use crate::skims::Skims;
 use map_tables::{Aim, Equivalent, Finding, Hashes, Node, ResizeMode, Trial, may_be, seen};
 use papaya_raw::machines::{Calling, Disposing};
-use seize::{Machine, Progress};
+use seize::{Advance, StepMachine};
 use seize_words::{Look, Plain};
 use std::hash::Hash;
 
@@ -59,7 +59,7 @@ pub fn last_try<K: Eq + Hash + Drop, V: Drop, Q: Equivalent<K>, S: Hashes<K>>(
 
 impl<K: Eq + Hash + Drop, V: Drop, Q: Equivalent<K>, S: Hashes<K>> OnKey<'_, K, V, Q, S> {
     /// Makes the tries that pass such words, and one more.
-    fn probes(&mut self, memory: &mut Plain<Node<K, V>>) -> Progress<Stop>
+    fn probes(&mut self, memory: &mut Plain<Node<K, V>>) -> Advance<Stop>
         requires probing { self.old.call.stands ≡ at.Probes }
         requires ends { Ends (on_key_plan Q.Equivalent.equivalent K.eq S.hash) self.old memory.old }
         ensures { Strides (on_key_plan Q.Equivalent.equivalent K.eq S.hash) self.old memory.old memory.new (self.new, result) }
@@ -73,7 +73,7 @@ impl<K: Eq + Hash + Drop, V: Drop, Q: Equivalent<K>, S: Hashes<K>> OnKey<'_, K, 
 
 impl<K: Eq + Hash + Drop, V: Drop, Q: Equivalent<K>, S: Hashes<K>> Skims<Node<K, V>, Stop>
     for OnKey<'_, K, V, Q, S> {
-    fn skim(&mut self, memory: &mut Plain<Node<K, V>>) -> Progress<Stop> {
+    fn skim(&mut self, memory: &mut Plain<Node<K, V>>) -> Advance<Stop> {
         match self.call.stands {
             Calling::Probes => self.probes(memory),
             Calling::Helps { .. } => self.helps(memory),

@@ -2,7 +2,7 @@
 ghost use Rattle.std.specs.Prelude.{◌≡◌, true, false};
 ghost use Rattle.seize_words.specs.OneMemory.Mem.{Mem, Took, value_at};
 ghost use Rattle.seize_words.specs.OneMemory.Plan.{Steps};
-ghost use Rattle.seize.specs.declared.progress.Progress.TheVariants as progress;
+ghost use Rattle.seize.specs.declared.advance.Advance.TheVariants as progress;
 ghost use Rattle.map_straight.specs.Given.ResizeCopier.{copier_plan};
 ghost use Rattle.map_straight.specs.Given.ResizeDeclared.copier.Copier.{Copier};
 ghost use Rattle.map_straight.specs.Given.ResizeDeclared.dispose.Dispose.{Dispose};
@@ -20,10 +20,10 @@ ghost use Rattle.owner_calls.specs.declared.machines.Stop.TheVariants as stop;
 use crate::machines::{OnKey, Stop};
 use map_straight::copy_places;
 use map_tables::{Equivalent, Hashes, Node, Table};
-use papaya_raw::Outcome;
+use papaya_raw::Yielding;
 use papaya_raw::machines::{Calling, Copier, Dispose, Disposing, End, KeyAnswer};
 use seize::rows::{Settle, Settled};
-use seize::{Machine, Progress};
+use seize::{Advance, StepMachine};
 use seize_straight::reclaims;
 use seize_words::Plain;
 use std::hash::Hash;
@@ -65,12 +65,12 @@ fn retires<K: Eq + Hash + Drop, V: Drop, Q: Equivalent<K>, S: Hashes<K>>(
 }
 
 /// Whether a copying that tells this takes a further step.
-fn takes_more<T, A>(told: &Outcome<T, A>) -> bool
+fn takes_more<T, A>(told: &Yielding<T, A>) -> bool
     ensures { result ≡ takes_more told.now }
 {
     match told {
-        Outcome::Goes | Outcome::Waits | Outcome::Gave(_) => true,
-        Outcome::Done(_) | Outcome::Refused(_) => false,
+        Yielding::Goes | Yielding::Waits | Yielding::Gave(_) => true,
+        Yielding::Done(_) | Yielding::Refused(_) => false,
     }
 }
 
@@ -80,7 +80,7 @@ fn copies<K: Eq + Hash + Drop, V: Drop, Q: Equivalent<K>, S: Hashes<K>>(
     copier: &mut Copier,
     memory: &mut Plain<Node<K, V>>,
     hasher: &S,
-) -> Outcome<Node<K, V>, Table>
+) -> Yielding<Node<K, V>, Table>
     requires { (u : OnKey K V Q S) × (goal : Table) × (u.hasher.now ≡ hasher.now) × Ends (on_key_plan Q.Equivalent.equivalent K.eq S.hash) (helping u goal copier.old) memory.old }
     ensures { (u : OnKey K V Q S) (goal : Table) → u.hasher.now ≡ hasher.now
         → (c : Copier) × (m : Mem (Node K V)) × Leads (on_key_plan Q.Equivalent.equivalent K.eq S.hash) (helping u goal copier.old) memory.old (helping u goal c) m
@@ -98,30 +98,30 @@ fn copies<K: Eq + Hash + Drop, V: Drop, Q: Equivalent<K>, S: Hashes<K>>(
 
 impl<K: Eq + Hash + Drop, V: Drop, Q: Equivalent<K>, S: Hashes<K>> OnKey<'_, K, V, Q, S> {
     /// Goes on after steps of its help with a resize, by what the last one told.
-    fn helped(&mut self, goal: Table, told: Outcome<Node<K, V>, Table>) -> Progress<Stop>
+    fn helped(&mut self, goal: Table, told: Yielding<Node<K, V>, Table>) -> Advance<Stop>
         ensures { (begun : OnKey K V Q S) (copier : Copier) → self.old ≡ helping begun goal copier → (self.new, result) ≡ on_key_after begun (helped begun.call goal (copier, told)) }
     {
         match told {
-            Outcome::Goes | Outcome::Waits | Outcome::Gave(_) => Progress::Goes,
-            Outcome::Done(_) => {
+            Yielding::Goes | Yielding::Waits | Yielding::Gave(_) => Advance::Goes,
+            Yielding::Done(_) => {
                 self.call.trial = self.call.trial.on(goal, self.call.hash);
                 self.call.stands = Calling::Probes;
-                Progress::Goes
+                Advance::Goes
             }
-            Outcome::Refused(fault) => {
+            Yielding::Refused(fault) => {
                 if self.call.own == 0 {
                     self.call.stands = Calling::Over(End::Refused(fault));
-                    return Progress::Refused(fault);
+                    return Advance::Refused(fault);
                 }
                 self.call.stands = Calling::Drops(End::Refused(fault));
-                Progress::Goes
+                Advance::Goes
             }
         }
     }
 
     /// Takes steps of its help with a resize.
     #[inline(always)]
-    pub(crate) fn helps(&mut self, memory: &mut Plain<Node<K, V>>) -> Progress<Stop>
+    pub(crate) fn helps(&mut self, memory: &mut Plain<Node<K, V>>) -> Advance<Stop>
         requires helping { (copier : Copier) × (goal : Table) × (self.old.call.stands ≡ at.Helps copier goal) }
         requires ends { Ends (on_key_plan Q.Equivalent.equivalent K.eq S.hash) self.old memory.old }
         ensures { Strides (on_key_plan Q.Equivalent.equivalent K.eq S.hash) self.old memory.old memory.new (self.new, result) }
@@ -143,7 +143,7 @@ impl<K: Eq + Hash + Drop, V: Drop, Q: Equivalent<K>, S: Hashes<K>> OnKey<'_, K, 
         dispose: Dispose,
         answer: KeyAnswer,
         mut settle: Settle,
-    ) -> Progress<Stop>
+    ) -> Advance<Stop>
         requires disposing { self.old.call.stands ≡ at.Disposes dispose answer }
         requires retiring { dispose.stands ≡ disposal.Settles settle }
         requires ends { Ends (on_key_plan Q.Equivalent.equivalent K.eq S.hash) self.old memory.old }
@@ -151,7 +151,7 @@ impl<K: Eq + Hash + Drop, V: Drop, Q: Equivalent<K>, S: Hashes<K>> OnKey<'_, K, 
     {
         if retires::<K, V, Q, S>(&mut settle, memory) {
             self.call.stands = Calling::Over(End::Answered(answer));
-            return Progress::Done(Stop::Answered(answer));
+            return Advance::Done(Stop::Answered(answer));
         }
         let dispose = Dispose {
             setting: dispose.setting,
@@ -160,6 +160,6 @@ impl<K: Eq + Hash + Drop, V: Drop, Q: Equivalent<K>, S: Hashes<K>> OnKey<'_, K, 
             stands: Disposing::Settles(settle),
         };
         self.call.stands = Calling::Disposes { dispose, answer };
-        Progress::Goes
+        Advance::Goes
     }
 }

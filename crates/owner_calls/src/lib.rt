@@ -19,7 +19,7 @@ mod tries;
 
 pub use calls::last_try;
 pub use looking::{find, pair_at, shown_at};
-pub use machines::{ForRoom, OnKey, Refreshes, Stop};
+pub use machines::{ForRoom, OnKey, OwnerRefresh, Stop};
 pub use removals::run_removal;
 pub use rooms::make_room;
 pub use running::{run, run_skimming};

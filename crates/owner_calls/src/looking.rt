@@ -14,7 +14,7 @@ use crate::most_looks::MostLooks;
 use crate::tries::{Tried, tries};
 use map_tables::{Equivalent, Node};
 use papaya_raw::machines::{Looking, Lookup};
-use seize::Progress;
+use seize::Advance;
 use seize_words::{Link, Look, Plain};
 use std::hash::Hash;
 use std::snapshot::Snapshot;
@@ -54,8 +54,8 @@ pub fn find<'a, K: Eq + Hash, V, Q: Equivalent<K>>(
     let mut left = most(memory, &lookup, asked);
     loop {
         match lookup.step(&mut look, asked) {
-            Progress::Goes | Progress::Waits | Progress::Refused(_) => {}
-            Progress::Done(found) => return shown_at(memory, found),
+            Advance::Goes | Advance::Waits | Advance::Refused(_) => {}
+            Advance::Done(found) => return shown_at(memory, found),
         }
         let (tried, met) = tries(memory, &lookup, asked);
         match tried {

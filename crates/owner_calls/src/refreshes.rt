@@ -2,14 +2,14 @@
 ghost use Rattle.owner_whole.specs.Strides.Ending.{Ends, Leads};
 ghost use Rattle.owner_calls.specs.Owned.Machines.{refreshes_plan};
 
-use crate::machines::Refreshes;
+use crate::machines::OwnerRefresh;
 use crate::skims::Skims;
 use seize::rows::{Defers, Leaving};
-use seize::{Machine, Progress};
+use seize::{Advance, StepMachine};
 use seize_straight::reclaims;
 use seize_words::Plain;
 
-impl Refreshes {
+impl OwnerRefresh {
     /// Reclaims the blocks of a batch, where it stands there.
     #[inline(always)]
     fn reclaims<T: Defers + Drop>(&mut self, memory: &mut Plain<T>)
@@ -23,8 +23,8 @@ impl Refreshes {
     }
 }
 
-impl<T: Defers + Drop> Skims<T, ()> for Refreshes {
-    fn skim(&mut self, memory: &mut Plain<T>) -> Progress<()> {
+impl<T: Defers + Drop> Skims<T, ()> for OwnerRefresh {
+    fn skim(&mut self, memory: &mut Plain<T>) -> Advance<()> {
         self.reclaims(memory);
         self.step(memory)
     }

@@ -6,7 +6,7 @@ ghost use Rattle.owner_calls.specs.declared.machines.OnKey.{OnKey as Running};
 
 use crate::machines::{OnKey, Stop};
 use crate::running::run_skimming;
-use map_straight::{Removed, removal_of, remove};
+use map_straight::{RemovalAt, removal_of, remove};
 use map_tables::{Equivalent, Hashes, Node, Setting};
 use seize_words::{Fault, Plain};
 use std::hash::Hash;
@@ -23,8 +23,8 @@ pub fn run_removal<K: Eq + Hash + Drop, V: Drop, Q: Equivalent<K> + Drop, S: Has
     ensures { (x : Running K V Q S) × RunsTo (on_key_plan Q.Equivalent.equivalent K.eq S.hash) (on_call hasher.entry (removing setting hash asked)) memory.old x memory.new result }
 {
     match remove::<K, V, Q, S, Plain<Node<K, V>>>(memory, hasher, setting, hash, &asked) {
-        Removed::Answered(answer) => Ok(Stop::Answered(answer)),
-        Removed::Stands(trial, removal) => {
+        RemovalAt::Answered(answer) => Ok(Stop::Answered(answer)),
+        RemovalAt::Stands(trial, removal) => {
             let call = removal_of(setting, hash, asked, trial, removal);
             let mut machine: OnKey<'_, K, V, Q, S> = OnKey {
                 call,

@@ -4,13 +4,13 @@ ghost use Rattle.owner_whole.specs.Strides.Ending.{Ends, RunsTo};
 
 use crate::most::Most;
 use crate::skims::Skims;
-use seize::{Machine, Progress};
+use seize::{Advance, StepMachine};
 use seize_words::{Fault, Plain};
 use std::marker::PhantomData;
 use std::snapshot::Snapshot;
 
 /// How many steps there are still at most, where each run comes to an end.
-fn most<T, A, M: Machine<T, Progress = Progress<A>>>(
+fn most<T, A, M: StepMachine<T, Progress = Advance<A>>>(
     machine: &M,
     memory: &Plain<T>,
 ) -> Most<T, A, M>
@@ -28,7 +28,7 @@ fn most<T, A, M: Machine<T, Progress = Progress<A>>>(
 }
 
 /// Takes the steps of a machine until it has ended.
-pub fn run<T, A, M: Machine<T, Progress = Progress<A>>>(
+pub fn run<T, A, M: StepMachine<T, Progress = Advance<A>>>(
     machine: &mut M,
     memory: &mut Plain<T>,
 ) -> Result<A, Fault>
@@ -38,16 +38,16 @@ pub fn run<T, A, M: Machine<T, Progress = Progress<A>>>(
     let mut left = most(machine, memory);
     loop {
         match machine.step(memory) {
-            Progress::Goes | Progress::Waits => {}
-            Progress::Done(answer) => return Ok(answer),
-            Progress::Refused(fault) => return Err(fault),
+            Advance::Goes | Advance::Waits => {}
+            Advance::Done(answer) => return Ok(answer),
+            Advance::Refused(fault) => return Err(fault),
         }
         left = most(machine, memory);
     }
 }
 
 /// Takes the steps of a machine until it has ended, several at once where it can.
-pub fn run_skimming<T, A, M: Machine<T, Progress = Progress<A>> + Skims<T, A>>(
+pub fn run_skimming<T, A, M: StepMachine<T, Progress = Advance<A>> + Skims<T, A>>(
     machine: &mut M,
     memory: &mut Plain<T>,
 ) -> Result<A, Fault>
@@ -57,9 +57,9 @@ pub fn run_skimming<T, A, M: Machine<T, Progress = Progress<A>> + Skims<T, A>>(
     let mut left = most(machine, memory);
     loop {
         match machine.skim(memory) {
-            Progress::Goes | Progress::Waits => {}
-            Progress::Done(answer) => return Ok(answer),
-            Progress::Refused(fault) => return Err(fault),
+            Advance::Goes | Advance::Waits => {}
+            Advance::Done(answer) => return Ok(answer),
+            Advance::Refused(fault) => return Err(fault),
         }
         left = most(machine, memory);
     }

@@ -4,7 +4,7 @@ ghost use Rattle.owner_calls.specs.Sifts.Sweeping.{over_pairs_settled};
 
 use map_tables::{Hashes, Node};
 use papaya_raw::machines::{Sweep, Swept};
-use seize::{Machine, Progress};
+use seize::{Advance, StepMachine};
 use seize_words::Memory;
 use std::hash::Hash;
 
@@ -32,28 +32,28 @@ pub struct OverPairs<'a, S> {
 
 impl<S> OverPairs<'_, S> {
     /// Goes on after a step of the sweep, by what that told. What it gives back is dropped.
-    fn settled<T: Drop>(&mut self, told: Swept<T>) -> Progress<Pause>
+    fn settled<T: Drop>(&mut self, told: Swept<T>) -> Advance<Pause>
         ensures { (self.new, result) ≡ over_pairs_settled self.old told }
     {
         match told {
-            Swept::Goes | Swept::Waits | Swept::Gave(_) => Progress::Goes,
-            Swept::Ready => Progress::Done(Pause::Ready),
-            Swept::Pair(word) => Progress::Done(Pause::Shows(word)),
-            Swept::Asks(word) => Progress::Done(Pause::Asks(word)),
-            Swept::Done => Progress::Done(Pause::Ended),
-            Swept::Refused(fault) => Progress::Refused(fault),
+            Swept::Goes | Swept::Waits | Swept::Gave(_) => Advance::Goes,
+            Swept::Ready => Advance::Done(Pause::Ready),
+            Swept::Pair(word) => Advance::Done(Pause::Shows(word)),
+            Swept::Asks(word) => Advance::Done(Pause::Asks(word)),
+            Swept::Done => Advance::Done(Pause::Ended),
+            Swept::Refused(fault) => Advance::Refused(fault),
         }
     }
 }
 
-impl<K: Hash + Drop, V: Drop, S: Hashes<K>> Machine<Node<K, V>> for OverPairs<'_, S> {
+impl<K: Hash + Drop, V: Drop, S: Hashes<K>> StepMachine<Node<K, V>> for OverPairs<'_, S> {
     ghost use Rattle.owner_calls.specs.Sifts.Sweeping.{over_pairs_plan};
 
-    type Progress = Progress<Pause>;
+    type Progress = Advance<Pause>;
 
     ghost plan = { over_pairs_plan S.hash };
 
-    fn step<M: Memory<Node<K, V>>>(&mut self, memory: &mut M) -> Progress<Pause> {
+    fn step<M: Memory<Node<K, V>>>(&mut self, memory: &mut M) -> Advance<Pause> {
         let told = self.sweep.step(memory, self.hasher);
         self.settled(told)
     }

@@ -11,8 +11,8 @@ use Rattle.owner_rests.specs.Given.{found_by, left_by}
 use Rattle.owner_rests.specs.Rests.Held.{as_list, stored_computing}
 use Rattle.owner_rests.specs.declared.change.Change.{Change}
 use Rattle.owner_rests.specs.declared.change.Change.TheVariants as change
-use Rattle.owner_rests.specs.declared.change.Compute.{Compute}
-use Rattle.owner_rests.specs.declared.change.Compute.TheVariants as compute
+use Rattle.owner_rests.specs.declared.change.ComputedChange.{ComputedChange}
+use Rattle.owner_rests.specs.declared.change.ComputedChange.TheVariants as compute
 use Rattle.owner_map.specs.Answers.{HasRemoved, HasReplaced, IsLeft}
 use Rattle.owner_rests.specs.ShowsPairs.Maps.{HasNow, Keeps, Map}
 
@@ -28,22 +28,22 @@ module _ {K V S : Type 0} (old map : Map K V S) where
 
   module _ {T : Type 0} (keys : K → Bool) (key : K) (Gives : Option (K × V) → Operation V T → Type 0) where
     -- what a computing has done, and the map holds after it
-    abbrev Did : Compute T → Type 0
+    abbrev Did : ComputedChange T → Type 0
     Did done = HasComputed keys (Some key) Gives old.pairs (HasNow map) done × Keeps (stored_computing {E = RefusedKey K} (Ok done) map.met) old map
 
     -- a value is stored that was computed
-    pub exchanges : (done : Compute T) → done ≡ compute.Changed change.Replaced → Did done
+    pub exchanges : (done : ComputedChange T) → done ≡ compute.Changed change.Replaced → Did done
         → (was : K × V) × (found_by keys old.pairs ≡ Some was) × (value : V) × Gives (Some was) (operation.Insert value) × HasReplaced old map keys was (key, value)
     exchanges done is did =
-        let it = subst (λ (x : Compute T). Did x) is did in
+        let it = subst (λ (x : ComputedChange T). Did x) is did in
         let d = it.0 in
         (d.0, d.3, d.2, d.5, replaced keys key d.0 d.1 d.2 d.4 d.6 it.1)
 
     -- a pair is removed
-    pub removes : (done : Compute T) → done ≡ compute.Changed change.Removed → Did done
+    pub removes : (done : ComputedChange T) → done ≡ compute.Changed change.Removed → Did done
         → (was : K × V) × (found_by keys old.pairs ≡ Some was) × Gives (Some was) operation.Remove × HasRemoved old map keys was
     removes done is did =
-        let it = subst (λ (x : Compute T). Did x) is did in
+        let it = subst (λ (x : ComputedChange T). Did x) is did in
         let d = it.0 in
         (d.0, d.1, d.2, (d.3, it.1))
 

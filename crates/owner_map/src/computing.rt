@@ -14,7 +14,7 @@ ghost use Rattle.owner_rests.specs.ShowsPairs.Maps.{HasNow, Keeps};
 use crate::answers::{Aborted, Compute, Present, Removed, Updated};
 use crate::map::HashMap;
 use owner_asks::RefusedKey;
-use owner_rests::{Change, Compute as Done};
+use owner_rests::{Change, ComputedChange as Done};
 use seize_words::{Operation, Receiver};
 use std::hash::{BuildHasher, Hash};
 

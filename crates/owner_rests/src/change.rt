@@ -24,7 +24,7 @@ pub enum Change {
 
 /// What a computing has come to.
 #[derive(Debug, Drop, PartialEq, Eq)]
-pub enum Compute<T> {
+pub enum ComputedChange<T> {
     /// A pair was stored, replaced or removed.
     Changed(Change),
     /// Nothing has changed, and this was answered.
@@ -65,18 +65,18 @@ pub(crate) fn ended<E>(ended: Result<KeyAnswer, E>, last: &mut Last) -> Result<C
 pub(crate) fn computed<K, T>(
     ended: Result<Computed<T>, RefusedKey<K>>,
     last: &mut Last,
-) -> Result<Compute<T>, RefusedKey<K>>
+) -> Result<ComputedChange<T>, RefusedKey<K>>
     ensures done { result ≡ computing_ended_by ended }
     ensures words { last.new ≡ words_of_computing ended }
 {
     match ended {
         Ok(Computed::Changed(answer)) => {
             *last = told(answer);
-            Ok(Compute::Changed(changed(answer)))
+            Ok(ComputedChange::Changed(changed(answer)))
         }
         Ok(Computed::Aborted(end, answer)) => {
             *last = told(answer);
-            Ok(Compute::Aborted(end))
+            Ok(ComputedChange::Aborted(end))
         }
         Err(refused) => {
             *last = Last::NONE;

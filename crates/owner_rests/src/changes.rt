@@ -17,7 +17,7 @@ ghost use Rattle.owner_asks.specs.Steady.Steady.{HasOneTable};
 
 use crate::last::{Last, told_at};
 use map_tables::{Equivalent, Node, Setting};
-use owner_calls::{Refreshes, Stop, run_skimming};
+use owner_calls::{OwnerRefresh, Stop, run_skimming};
 use papaya_raw::machines::KeyAnswer;
 use seize::rows::{Leave, Leaving, Settle};
 use seize::states::{ACTIVE, HEAD};
@@ -48,7 +48,7 @@ pub fn refresh<K: Eq + Hash + Drop, V: Drop, S: BuildHasher>(
         frees: false,
         stands: Leaving::Settles(settle),
     };
-    let mut machine = Refreshes { leave };
+    let mut machine = OwnerRefresh { leave };
     let _ = run_skimming(&mut machine, memory);
 }
 

@@ -13,7 +13,7 @@ ghost use Rattle.owner_calls.specs.Owned.Calling.{HasStopped};
 ghost use Rattle.owner_calls.specs.Given.CallersPairs.{IsTold};
 ghost use Rattle.owner_calls.specs.Given.CallersKind.{computes};
 
-use crate::change::{Compute, computed};
+use crate::change::{ComputedChange, computed};
 use crate::changes::refresh;
 use crate::last::Last;
 use map_tables::{Node, Setting};
@@ -35,7 +35,7 @@ pub fn compute<
     last: &mut Last,
     key: K,
     decide: F,
-) -> Result<Compute<T>, RefusedKey<K>>
+) -> Result<ComputedChange<T>, RefusedKey<K>>
     requires holds { (xs : List (K × V)) × Holds K.eq (hashed_by S.Hasher.finish S.Hasher.write S.build_hasher K.hash_input hasher.now) setting memory.old xs
         × ComputingTakes F.FnOnce decide (found_by (K.eq key) xs) }
     ensures comes { (xs : List (K × V)) → Holds K.eq (hashed_by S.Hasher.finish S.Hasher.write S.build_hasher K.hash_input hasher.now) setting memory.old xs

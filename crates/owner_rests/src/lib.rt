@@ -16,7 +16,7 @@ mod sweeps;
 mod testing;
 
 pub use asking::{try_insert_with, update, update_or_insert, update_or_insert_with};
-pub use change::{Change, Compute};
+pub use change::{Change, ComputedChange};
 pub use changes::{refresh, remove};
 pub use computing::compute;
 pub use counting::count;

@@ -7,7 +7,7 @@ ghost use Rattle.papaya_raw.specs.CallPoints.{untried};
 ghost use Rattle.papaya_raw.specs.declared.machines.call.Calling.TheVariants as at;
 ghost use Rattle.map_straight.specs.Straight.Storing.{calling_at};
 
-use map_straight::{Spot, Stored, call_of};
+use map_straight::{Stored, StoringPoint, call_of};
 use map_tables::{Hashes, Node, Setting, Trial};
 use owner_calls::{OnKey, Stop, run_skimming};
 use papaya_raw::machines::{There, link_to};
@@ -23,7 +23,7 @@ fn go_on<K: Eq + Hash + Drop, V: Drop, S: Hashes<K>>(
     there: There,
     own: u64,
     trial: Trial,
-    spot: Spot,
+    spot: StoringPoint,
 ) -> (Result<Stop, Fault>, Option<Node<K, V>>)
     requires { Ends (on_key_plan K.eq K.eq S.hash) (with_own setting hasher hash there own trial (calling_at setting own trial spot)) memory.old }
     ensures { StoresTo K.eq S.hash (with_own setting hasher.entry hash there own trial (calling_at setting own trial spot)) memory.old memory.new result }

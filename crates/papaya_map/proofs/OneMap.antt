@@ -11,17 +11,17 @@ use Rattle.play_moves.specs.Given.ErrandsCalling.{is_put, outcome_of}
 use Rattle.play_moves.specs.Given.ErrandsLooking.{HasRun, found_of}
 use Rattle.threads_calls.specs.Given.SeizeViewsDeclared.view.Fixed.{Fixed}
 use Rattle.threads_calls.specs.Given.SeizeViewsDeclared.view.Has.TheVariants.{Nothing}
-use Rattle.threads_calls.specs.Given.SeizeViewsDeclared.view.View.TheVariants.{Inside}
+use Rattle.threads_calls.specs.Given.SeizeViewsDeclared.view.SlotView.TheVariants.{Inside}
 use Rattle.play_moves.specs.Given.ViewsBegun.{machine_for}
 use Rattle.play_moves.specs.Given.ViewsDeclared.view.View.{View}
 use Rattle.play_moves.specs.Given.ViewsLooks.{shown_in}
 use Rattle.seize_words.specs.OneMemory.Word.{block_in}
 use Rattle.play_moves.specs.Given.ViewsRule.{section_of}
-use Rattle.threads_calls.specs.Given.CallersDeclared.caller.Caller.{Caller}
+use Rattle.threads_calls.specs.Given.CallersDeclared.caller.MapCaller.{MapCaller}
 use Rattle.map_tables.specs.declared.node.Node.TheVariants.{Pair}
 use Rattle.seize_words.specs.declared.fault.Fault.{Fault}
 
-module _ {K V S : Type 0} (same : K → K → Bool) (hash : S → K → ℕ) (c n : Caller K V S) (short : nat_lt c.blocks.now.words.fixed.batch_size (2 ^ 64) ≡ true) (s t : ℕ)
+module _ {K V S : Type 0} (same : K → K → Bool) (hash : S → K → ℕ) (c n : MapCaller K V S) (short : nat_lt c.blocks.now.words.fixed.batch_size (2 ^ 64) ≡ true) (s t : ℕ)
     (lone : c.seat.view.under ≡ None) (alone : n.seat.view.under ≡ None) (was : c.seat.view.slot ≡ Inside s Nothing)
     (inside : n.seat.view.slot ≡ Inside t Nothing) (stands : t ≡ s) (stays : n.seat.view.map ≡ c.seat.view.map) (memory : n.blocks ≡ c.blocks) where
   abbrev fixed : Fixed

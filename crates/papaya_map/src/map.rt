@@ -1,10 +1,10 @@
 //! A hash map that threads share, as one has it who owns it.
 ghost use Rattle.std.specs.Prelude.{◌≡◌, ◌<◌, ◌^◌, [], Some, None, Ok, true, IfOk, IfErr, MatchResult, nat_lt};
 ghost use Rattle.threads_calls.specs.Given.SeizeCallersKept.{is_home};
-ghost use Rattle.threads_calls.specs.Given.SeizeViewsDeclared.view.View.TheVariants.{Rests};
+ghost use Rattle.threads_calls.specs.Given.SeizeViewsDeclared.view.SlotView.TheVariants.{Rests};
 ghost use Rattle.map_tables.specs.Chunks.{is_incremental};
 ghost use Rattle.map_tables.specs.declared.resize_mode.ResizeMode.TheVariants.{Incremental};
-ghost use Rattle.play_moves.specs.Given.ViewsDeclared.view.Work.TheVariants.{Nothing as NoWork};
+ghost use Rattle.play_moves.specs.Given.ViewsDeclared.view.SeatWork.TheVariants.{Nothing as NoWork};
 ghost use Rattle.threads_calls.specs.Given.CallersStanding.{known_by};
 ghost use Rattle.seize.specs.Ids.{given, following};
 ghost use Rattle.seize_words.specs.declared.fault.Fault.TheVariants.{Memory};
@@ -17,7 +17,7 @@ use seize_blocks::{Blocks, Home, Seat};
 use seize_words::Fault;
 use std::alloc::Global;
 use std::hash::{BuildHasher, Hash, RandomState};
-use threads_calls::{Fixed, OfMaps, Session as Base, memory_for};
+use threads_calls::{Fixed, OfMaps, SessionBase as Base, memory_for};
 
 /// For how many blocks its memory has numbers at first.
 const FIRST: u64 = 64;

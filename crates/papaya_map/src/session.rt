@@ -6,13 +6,13 @@ ghost use Rattle.papaya_map.specs.Sessions.{HasGot, HasMadeNone, HasSought, IsOn
 ghost use Rattle.threads_calls.specs.Answers.{CameBack, HasRemoved, HasStored, HasTried, has_stored};
 ghost use Rattle.play_moves.specs.Given.ActsActs.{Insert, Remove, TryToInsert};
 ghost use Rattle.threads_calls.specs.Given.SeizeViewsDeclared.view.Has.TheVariants.{Nothing};
-ghost use Rattle.threads_calls.specs.Given.SeizeViewsDeclared.view.View.TheVariants.{Inside, Rests};
+ghost use Rattle.threads_calls.specs.Given.SeizeViewsDeclared.view.SlotView.TheVariants.{Inside, Rests};
 
 use map_tables::Hashes;
 use seize_words::{Fault, Refused};
 use std::hash::{Hash, RandomState};
 use std::sync::Wait;
-use threads_calls::{Attempt, Session as Base};
+use threads_calls::{Attempt, SessionBase as Base};
 
 /// A map, as one of those has it who share it. It may be sent to a thread, and holds a slot, within a section that is open from its beginning to its end: what its calls have
 /// found isn't given back as long as the answer is borrowed. As long as it neither ends nor is refreshed, nothing that was removed or replaced meanwhile is reclaimed,

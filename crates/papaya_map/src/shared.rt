@@ -8,7 +8,7 @@ use map_tables::{Hashes, Node, Setting};
 use seize_blocks::{Blocks, Seat};
 use seize_words::Fault;
 use std::hash::{Hash, RandomState};
-use threads_calls::{OfMaps, Session as Base, newcomer};
+use threads_calls::{OfMaps, SessionBase as Base, newcomer};
 
 /// A map, lent: it may go to other threads, and several may have it by reference.
 #[derive(Drop)]

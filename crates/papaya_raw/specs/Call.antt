@@ -5,8 +5,8 @@ use Rattle.seize.specs.Given.SeizeWordsDeclared.at.At.TheVariants.{Root, Word}
 use Rattle.seize.specs.Given.SeizeWordsDeclared.fault.Fault.TheVariants.{Memory}
 use Rattle.seize.specs.Given.SeizeWordsOp.{Out, Load, Add, Exchange, Make, Take, Found, Exchanged, Made, Taken}
 use Rattle.seize.specs.Given.SeizeWordsPlan.{Plan, Then, Turn, Do, Now, Seeing, plan_as}
-use Rattle.seize.specs.declared.progress.Progress.{Progress}
-use Rattle.seize.specs.declared.progress.Progress.TheVariants as progress
+use Rattle.seize.specs.declared.advance.Advance.{Advance}
+use Rattle.seize.specs.declared.advance.Advance.TheVariants as progress
 use Rattle.seize.specs.declared.rows.settle.Settled.{Settled}
 use Rattle.seize.specs.declared.rows.settle.Settled.TheVariants as settling
 use Rattle.map_tables.specs.Counts.{count_change}
@@ -24,8 +24,8 @@ use Rattle.papaya_raw.specs.CallPoints.{word_to, standing, going, over, told_ans
 use Rattle.map_tables.specs.declared.table_words.TheConstants.{NEXT}
 use Rattle.map_tables.specs.declared.node.Node.{Node}
 use Rattle.map_tables.specs.declared.node.Node.TheVariants as nodes
-use Rattle.map_sweeps.specs.Given.ResizeDeclared.outcome.Outcome.{Outcome}
-use Rattle.map_sweeps.specs.Given.ResizeDeclared.outcome.Outcome.TheVariants as outcome
+use Rattle.map_sweeps.specs.Given.ResizeDeclared.yielding.Yielding.{Yielding}
+use Rattle.map_sweeps.specs.Given.ResizeDeclared.yielding.Yielding.TheVariants as outcome
 use Rattle.map_tables.specs.declared.table.Table.{Table}
 use Rattle.map_sweeps.specs.Given.ResizeDeclared.lookup.Lookup.{Lookup}
 use Rattle.map_sweeps.specs.Given.ResizeDeclared.new_table.NewTable.{NewTable}
@@ -139,7 +139,7 @@ module _ {K V Q : Type 0} (asks : Q → K → Bool) (eq : K → K → Bool) wher
 
 module _ {K V Q : Type 0} where
   -- a step of its lookup, as a step of its own
-  abbrev pub looked : KeyCall K V Q → Lookup × Progress (Option ℕ) → KeyCall K V Q × Called (Node K V)
+  abbrev pub looked : KeyCall K V Q → Lookup × Advance (Option ℕ) → KeyCall K V Q × Called (Node K V)
   looked c (lookup, progress.Goes) = going c (at.Looks lookup)
   looked c (lookup, progress.Waits) = (standing c (at.Looks lookup), Waits)
   looked c (lookup, progress.Done (Some found)) = told_answer c (answers.Found found)
@@ -155,7 +155,7 @@ module _ {K V Q : Type 0} where
   looks asks c lookup = looks_for asks c lookup c.asked
 
   -- a step of the making of the first table, as a step of its own
-  abbrev pub first_made : KeyCall K V Q → NewTable × Progress Table → KeyCall K V Q × Called (Node K V)
+  abbrev pub first_made : KeyCall K V Q → NewTable × Advance Table → KeyCall K V Q × Called (Node K V)
   first_made c (making, progress.Goes) = going c (at.Firsts making)
   first_made c (making, progress.Waits) = (standing c (at.Firsts making), Waits)
   first_made c (making, progress.Done table) = entering c table
@@ -165,7 +165,7 @@ module _ {K V Q : Type 0} where
   firsts c making = plan_as (first_made c) (new_table_plan making)
 
   -- a step of the making of the next table, as a step of its own
-  abbrev pub next_made : KeyCall K V Q → NewTable × Progress Table → KeyCall K V Q × Called (Node K V)
+  abbrev pub next_made : KeyCall K V Q → NewTable × Advance Table → KeyCall K V Q × Called (Node K V)
   next_made c (making, progress.Goes) = going c (at.Allocs making)
   next_made c (making, progress.Waits) = (standing c (at.Allocs making), Waits)
   next_made c (making, progress.Done table) = went_on c table
@@ -185,7 +185,7 @@ module _ {K V Q : Type 0} where
   disposes c dispose answer = plan_as (disposed c answer) (dispose_plan dispose)
 
   -- a step of its help with a resize, as a step of its own
-  abbrev pub helped : KeyCall K V Q → Table → Copier × Outcome (Node K V) Table → KeyCall K V Q × Called (Node K V)
+  abbrev pub helped : KeyCall K V Q → Table → Copier × Yielding (Node K V) Table → KeyCall K V Q × Called (Node K V)
   helped c goal (copier, outcome.Goes) = going c (at.Helps copier goal)
   helped c goal (copier, outcome.Waits) = (standing c (at.Helps copier goal), Waits)
   helped c goal (copier, outcome.Gave value) = (standing c (at.Helps copier goal), Gave value)
@@ -196,7 +196,7 @@ module _ {K V Q : Type 0} where
   helps hashes c copier goal = plan_as (helped c goal) (copier_plan hashes copier)
 
   -- a step of the copying of a whole table, as a step of its own
-  abbrev pub copied : KeyCall K V Q → Copier × Outcome (Node K V) Table → KeyCall K V Q × Called (Node K V)
+  abbrev pub copied : KeyCall K V Q → Copier × Yielding (Node K V) Table → KeyCall K V Q × Called (Node K V)
   copied c (copier, outcome.Goes) = going c (at.Copies copier)
   copied c (copier, outcome.Waits) = (standing c (at.Copies copier), Waits)
   copied c (copier, outcome.Gave value) = (standing c (at.Copies copier), Gave value)

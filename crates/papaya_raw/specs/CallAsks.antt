@@ -11,8 +11,8 @@ use Rattle.papaya_raw.specs.declared.machines.answer.KeyAnswer.TheVariants as an
 use Rattle.papaya_raw.specs.declared.machines.answer.End.TheVariants as ends
 use Rattle.papaya_raw.specs.declared.machines.asking.Asking.TheVariants as asking
 use Rattle.papaya_raw.specs.declared.machines.asking.Gap.{Gap}
-use Rattle.papaya_raw.specs.declared.machines.asking.Reply.{Reply}
-use Rattle.papaya_raw.specs.declared.machines.asking.Reply.TheVariants as reply
+use Rattle.papaya_raw.specs.declared.machines.asking.MachineReply.{MachineReply}
+use Rattle.papaya_raw.specs.declared.machines.asking.MachineReply.TheVariants as reply
 use Rattle.papaya_raw.specs.declared.machines.asking.Takes.{Takes}
 use Rattle.papaya_raw.specs.declared.machines.asking.Takes.TheVariants as takes
 use Rattle.papaya_raw.specs.declared.machines.asking.Told.{Told}
@@ -46,11 +46,11 @@ module _ {K V Q : Type 0} where
   with_present c word told = record c { replies = record c.replies { pair = block_in word; present = told } }
 
   -- a reply that it does not take comes back, and it goes on asking
-  abbrev pub refusing : KeyCall K V Q → Reply V → KeyCall K V Q × Result Unit (Reply V)
+  abbrev pub refusing : KeyCall K V Q → MachineReply V → KeyCall K V Q × Result Unit (MachineReply V)
   refusing c told = (c, Err told)
 
   -- what to do where the key is missing
-  abbrev pub absent_told : Takes → KeyCall K V Q → Gap → Reply V → KeyCall K V Q × Result Unit (Reply V)
+  abbrev pub absent_told : Takes → KeyCall K V Q → Gap → MachineReply V → KeyCall K V Q × Result Unit (MachineReply V)
   absent_told takes.Values c gap (reply.Insert value) = ((at_gap gap (with_absent c value)).0, Ok tt)
   absent_told takes.Changes c gap (reply.Insert value) = ((at_gap gap (with_absent c value)).0, Ok tt)
   absent_told takes.Changes c gap reply.Remove = ((ending c (ends.Refused RemoveNothing)).0, Ok tt)
@@ -58,7 +58,7 @@ module _ {K V Q : Type 0} where
   absent_told _ c gap told = refusing c told
 
   -- What to do with the pair of a word. Yes and no are not remembered: it asks again for a pair that it meets again.
-  abbrev pub present_told : Takes → KeyCall K V Q → ℕ → Reply V → KeyCall K V Q × Result Unit (Reply V)
+  abbrev pub present_told : Takes → KeyCall K V Q → ℕ → MachineReply V → KeyCall K V Q × Result Unit (MachineReply V)
   present_told takes.Values c word (reply.Insert value) = (standing (with_present c word (tells.Value value)) (at.Asks (asking.Fills word)), Ok tt)
   present_told takes.Changes c word (reply.Insert value) = (standing (with_present c word (tells.Value value)) (at.Asks (asking.Fills word)), Ok tt)
   present_told takes.Changes c word reply.Remove = ((burying (with_present c word tells.Removes) word).0, Ok tt)
@@ -67,11 +67,11 @@ module _ {K V Q : Type 0} where
   present_told takes.Choices c word reply.No = ((answering c (answers.Found word)).0, Ok tt)
   present_told _ c word told = refusing c told
 
-  abbrev pub told_at : Calling → KeyCall K V Q → Reply V → KeyCall K V Q × Result Unit (Reply V)
+  abbrev pub told_at : Calling → KeyCall K V Q → MachineReply V → KeyCall K V Q × Result Unit (MachineReply V)
   told_at (at.Asks (asking.Absent gap)) c told = absent_told c.replies.takes c gap told
   told_at (at.Asks (asking.Present word)) c told = present_told c.replies.takes c word told
   told_at _ c told = refusing c told
 
   -- how it goes on by a reply, and whether it has taken it
-  abbrev pub replied : KeyCall K V Q → Reply V → KeyCall K V Q × Result Unit (Reply V)
+  abbrev pub replied : KeyCall K V Q → MachineReply V → KeyCall K V Q × Result Unit (MachineReply V)
   replied c told = told_at c.stands c told

@@ -1,9 +1,9 @@
 -- A call of a map under way, whichever it is: what its next step does, and how it goes on by a reply, or as it is asked for a pair.
 use Rattle.std.specs.Prelude.{ℕ, Bool, true, false, Result, Ok, Err}
 use Rattle.seize.specs.Given.SeizeWordsPlan.{Plan, plan_as}
-use Rattle.seize.specs.declared.progress.Progress.{Progress as Counting}
+use Rattle.seize.specs.declared.advance.Advance.{Advance as Counting}
 use Rattle.map_tables.specs.declared.node.Node.{Node}
-use Rattle.map_sweeps.specs.Given.ResizeDeclared.outcome.Outcome.{Outcome}
+use Rattle.map_sweeps.specs.Given.ResizeDeclared.yielding.Yielding.{Yielding}
 use Rattle.map_sweeps.specs.Given.ResizeDeclared.sum.Sum.{Sum}
 use Rattle.map_sweeps.specs.Given.ResizeSum.{sum_plan}
 use Rattle.map_sweeps.specs.declared.sweep.Sweep.{Sweep}
@@ -13,8 +13,8 @@ use Rattle.map_sweeps.specs.declared.sweep.Swept.{Swept}
 use Rattle.map_sweeps.specs.Sweeps.Sweep.{sweep_plan}
 use Rattle.map_sweeps.specs.Sweeps.SweepPoints.{after_next, after_reply}
 use Rattle.papaya_raw.specs.declared.machines.answer.Called.{Called}
-use Rattle.papaya_raw.specs.declared.machines.asking.Reply.{Reply}
-use Rattle.papaya_raw.specs.declared.machines.asking.Reply.TheVariants as reply
+use Rattle.papaya_raw.specs.declared.machines.asking.MachineReply.{MachineReply}
+use Rattle.papaya_raw.specs.declared.machines.asking.MachineReply.TheVariants as reply
 use Rattle.papaya_raw.specs.declared.machines.call.KeyCall.{KeyCall}
 use Rattle.map_sweeps.specs.declared.reserve.Reserve.{Reserve}
 use Rattle.papaya_raw.specs.declared.machines.machine.Machine.{Machine}
@@ -27,12 +27,12 @@ use Rattle.map_sweeps.specs.Reserves.Reserve.{reserve_plan}
 
 module _ {V : Type 0} where
   -- a sweep that asks for a pair keeps it by yes, and removes it by no; it takes no other reply
-  abbrev pub sweep_told : Sweeping → Sweep → Reply V → Sweep × Result Unit (Reply V)
+  abbrev pub sweep_told : Sweeping → Sweep → MachineReply V → Sweep × Result Unit (MachineReply V)
   sweep_told (at.Asks word) c reply.Yes = (after_reply c true, Ok tt)
   sweep_told (at.Asks word) c reply.No = (after_reply c false, Ok tt)
   sweep_told _ c told = (c, Err told)
 
-  abbrev pub sweep_replied : Sweep → Reply V → Sweep × Result Unit (Reply V)
+  abbrev pub sweep_replied : Sweep → MachineReply V → Sweep × Result Unit (MachineReply V)
   sweep_replied c told = sweep_told c.stands c told
 
 -- a walk is asked for its next pair, if it is ready
@@ -48,7 +48,7 @@ module _ {K V Q : Type 0} where
   abbrev pub called : KeyCall K V Q × Called (Node K V) → Machine K V Q × Progress (Node K V)
   called (c, told) = (kinds.Key c, of_called told)
 
-  abbrev pub reserved : Reserve × Outcome (Node K V) Unit → Machine K V Q × Progress (Node K V)
+  abbrev pub reserved : Reserve × Yielding (Node K V) Unit → Machine K V Q × Progress (Node K V)
   reserved (c, outcome) = (kinds.Reserve c, of_outcome outcome)
 
   abbrev pub swept : Sweep × Swept (Node K V) → Machine K V Q × Progress (Node K V)
@@ -66,7 +66,7 @@ module _ {K V Q : Type 0} where
   machine_plan asks eq hashes (kinds.Count c) = plan_as counted (sum_plan c)
 
   -- how it goes on by a reply, and whether it has taken it: one that it does not take comes back
-  abbrev pub machine_replied : Machine K V Q → Reply V → Machine K V Q × Result Unit (Reply V)
+  abbrev pub machine_replied : Machine K V Q → MachineReply V → Machine K V Q × Result Unit (MachineReply V)
   machine_replied (kinds.Key c) told = (kinds.Key (replied c told).0, (replied c told).1)
   machine_replied (kinds.Sweep c) told = (kinds.Sweep (sweep_replied c told).0, (sweep_replied c told).1)
   machine_replied c told = (c, Err told)

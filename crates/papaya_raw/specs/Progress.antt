@@ -1,9 +1,9 @@
 -- How far a call of a map is, by what the machine of its kind says.
 use Rattle.std.specs.Prelude.{ℕ, Some}
-use Rattle.seize.specs.declared.progress.Progress.{Progress as Counting}
-use Rattle.seize.specs.declared.progress.Progress.TheVariants as counting
-use Rattle.map_sweeps.specs.Given.ResizeDeclared.outcome.Outcome.{Outcome}
-use Rattle.map_sweeps.specs.Given.ResizeDeclared.outcome.Outcome.TheVariants as outcome
+use Rattle.seize.specs.declared.advance.Advance.{Advance as Counting}
+use Rattle.seize.specs.declared.advance.Advance.TheVariants as counting
+use Rattle.map_sweeps.specs.Given.ResizeDeclared.yielding.Yielding.{Yielding}
+use Rattle.map_sweeps.specs.Given.ResizeDeclared.yielding.Yielding.TheVariants as outcome
 use Rattle.map_sweeps.specs.declared.sweep.Swept.{Swept}
 use Rattle.map_sweeps.specs.declared.sweep.Swept.TheVariants as swept
 use Rattle.papaya_raw.specs.declared.machines.answer.Called.{Called}
@@ -24,7 +24,7 @@ module _ {T : Type 0} where
   of_called (called.Refused fault) = Refused fault
 
   -- of a reservation
-  abbrev pub of_outcome : Outcome T Unit → Progress T
+  abbrev pub of_outcome : Yielding T Unit → Progress T
   of_outcome outcome.Goes = Goes
   of_outcome outcome.Waits = Waits
   of_outcome (outcome.Gave value) = Gave value

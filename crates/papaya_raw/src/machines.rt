@@ -8,7 +8,7 @@ mod machine;
 mod progress;
 
 pub use answer::{Called, End, KeyAnswer, Missing, There};
-pub use asking::{Asking, Gap, Replies, Reply, Takes, Told};
+pub use asking::{Asking, Gap, MachineReply, Replies, Takes, Told};
 pub use call::{Calling, KeyCall, is_same_key, link_to};
 pub use end_map::{EndMap, Ending};
 pub use machine::Machine;

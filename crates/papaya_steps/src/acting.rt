@@ -25,7 +25,7 @@ pub enum Traced {
 
 /// On which map an event acts.
 #[derive(Clone, Copy)]
-pub enum Acting {
+pub enum ActedOn {
     /// On this one, or on none, whatever it comes to.
     On(Option<u64>),
     /// On the first, if there is one, where the event is in turn, and else on the second.
@@ -67,41 +67,41 @@ fn called_map<K: Drop, V: Drop, S>(scheduler: &Scheduler<K, V, S>, caller: &Toke
 pub fn acting_of<K: Drop, V: Drop, S>(
     scheduler: &Scheduler<K, V, S>,
     event: &Event<K, V>,
-) -> Result<Acting, AllocError>
+) -> Result<ActedOn, AllocError>
     ensures { IfOk result (λ acting. acting ≡ acting_of event.now scheduler.now) }
 {
     match event {
-        Event::Step { caller, .. } => Ok(Acting::On(called_map(scheduler, caller))),
-        Event::Go { caller, .. } => Ok(Acting::On(called_map(scheduler, caller))),
-        Event::Next { caller } => Ok(Acting::On(called_map(scheduler, caller))),
+        Event::Step { caller, .. } => Ok(ActedOn::On(called_map(scheduler, caller))),
+        Event::Go { caller, .. } => Ok(ActedOn::On(called_map(scheduler, caller))),
+        Event::Next { caller } => Ok(ActedOn::On(called_map(scheduler, caller))),
         Event::OneCall { map, .. } => {
             let nameless = Token::copy_of(scheduler.maps.alloc(), b"-")?;
-            Ok(Acting::Calls(scheduler.number_of(map), called_map(scheduler, &nameless)))
+            Ok(ActedOn::Calls(scheduler.number_of(map), called_map(scheduler, &nameless)))
         }
-        Event::MakeMap { map, .. } => Ok(Acting::Makes(
+        Event::MakeMap { map, .. } => Ok(ActedOn::Makes(
             scheduler.logged.executor.maps.len() as u64,
             scheduler.number_of(map),
         )),
-        Event::EndMap { map } => Ok(Acting::On(scheduler.number_of(map))),
-        _ => Ok(Acting::On(None)),
+        Event::EndMap { map } => Ok(ActedOn::On(scheduler.number_of(map))),
+        _ => Ok(ActedOn::On(None)),
     }
 }
 
-impl Acting {
+impl ActedOn {
     /// On which map it acts that came to this.
     pub fn map<V>(self, outcome: &Outcome<V>) -> Option<u64>
         ensures { result ≡ map_acted self outcome.now }
     {
         match self {
-            Acting::On(map) => map,
-            Acting::Calls(begun, other) => {
+            ActedOn::On(map) => map,
+            ActedOn::Calls(begun, other) => {
                 if is_busy(outcome) {
                     other
                 } else {
                     begun.or(other)
                 }
             }
-            Acting::Makes(made, other) => match outcome {
+            ActedOn::Makes(made, other) => match outcome {
                 Outcome::Done => other.or(Some(made)),
                 _ => other,
             },

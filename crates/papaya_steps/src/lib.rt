@@ -16,13 +16,13 @@ pub use play_events::{
     Logged, NamedMap, Played, Scheduler, close, end_map, go, make_map, next, one_call, reclaim_all,
     step,
 };
-pub use run_names::crew::Crew as CrewOf;
-pub use run_names::driver::Driver as DriverOf;
-pub use run_names::finished::Finished as FinishedOf;
-pub use run_names::kept::{Applied, Kept};
+pub use run_names::crew::CrewOf;
+pub use run_names::driver::DriverOf;
+pub use run_names::finished::FinishedOf;
+pub use run_names::kept::{Applied, KeptEvent};
 pub use run_names::name::CrewName;
 pub use run_names::runner::Runner;
-pub use run_schedules::call::{Answer, Call, OneKey, Reply};
+pub use run_schedules::call::{Call, OneKey, Reply, Response};
 pub use run_schedules::event::Event;
 pub use run_schedules::key_hash::KeyHash;
 pub use run_schedules::outcome::Outcome;

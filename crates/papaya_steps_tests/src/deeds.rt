@@ -1,12 +1,12 @@
 //! What events do, as rows of tables.
 use run_schedules::effect::Growth::{ABlock, ABucket};
 use run_schedules::effect::Thing::{APair, ATable};
-use run_schedules::effect::{Effect, Spot, Table};
+use run_schedules::effect::{Effect, Spot, TableId};
 use run_schedules::shapes::TableShape;
 
 /// An effect. Tables are those of the first map, by their turns; a pair lies at a place of one.
 #[derive(Clone, Copy)]
-pub enum Deed {
+pub enum EffectRow {
     /// A block is asked for, or a bucket of words of slots.
     Block,
     Bucket,
@@ -29,24 +29,24 @@ pub enum Deed {
     Taken(u64),
 }
 
-fn table(turn: u64) -> Table {
-    Table { map: 0, turn }
+fn table(turn: u64) -> TableId {
+    TableId { map: 0, turn }
 }
 
-impl Deed {
+impl EffectRow {
     /// What it does to a table, or asks for.
     fn on_tables(self) -> Effect {
         match self {
-            Deed::TableMade(turn) => Effect::TableMade(table(turn)),
-            Deed::Linked(turn, len, limit) => Effect::Linked {
+            EffectRow::TableMade(turn) => Effect::TableMade(table(turn)),
+            EffectRow::Linked(turn, len, limit) => Effect::Linked {
                 table: table(turn),
                 shape: TableShape { len, limit },
             },
-            Deed::Promoted(turn) => Effect::Promoted(table(turn)),
-            Deed::TableRetired(turn) => Effect::Retired(ATable(table(turn))),
-            Deed::TableBack(turn) => Effect::Reclaimed(ATable(table(turn))),
-            Deed::Taken(turn) => Effect::Taken(table(turn)),
-            Deed::Bucket => Effect::Asked(ABucket),
+            EffectRow::Promoted(turn) => Effect::Promoted(table(turn)),
+            EffectRow::TableRetired(turn) => Effect::Retired(ATable(table(turn))),
+            EffectRow::TableBack(turn) => Effect::Reclaimed(ATable(table(turn))),
+            EffectRow::Taken(turn) => Effect::Taken(table(turn)),
+            EffectRow::Bucket => Effect::Asked(ABucket),
             _ => Effect::Asked(ABlock),
         }
     }
@@ -54,26 +54,26 @@ impl Deed {
     /// The effect.
     pub fn effect(self) -> Effect {
         match self {
-            Deed::Pair => Effect::PairMade,
-            Deed::GivenUp => Effect::PairGivenUp,
-            Deed::Copied(pair, turn, place) => Effect::Copied {
+            EffectRow::Pair => Effect::PairMade,
+            EffectRow::GivenUp => Effect::PairGivenUp,
+            EffectRow::Copied(pair, turn, place) => Effect::Copied {
                 pair,
                 into: Spot { turn, place },
             },
-            Deed::Stored(pair, turn, place) => Effect::Stored {
+            EffectRow::Stored(pair, turn, place) => Effect::Stored {
                 pair,
                 at: Spot { turn, place },
             },
-            Deed::Replaced(pair) => Effect::Replaced(pair),
-            Deed::Removed(pair) => Effect::Removed(pair),
-            Deed::Counted => Effect::Counted(0),
-            Deed::Deferred(pair, turn) => Effect::Deferred {
+            EffectRow::Replaced(pair) => Effect::Replaced(pair),
+            EffectRow::Removed(pair) => Effect::Removed(pair),
+            EffectRow::Counted => Effect::Counted(0),
+            EffectRow::Deferred(pair, turn) => Effect::Deferred {
                 pair,
                 behind: table(turn),
             },
-            Deed::Retired(pair) => Effect::Retired(APair(pair)),
-            Deed::Back(pair) => Effect::Reclaimed(APair(pair)),
-            Deed::Ended(pair) => Effect::Ended(pair),
+            EffectRow::Retired(pair) => Effect::Retired(APair(pair)),
+            EffectRow::Back(pair) => Effect::Reclaimed(APair(pair)),
+            EffectRow::Ended(pair) => Effect::Ended(pair),
             other => other.on_tables(),
         }
     }

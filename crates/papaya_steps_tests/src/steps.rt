@@ -1,6 +1,6 @@
 //! Events of schedules, as rows of tables.
 use papaya_raw::ResizeMode;
-use run_schedules::call::{Answer, Call, OneKey, Reply};
+use run_schedules::call::{Call, OneKey, Reply, Response};
 use run_schedules::event::Event;
 use run_schedules::outcome::Outcome;
 use run_schedules::token::Token;
@@ -62,20 +62,20 @@ impl Made {
 
 /// What a call is told.
 #[derive(Clone, Copy)]
-pub enum Told {
+pub enum ReplyRow {
     Gives(u64),
     Removes,
     Aborts(u64),
     Decides(bool),
 }
 
-impl Told {
+impl ReplyRow {
     fn reply(self) -> Reply<u64> {
         match self {
-            Told::Gives(value) => Reply::Gives(value),
-            Told::Removes => Reply::Removes,
-            Told::Aborts(value) => Reply::Aborts(value),
-            Told::Decides(is_yes) => Reply::Decides(is_yes),
+            ReplyRow::Gives(value) => Reply::Gives(value),
+            ReplyRow::Removes => Reply::Removes,
+            ReplyRow::Aborts(value) => Reply::Aborts(value),
+            ReplyRow::Decides(is_yes) => Reply::Decides(is_yes),
         }
     }
 }
@@ -95,7 +95,7 @@ pub enum Step {
     /// A call of the caller B, and its steps.
     Beside(Made),
     GoBeside,
-    Says(Told),
+    Says(ReplyRow),
     Go,
     Next,
     Stop,
@@ -212,19 +212,19 @@ fn refused(fault: Fault) -> Shown {
     }
 }
 
-fn answered(answer: &Answer<u64>) -> Shown {
+fn answered(answer: &Response<u64>) -> Shown {
     match answer {
-        Answer::Absent => ABSENT,
-        Answer::Found(number) => found(*number),
-        Answer::Stored(number) => ("stored", *number, 0),
-        Answer::Occupied { there, value } => ("occupied", *there, *value),
-        Answer::Kept(number) => ("kept", *number, 0),
-        Answer::Inserted(number) => ("inserted", *number, 0),
-        Answer::Updated { old, new } => ("updated", *old, *new),
-        Answer::Removed(number) => ("removed", *number, 0),
-        Answer::Aborted(value) => ("aborted", *value, 0),
-        Answer::Completed => COMPLETED,
-        Answer::Counted(count) => ("counted", *count, 0),
+        Response::Absent => ABSENT,
+        Response::Found(number) => found(*number),
+        Response::Stored(number) => ("stored", *number, 0),
+        Response::Occupied { there, value } => ("occupied", *there, *value),
+        Response::Kept(number) => ("kept", *number, 0),
+        Response::Inserted(number) => ("inserted", *number, 0),
+        Response::Updated { old, new } => ("updated", *old, *new),
+        Response::Removed(number) => ("removed", *number, 0),
+        Response::Aborted(value) => ("aborted", *value, 0),
+        Response::Completed => COMPLETED,
+        Response::Counted(count) => ("counted", *count, 0),
     }
 }
 

@@ -27,7 +27,7 @@ use Rattle.run_logged.specs.declared.logged.Logged.{Logged}
 use Rattle.run_executor.specs.Named.Machines.{IsAsFar, machine_for}
 use Rattle.play_scheduler.specs.Played.{BeginsSo, CallsAre, IsUnderWay, StandsFor}
 use Rattle.run_executor.specs.Named.Seen.{Seen, is_named, kind_of, seen, seen_of, setting_named}
-use Rattle.run_executor.specs.declared.caller.Caller.{Caller}
+use Rattle.run_executor.specs.declared.caller.NamedCaller.{NamedCaller}
 use Rattle.run_executor.specs.declared.caller.Stands.TheVariants as far
 use Rattle.play_scheduler.specs.declared.scheduler.Scheduler.{Scheduler}
 use Rattle.run_executor.proofs.Named.Called.{begins_for_room, begun_call, begins_so, is_as_far, is_begun_for, is_called, its_machine}
@@ -46,7 +46,7 @@ and_parts true b e = (refl, e)
 and_parts false b e = absurd (cc e)
 
 module _ {K V S : Type 0} (same : K → K → Bool) (hash : K → ℕ) (terms : Terms) (m : Moment K V) (p : Scheduler K V S) (stands : StandsFor same hash terms m p) where
-  abbrev calls : List (Caller V)
+  abbrev calls : List (NamedCaller V)
   calls = p.calls
 
   abbrev s : Scene K V
@@ -63,7 +63,7 @@ module _ {K V S : Type 0} (same : K → K → Bool) (hash : K → ℕ) (terms : 
   -- a name that no caller has no call under way has
   pub none_named : (own : List ℕ) → list_any (is_named own) calls ≡ false → NoneNamed stands.name own s
   none_named own none n i u is =
-      let Way : Caller V → Type 0 = λ d. (is_same d.name own ≡ false) × IsUnderWay stands.name s p.there d in
+      let Way : NamedCaller V → Type 0 = λ d. (is_same d.name own ≡ false) × IsUnderWay stands.name s p.there d in
       let all = all_but (IsUnderWay stands.name s p.there) Way (is_named own) (λ d other way. (other, way)) calls none stands.calls.each in
       let d = one_of Way (λ d. (d.map == n) && (d.number == i)) calls (stands.calls.only n i u is) all in
       let number = eqb-true d.0.number i (and_parts (d.0.map == n) (d.0.number == i) d.2).1 in
@@ -111,7 +111,7 @@ module _ {K V S : Type 0} (same : K → K → Bool) (hash : K → ℕ) (terms : 
       u = begun_call same st i call
 
       module _ (new : Logged K V S) (leads : (names : ℕ → List ℕ) (v : Moment K V) (t : Scene K V) → IsShown same hash names v p.logged t
-          → CallBegins same hash names v t i number (machine_for (record setting { slot = slot }) hash call) p.logged new) (caller : Caller V)
+          → CallBegins same hash names v t i number (machine_for (record setting { slot = slot }) hash call) p.logged new) (caller : NamedCaller V)
           (is : seen_of caller ≡ record { name = own; guard = guard; map = number; kind = kind_of call; far = far.Goes }) (numbered : caller.number ≡ i) where
         abbrev pub names : ℕ → List ℕ
         names = put i own stands.name
@@ -152,7 +152,7 @@ module _ {K V S : Type 0} (same : K → K → Bool) (hash : K → ℕ) (terms : 
         pub name_here : names i ≡ own
         name_here = ap (λ (b : Bool). if b then own else stands.name i) (eq-eqb i i refl)
 
-        still : (d : Caller V) → IsUnderWay stands.name s p.there d → IsUnderWay names then_at p.there d
+        still : (d : NamedCaller V) → IsUnderWay stands.name s p.there d → IsUnderWay names then_at p.there d
         still d way =
             let ne = not_it d.map d.number way.0 way.1 in
             (way.0, there_then d.map d.number ne ∙ way.1, name_then d.number ne ∙ way.2, way.3, way.4)
@@ -226,7 +226,7 @@ module _ {K V S : Type 0} (same : K → K → Bool) (hash : K → ℕ) (terms : 
                 no_work_at same hash new.executor then_at shown.is_at j none (no_making_of same hash p.logged.executor s at j before) (no_ending_of same hash p.logged.executor s at j before)
                 (row_rests same hash p.logged.executor s at j before)
 
-        stands_then : (calls2 : List (Caller V)) → calls2 ≡ caller ∷ calls → StandsFor same hash terms (with_call own guard call (Some number) m) (record p { logged = new; calls = calls2 })
+        stands_then : (calls2 : List (NamedCaller V)) → calls2 ≡ caller ∷ calls → StandsFor same hash terms (with_call own guard call (Some number) m) (record p { logged = new; calls = calls2 })
         stands_then calls2 items = record {
           name = names;
           scene = then_at;
@@ -235,7 +235,7 @@ module _ {K V S : Type 0} (same : K → K → Bool) (hash : K → ℕ) (terms : 
           there = stands.there;
           mapped = stands.mapped;
           closed = stands.closed;
-          calls = subst (λ (xs : List (Caller V)). CallsAre names then_at p.there (with_call own guard call (Some number) m) xs) (sym items) (record {
+          calls = subst (λ (xs : List (NamedCaller V)). CallsAre names then_at p.there (with_call own guard call (Some number) m) xs) (sym items) (record {
             listed = ap (λ (z : Seen). z ∷ map seen m.calls) (sym is) ∙ ap (λ (l : List Seen). seen_of caller ∷ l) stands.calls.listed;
             once = once_then;
             each = (way_then, all_so (IsUnderWay stands.name s p.there) (IsUnderWay names then_at p.there) still calls stands.calls.each);
@@ -247,7 +247,7 @@ module _ {K V S : Type 0} (same : K → K → Bool) (hash : K → ℕ) (terms : 
           names = stands.names;
         }
 
-        pub begun : (calls2 : List (Caller V)) → calls2 ≡ caller ∷ calls → caller.value ≡ None → new.notes ≡ p.logged.notes
+        pub begun : (calls2 : List (NamedCaller V)) → calls2 ≡ caller ∷ calls → caller.value ≡ None → new.notes ≡ p.logged.notes
             → ((t : Scene K V) → IsThere same hash p.logged.executor t → BeginsThere same hash number (machine_for (record setting { slot = slot }) hash call) i t p.logged.executor new.executor)
             → BeginsSo same hash terms m own guard name call true p (record p { logged = new; calls = calls2 })
         begun calls2 items keeps_none kept begins = record {

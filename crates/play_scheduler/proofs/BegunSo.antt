@@ -17,9 +17,9 @@ use Rattle.run_logged.specs.declared.logged.Logged.{Logged}
 use Rattle.run_executor.specs.Named.Machines.{machine_for}
 use Rattle.play_scheduler.specs.Played.{BeginsSo, StandsFor}
 use Rattle.run_executor.specs.Named.Seen.{Seen, is_named, kind_of, setting_named}
-use Rattle.run_executor.specs.declared.caller.Caller.{Caller}
+use Rattle.run_executor.specs.declared.caller.NamedCaller.{NamedCaller}
 use Rattle.run_executor.specs.declared.caller.Stands.TheVariants as far
-use Rattle.run_executor.specs.declared.kind.Kind.{Kind}
+use Rattle.run_executor.specs.declared.kind.CallKind.{CallKind}
 use Rattle.play_scheduler.specs.declared.scheduler.Scheduler.{Scheduler}
 use Rattle.run_executor.specs.Executing.Beginning.{BeginsThere}
 use Rattle.run_executor.specs.Executing.IsThere.{IsThere}
@@ -30,7 +30,7 @@ use Rattle.run_shows.specs.Scenes.Scene.{Scene}
 
 module _ {K V S : Type 0} (same : K → K → Bool) (hash : K → ℕ) (terms : Terms) (m : Moment K V) (p : Scheduler K V S) (stands : StandsFor same hash terms m p) (own guard name : List ℕ)
     (call : Call K V) where
-  abbrev calls : List (Caller V)
+  abbrev calls : List (NamedCaller V)
   calls = p.calls
 
   -- another call has the name
@@ -71,10 +71,10 @@ module _ {K V S : Type 0} (same : K → K → Bool) (hash : K → ℕ) (terms : 
   -- it begins
   pub has_begun : list_any (is_named own) calls ≡ false → (slot : ℕ) → living_slot (guard_of guard p.there.guards) ≡ Some slot → (number : ℕ) (setting : Setting)
       → setting_named name p.maps p.logged.executor.maps.items ≡ Some (number, setting) → (i : ℕ) → i ≡ length p.logged.executor.workers.items * SLOTS + slot
-      → (machine : Machine K V K) → machine ≡ machine_for (record setting { slot = slot }) hash call → (kind : Kind) → kind ≡ kind_of call → (new : Logged K V S)
+      → (machine : Machine K V K) → machine ≡ machine_for (record setting { slot = slot }) hash call → (kind : CallKind) → kind ≡ kind_of call → (new : Logged K V S)
       → ((names : ℕ → List ℕ) (v : Moment K V) (t : Scene K V) → IsShown same hash names v p.logged t → CallBegins same hash names v t i number machine p.logged new)
       → ((t : Scene K V) → IsThere same hash p.logged.executor t → BeginsThere same hash number machine i t p.logged.executor new.executor)
-      → (calls2 : List (Caller V)) → calls2 ≡ record { name = own; guard = guard; map = number; number = i; kind = kind; stands = far.Goes; value = None } ∷ calls
+      → (calls2 : List (NamedCaller V)) → calls2 ≡ record { name = own; guard = guard; map = number; number = i; kind = kind; stands = far.Goes; value = None } ∷ calls
       → new.notes ≡ p.logged.notes → BeginsSo same hash terms m own guard name call true p (record p { logged = new; calls = calls2 })
   has_begun free slot lives number setting found i is_i machine is_machine kind is_kind new leads begins calls2 items kept =
       begun same hash terms m p stands own guard name call free slot lives number setting found new
@@ -82,6 +82,6 @@ module _ {K V S : Type 0} (same : K → K → Bool) (hash : K → ℕ) (terms : 
       (subst (λ (n : ℕ). CallBegins same hash names v t n number (machine_for (record setting { slot = slot }) hash call) p.logged new) is_i
       (subst (λ (x : Machine K V K). CallBegins same hash names v t i number x p.logged new) is_machine (leads names v t shown))))
       (record { name = own; guard = guard; map = number; number = i; kind = kind; stands = far.Goes; value = None })
-      (ap {B = Seen} (λ (k : Kind). record { name = own; guard = guard; map = number; kind = k; far = far.Goes }) is_kind) is_i calls2 items refl kept
+      (ap {B = Seen} (λ (k : CallKind). record { name = own; guard = guard; map = number; kind = k; far = far.Goes }) is_kind) is_i calls2 items refl kept
       (λ t at. subst (λ (n : ℕ). BeginsThere same hash number (machine_for (record setting { slot = slot }) hash call) n t p.logged.executor new.executor) is_i
       (subst (λ (x : Machine K V K). BeginsThere same hash number x i t p.logged.executor new.executor) is_machine (begins t at)))

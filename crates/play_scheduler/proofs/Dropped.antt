@@ -3,7 +3,7 @@ use Rattle.std.specs.Prelude.{◌==◌, ◌⊎◌, ◌≢◌, cond, is_some, Opt
 use Rattle.std.specs.List.{AllByRecursion, list_any}
 use Rattle.std.proofs.Common.{◌≡◌, ℕ, ◌+◌, ◌<◌, Bool, true, false, List, refl, sym, ap, subst, ◌∙◌, inl, inr, arith}
 use Rattle.std.proofs.lemmas.Bool.{cases_eq, eq-eqb, ne_eqb}
-use Rattle.run_schedules.specs.declared.holders.Guard.{Guard}
+use Rattle.run_schedules.specs.declared.holders.NamedGuard.{NamedGuard}
 use Rattle.run_schedules.specs.Runs.Present.{Present, HaveNames, drops, guard_of, guards_on, living_slot}
 use Rattle.run_schedules.specs.Runs.Same.{is_same}
 use Rattle.run_schedules.proofs.Runs.Laws.{drops_counts}
@@ -24,7 +24,7 @@ use Rattle.run_executor.specs.Executing.IsThere.{use_at}
 use Rattle.run_executor.specs.Executing.OnSlots.{NobodyIn}
 
 -- the guard that lives on a slot
-pub lives_on : (o : Option Guard) (slot : ℕ) → living_slot o ≡ Some slot → (g : Guard) × (o ≡ Some g) × (g.slot ≡ slot)
+pub lives_on : (o : Option NamedGuard) (slot : ℕ) → living_slot o ≡ Some slot → (g : NamedGuard) × (o ≡ Some g) × (g.slot ≡ slot)
 lives_on None slot e = absurd (cc e)
 lives_on (Some g) slot e = (g, refl, by g.forgotten e)
   where
@@ -36,7 +36,7 @@ module _ (guard : List ℕ) (slot : ℕ) (there : Present) (names : HaveNames th
   abbrev pub less : Present
   less = drops guard there
 
-  its : (g : Guard) × (guard_of guard there.guards ≡ Some g) × (g.slot ≡ slot)
+  its : (g : NamedGuard) × (guard_of guard there.guards ≡ Some g) × (g.slot ≡ slot)
   its = lives_on (guard_of guard there.guards) slot lives
 
   counted : (t : ℕ) → guards_on t less.guards + cond (its.0.slot == t) 1 0 ≡ guards_on t there.guards

@@ -6,7 +6,7 @@ use Rattle.std.proofs.lemmas.Bool.{cases_eq, eq-eqb, ne_eqb}
 use Rattle.std.proofs.lemmas.List.{get_or-set_other, get_or-set_same, length-set}
 use Rattle.seize_words.specs.declared.fault.Fault.TheVariants.{Busy, GuardsFull}
 use Rattle.papaya_raw.specs.Given.TablesDeclared.node.Node.{Node}
-use Rattle.run_schedules.specs.declared.holders.Guard.{Guard}
+use Rattle.run_schedules.specs.declared.holders.NamedGuard.{NamedGuard}
 use Rattle.run_schedules.specs.Runs.Present.{Present, enters_slot, guard_of, guards_on, has_registration, living_slot, registration_of, slot_of_registration}
 use Rattle.run_schedules.specs.Runs.Runs.{MOST_GUARDS}
 use Rattle.run_schedules.specs.Runs.Same.{is_same}
@@ -52,7 +52,7 @@ none_is None e = refl
 none_is (Some x) e = absurd (cc e)
 
 -- guards that are there are found as before where one more comes
-pub found_more : (name : List ℕ) (guards more : List Guard) (slot : ℕ) → living_slot (guard_of name guards) ≡ Some slot → living_slot (guard_of name (guards ++ more)) ≡ Some slot
+pub found_more : (name : List ℕ) (guards more : List NamedGuard) (slot : ℕ) → living_slot (guard_of name guards) ≡ Some slot → living_slot (guard_of name (guards ++ more)) ≡ Some slot
 found_more name [] more slot e = absurd (cc e)
 found_more name (g ∷ guards) more slot e = by (is_same g.name name) e (found_more name guards more slot)
   where
@@ -65,7 +65,7 @@ module _ (guard : List ℕ) (slot : ℕ) (there : Present) where
   abbrev more : Present
   more = enters_slot guard slot there
 
-  abbrev new : Guard
+  abbrev new : NamedGuard
   new = record { name = guard; slot = slot; forgotten = false }
 
   on_it : guards_on slot more.guards ≢ 0

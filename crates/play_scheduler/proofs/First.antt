@@ -8,7 +8,7 @@ use Rattle.run_shows.specs.declared.row.SlotUse.TheVariants as used
 use Rattle.run_logged.specs.Log.Shown.{IsShown}
 use Rattle.run_logged.specs.Rows.Rows.{used_as}
 use Rattle.play_scheduler.specs.Played.{CallsAre, IsPlayed, MapsAre, terms_given}
-use Rattle.run_executor.specs.declared.caller.Caller.{Caller}
+use Rattle.run_executor.specs.declared.caller.NamedCaller.{NamedCaller}
 use Rattle.run_executor.specs.declared.named_map.NamedMap.{NamedMap}
 use Rattle.play_scheduler.specs.declared.scheduler.Scheduler.{Scheduler}
 use Rattle.run_logged.proofs.Rows.Facts.{no_work_at, used_once}
@@ -31,7 +31,7 @@ module _ {K V S : Type 0} (same : K → K → Bool) (hash : K → ℕ) (p : Sche
     there = sym there;
     mapped = sym mapped;
     closed = sym closed;
-    calls = subst (λ (xs : List (Caller V)). CallsAre {K = K} {V = V} name (at_first roots) p.there start xs) (sym calls)
+    calls = subst (λ (xs : List (NamedCaller V)). CallsAre {K = K} {V = V} name (at_first roots) p.there start xs) (sym calls)
         (record { listed = refl; once = λ own. omega arith; each = tt; only = λ n i u is. absurd (cc is) });
     maps = subst (λ (xs : List NamedMap). MapsAre {K = K} {V = V} (at_first roots) start xs) (sym maps) (record { listed = refl; stand = tt });
     slots = λ slot. used_once (use_at p.logged.executor slot) used.Vacant Vacant ((shown name).is_at.uses slot) refl ∙ subst (λ (x : Present). used.Vacant ≡ used_as slot x) (sym there) refl;

@@ -24,7 +24,7 @@ use Rattle.run_executor.specs.declared.worker.Work.{Work}
 use Rattle.run_executor.specs.declared.worker.Work.TheVariants as work
 use Rattle.play_scheduler.specs.Played.{IsUnderWay, StandsFor}
 use Rattle.run_executor.specs.Named.Seen.{Seen, is_named, seen, seen_of}
-use Rattle.run_executor.specs.declared.caller.Caller.{Caller}
+use Rattle.run_executor.specs.declared.caller.NamedCaller.{NamedCaller}
 use Rattle.play_scheduler.specs.declared.scheduler.Scheduler.{Scheduler}
 use Rattle.play_scheduler.proofs.Dropped.{lives_on}
 use Rattle.run_logged.proofs.Rows.Facts.{row_rests}
@@ -60,7 +60,7 @@ some_call None machine e = absurd (cc e)
 some_call (Some u) machine e = (u, refl)
 
 module _ {K V S : Type 0} (same : K → K → Bool) (hash : K → ℕ) (terms : Terms) (m : Moment K V) (p : Scheduler K V S) (stands : StandsFor same hash terms m p) where
-  abbrev calls : List (Caller V)
+  abbrev calls : List (NamedCaller V)
   calls = p.calls
 
   -- who has the batch has a call under way,
@@ -90,7 +90,7 @@ module _ {K V S : Type 0} (same : K → K → Bool) (hash : K → ℕ) (terms : 
     abbrev own : List ℕ
     own = stands.name j
 
-    abbrev its : Caller V → Bool
+    abbrev its : NamedCaller V → Bool
     its d = (d.map == map) && (d.number == j)
 
     abbrev there : (c : CallThere K V) × (call_of own m ≡ Some c) × (c.map ≡ map) × IsCalled same u c.call
@@ -102,7 +102,7 @@ module _ {K V S : Type 0} (same : K → K → Bool) (hash : K → ℕ) (terms : 
         (λ d way same_one. (same_tells d.name own).1 (sym way.2 ∙ ap stands.name (eqb-true d.number j (both_true (d.map == map) (d.number == j) same_one).1))) calls stands.calls.each
 
     -- the caller that is found by its name is its own
-    found : (d : Caller V) × (find (is_named own) calls ≡ Some d) × (seen there.0 ≡ seen_of d)
+    found : (d : NamedCaller V) × (find (is_named own) calls ≡ Some d) × (seen there.0 ≡ seen_of d)
     found =
         let it = both_some seen_of seen (find (is_named own) calls) (call_of own m)
         (sym (found_alike seen seen_of m.calls calls stands.calls.listed (λ (z : Seen). is_same z.name own))) there.0 there.1 in

@@ -10,13 +10,13 @@ use Rattle.run_schedules.specs.Schedules.Views.{call_of}
 use Rattle.run_shows.proofs.Follows.Calling.{is_same_is}
 use Rattle.play_scheduler.specs.Played.{AsFar, IsUnderWayAs, StandsAs, StandsFor}
 use Rattle.run_executor.specs.Named.Seen.{Seen, is_named, seen, seen_of}
-use Rattle.run_executor.specs.declared.caller.Caller.{Caller}
+use Rattle.run_executor.specs.declared.caller.NamedCaller.{NamedCaller}
 use Rattle.play_scheduler.specs.declared.scheduler.Scheduler.{Scheduler}
 use Rattle.run_logged.proofs.Rows.Lists.{got, as_some, both_some, found_alike, found_has, found_passes, is_found, place_found, place_is, place_some}
 
-module _ {K V S : Type 0} (Far : Caller V → Machine K V K → Type 0) (same : K → K → Bool) (hash : K → ℕ) (terms : Terms) (m : Moment K V) (p : Scheduler K V S)
+module _ {K V S : Type 0} (Far : NamedCaller V → Machine K V K → Type 0) (same : K → K → Bool) (hash : K → ℕ) (terms : Terms) (m : Moment K V) (p : Scheduler K V S)
     (stands : StandsAs Far same hash terms m p) (own : List ℕ) where
-  abbrev calls : List (Caller V)
+  abbrev calls : List (NamedCaller V)
   calls = p.calls
 
   abbrev place_there : Option ℕ
@@ -31,7 +31,7 @@ module _ {K V S : Type 0} (Far : Caller V → Machine K V K → Type 0) (same : 
 
   -- who stands at its place: it has that name, and the moment has its call
   pub record HereAs (place : ℕ) : Type 0 where
-    pub caller : Caller V
+    pub caller : NamedCaller V
     pub at : slice_get calls place ≡ Some caller
     pub first : place ≡ position_or_len (is_named own) calls
     pub any : list_any (is_named own) calls ≡ true
@@ -48,7 +48,7 @@ module _ {K V S : Type 0} (Far : Caller V → Machine K V K → Type 0) (same : 
       any : list_any (is_named own) calls ≡ true
       any = sym (place_some (is_named own) calls (Some place) is)
 
-      by : (o : Option (Caller V)) → find (is_named own) calls ≡ o → HereAs place
+      by : (o : Option (NamedCaller V)) → find (is_named own) calls ≡ o → HereAs place
       by None f = absurd (let a = is_found (is_named own) calls ∙ any in let b = ap is_some f in cc (a, b))
       by (Some d) f =
           let there = both_some seen seen_of (call_of own m) (find (is_named own) calls) alike d f in
@@ -66,7 +66,7 @@ module _ {K V S : Type 0} (Far : Caller V → Machine K V K → Type 0) (same : 
           }
 
   -- who is read there
-  pub read_as : (place : ℕ) (here : HereAs place) (x : Caller V) → x ≡ slice_index_or calls place x → x ≡ here.caller
+  pub read_as : (place : ℕ) (here : HereAs place) (x : NamedCaller V) → x ≡ slice_index_or calls place x → x ≡ here.caller
   read_as place here x e = e ∙ got calls place here.caller x here.at
 
 -- where each machine is as far as its caller says
@@ -80,5 +80,5 @@ module _ {K V S : Type 0} (same : K → K → Bool) (hash : K → ℕ) (terms : 
   abbrev pub here_at : (place : ℕ) → Some place ≡ position (is_named own) p.calls → Here place
   here_at = here_as_at AsFar same hash terms m p stands own
 
-  pub read_here : (place : ℕ) (here : Here place) (x : Caller V) → x ≡ slice_index_or p.calls place x → x ≡ here.caller
+  pub read_here : (place : ℕ) (here : Here place) (x : NamedCaller V) → x ≡ slice_index_or p.calls place x → x ≡ here.caller
   read_here = read_as AsFar same hash terms m p stands own

@@ -8,7 +8,7 @@ use Rattle.papaya_raw.specs.Given.TablesDeclared.setting.Setting.{Setting}
 use Rattle.run_schedules.specs.Runs.Present.{Present, HaveNames, guards_on}
 use Rattle.run_schedules.specs.declared.effect.Effect.{Effect}
 use Rattle.run_schedules.specs.declared.effect.Effect.TheVariants.{Promoted}
-use Rattle.run_schedules.specs.declared.effect.Table.{Table}
+use Rattle.run_schedules.specs.declared.effect.TableId.{TableId}
 use Rattle.run_schedules.specs.Schedules.Effects.{maps_by, promoted, with_effect, with_effects}
 use Rattle.run_schedules.specs.Schedules.Moment.{MapThere, Remains, Sheltered, UnderWay as CallThere, Moment}
 use Rattle.run_schedules.specs.Schedules.Terms.{Terms}
@@ -37,7 +37,7 @@ use Rattle.run_executor.specs.Executing.OnSlots.{MayBegin, NobodyIn}
 use Rattle.run_shows.specs.Scenes.Scene.{Scene, slot_of}
 
 -- names and numbers of maps stay, whatever effects there are
-same_named : (t : Table) (f : MapThere) → named (promoted t f) ≡ named f
+same_named : (t : TableId) (f : MapThere) → named (promoted t f) ≡ named f
 same_named t f = by (f.number == t.map)
   where
     by : (b : Bool) → named (if b then record f { first = t.turn } else f) ≡ named f

@@ -15,11 +15,11 @@ use Rattle.papaya_raw.specs.Given.ReservesDeclared.sweep.Sweeping.{Sweeping}
 use Rattle.papaya_raw.specs.Given.ReservesDeclared.sweep.Sweeping.TheVariants as sweeping
 use Rattle.papaya_raw.specs.declared.machines.call.KeyCall.{KeyCall}
 use Rattle.papaya_raw.specs.declared.machines.machine.Machine.TheVariants as kinds
-use Rattle.papaya_raw.specs.declared.machines.asking.Reply.TheVariants as machine_reply
+use Rattle.papaya_raw.specs.declared.machines.asking.MachineReply.TheVariants as machine_reply
 use Rattle.papaya_raw.specs.Machine.{machine_replied, sweep_told}
 use Rattle.papaya_raw.specs.CallAsks.{told_at}
 use Rattle.papaya_raw.specs.declared.machines.asking.Asking.{Asking}
-use Rattle.papaya_raw.specs.declared.machines.asking.Reply.{Reply as MachineReply}
+use Rattle.papaya_raw.specs.declared.machines.asking.MachineReply.{MachineReply}
 use Rattle.papaya_raw.specs.declared.machines.call.Calling.{Calling}
 use Rattle.papaya_raw.specs.declared.machines.call.Calling.TheVariants as at
 use Rattle.papaya_raw.specs.declared.machines.machine.Machine.{Machine}
@@ -60,10 +60,10 @@ use Rattle.run_logged.specs.declared.logged.Logged.{Logged}
 use Rattle.run_executor.specs.Named.Machines.{IsAsFar, IsFor, RefusedForRoom}
 use Rattle.play_scheduler.specs.Played.{CallsAre, IsDue, IsUnderWay, Plays, StandsFor}
 use Rattle.run_executor.specs.Named.Seen.{Seen, asks, far_of, fits, is_named, kind_of, kind_on, seen, seen_of, takes}
-use Rattle.run_executor.specs.declared.caller.Caller.{Caller}
+use Rattle.run_executor.specs.declared.caller.NamedCaller.{NamedCaller}
 use Rattle.run_executor.specs.declared.caller.Stands.{Stands as HowFar}
 use Rattle.run_executor.specs.declared.caller.Stands.TheVariants as far
-use Rattle.run_executor.specs.declared.kind.Kind.{Kind}
+use Rattle.run_executor.specs.declared.kind.CallKind.{CallKind}
 use Rattle.play_scheduler.specs.declared.scheduler.Scheduler.{Scheduler}
 use Rattle.run_logged.proofs.Rows.Facts.{no_ending_of, no_making_of, no_work_at, row_rests, used_still}
 use Rattle.play_scheduler.proofs.Here.{Here, here_at, there_is}
@@ -161,7 +161,7 @@ told_for_room {K} {V} (kinds.Sweep c) told room = by c.stands told
     by (sweeping.Asks word) machine_reply.Abort = room
     by _ reply = room
 
-goes_far : {K V : Type 0} (kind : Kind) (question : Option ℕ) (machine : Machine K V K) (told : MachineReply V) → IsAsFar kind (far.Asks question) machine → IsAsFar kind far.Goes (machine_replied machine told).0
+goes_far : {K V : Type 0} (kind : CallKind) (question : Option ℕ) (machine : Machine K V K) (told : MachineReply V) → IsAsFar kind (far.Asks question) machine → IsAsFar kind far.Goes (machine_replied machine told).0
 goes_far kind question (kinds.Key call) told is = tt
 goes_far kind question (kinds.Reserve c) told is = tt
 goes_far kind question (kinds.Count c) told is = tt
@@ -179,7 +179,7 @@ module _ {K V S : Type 0} (same : K → K → Bool) (hash : K → ℕ) (terms : 
   abbrev s : Scene K V
   s = stands.scene
 
-  abbrev calls : List (Caller V)
+  abbrev calls : List (NamedCaller V)
   calls = p.calls
 
   abbrev wanted : Outcome V → Type 0
@@ -202,7 +202,7 @@ module _ {K V S : Type 0} (same : K → K → Bool) (hash : K → ℕ) (terms : 
     abbrev here : Here same hash terms m p stands own place
     here = here_at same hash terms m p stands own place placed
 
-    abbrev d : Caller V
+    abbrev d : NamedCaller V
     d = here.caller
 
     abbrev c : CallThere K V
@@ -214,10 +214,10 @@ module _ {K V S : Type 0} (same : K → K → Bool) (hash : K → ℕ) (terms : 
         ∙ ap (λ (b : Bool). asks (far_of c.stands) && b) (fits_seen c.call reply) ∙ ap (λ (z : Seen). asks z.far && fits z.kind reply) here.as_seen
 
     -- one that does not take it
-    pub takes_none : (x : Caller V) → slice_get calls place ≡ Some x → takes x reply ≡ false → Plays same hash terms log (quiet (Replied own reply) (Refused Busy)) p
-    takes_none x at fails = busy (fits_here ∙ ap (λ (y : Caller V). takes y reply) (the d x (sym here.at ∙ at)) ∙ fails)
+    pub takes_none : (x : NamedCaller V) → slice_get calls place ≡ Some x → takes x reply ≡ false → Plays same hash terms log (quiet (Replied own reply) (Refused Busy)) p
+    takes_none x at fails = busy (fits_here ∙ ap (λ (y : NamedCaller V). takes y reply) (the d x (sym here.at ∙ at)) ∙ fails)
       where
-        the : (a b : Caller V) → Some a ≡ Some b → a ≡ b
+        the : (a b : NamedCaller V) → Some a ≡ Some b → a ≡ b
         the a b e = cc e
 
     module _ (takes_it : takes d reply ≡ true) where
@@ -346,17 +346,17 @@ module _ {K V S : Type 0} (same : K → K → Bool) (hash : K → ℕ) (terms : 
         maps_then n j other = ap (λ (f : ℕ → Option (UnderWay K V K)). f j) (at_other s.calls d.map _ n other)
 
         module _ (value : Option V) where
-          abbrev resumed : Caller V
+          abbrev resumed : NamedCaller V
           resumed = record d { stands = far.Goes; value = value }
 
-          abbrev calls2 : List (Caller V)
+          abbrev calls2 : List (NamedCaller V)
           calls2 = slice_set calls place resumed
 
           way_then : IsUnderWay stands.name then_at p.there resumed
           way_then = (to.0, here_then, here.way.2, here.way.3, (subst (IsAsFar d.kind far.Goes) (sym to.1) (goes_far d.kind question (machine_of u) (as_told reply) as_far), subst RefusedForRoom (sym to.1) (told_for_room (machine_of u) (as_told reply) here.way.4.1)))
 
           -- others have other numbers
-          still : (x : Caller V) → is_named own x ≡ false → IsUnderWay stands.name s p.there x → IsUnderWay stands.name then_at p.there x
+          still : (x : NamedCaller V) → is_named own x ≡ false → IsUnderWay stands.name s p.there x → IsUnderWay stands.name then_at p.there x
           still x other way = (way.0, there_then x.map x.number ne ∙ way.1, way.2, way.3, way.4)
             where
               ne : x.number ≢ i
@@ -372,14 +372,14 @@ module _ {K V S : Type 0} (same : K → K → Bool) (hash : K → ℕ) (terms : 
               changed_at seen seen_of (λ (z : Seen). is_same z.name own) (λ x. replied reply x x.stands) resumed m.calls calls stands.calls.listed (stands.calls.once own) here.any so
               ∙ ap (λ (k : ℕ). map seen_of (slice_set calls k resumed)) (sym here.first)
             where
-              so : (x : CallThere K V) (y : Caller V) → find (is_named own) calls ≡ Some y → seen x ≡ seen_of y → seen (replied reply x x.stands) ≡ seen_of resumed
+              so : (x : CallThere K V) (y : NamedCaller V) → find (is_named own) calls ≡ Some y → seen x ≡ seen_of y → seen (replied reply x x.stands) ≡ seen_of resumed
               so x y found alike =
                   let same_one : y ≡ d = (let h = sym found ∙ here.found in the y d h) in
                   let seen_x : seen x ≡ seen_of d = alike ∙ ap seen_of same_one in
                   let at_x : x.stands ≡ Asks question = far_asks x.stands question (ap (λ (z : Seen). z.far) seen_x ∙ asks_it) in
                   ap (λ (stand : Stands). seen (replied reply x stand)) at_x ∙ ap (λ (z : Seen). record z { far = far.Goes }) seen_x
                 where
-                  the : (a b : Caller V) → Some a ≡ Some b → a ≡ b
+                  the : (a b : NamedCaller V) → Some a ≡ Some b → a ≡ b
                   the a b e = cc e
 
           only_then : (n j : ℕ) (x : UnderWay K V K) → then_at.calls n j ≡ Some x → list_any (λ y. (y.map == n) && (y.number == j)) calls2 ≡ true
@@ -407,7 +407,7 @@ module _ {K V S : Type 0} (same : K → K → Bool) (hash : K → ℕ) (terms : 
                   no_work_at same hash new.executor then_at shown.is_at j none (no_making_of same hash p.logged.executor s at_s j before) (no_ending_of same hash p.logged.executor s at_s j before)
                   (row_rests same hash p.logged.executor s at_s j before)
 
-          stands_then : (callers : List (Caller V)) → callers ≡ calls2 → StandsFor same hash terms then_m (record p { logged = new; calls = callers })
+          stands_then : (callers : List (NamedCaller V)) → callers ≡ calls2 → StandsFor same hash terms then_m (record p { logged = new; calls = callers })
           stands_then callers items = record {
             name = stands.name;
             scene = then_at;
@@ -416,7 +416,7 @@ module _ {K V S : Type 0} (same : K → K → Bool) (hash : K → ℕ) (terms : 
             there = stands.there;
             mapped = stands.mapped;
             closed = stands.closed;
-            calls = subst (λ (xs : List (Caller V)). CallsAre stands.name then_at p.there then_m xs) (sym items) (record {
+            calls = subst (λ (xs : List (NamedCaller V)). CallsAre stands.name then_at p.there then_m xs) (sym items) (record {
               listed = listed_then;
               once = λ other. subst (λ (n : ℕ). n ≤ 1) (sym (set_count (is_named other) calls place d resumed here.at refl)) (stands.calls.once other);
               each = each_then;
@@ -428,7 +428,7 @@ module _ {K V S : Type 0} (same : K → K → Bool) (hash : K → ℕ) (terms : 
             names = stands.names;
           }
 
-          pub told : (callers : List (Caller V)) → callers ≡ calls2 → Plays same hash terms log (quiet (Replied own reply) Goes) (record p { logged = new; calls = callers })
+          pub told : (callers : List (NamedCaller V)) → callers ≡ calls2 → Plays same hash terms log (quiet (Replied own reply) Goes) (record p { logged = new; calls = callers })
           told callers items =
               let e = quiet (Replied own reply) Goes in
               let p2 = record p { logged = new; calls = callers } in

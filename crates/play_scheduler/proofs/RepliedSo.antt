@@ -2,7 +2,7 @@
 use Rattle.std.specs.Prelude.{◌≡◌, ℕ, Bool, true, false, List, Result, Option, Some, position, slice_get, slice_index_or, slice_set}
 use Rattle.std.specs.Result.{is_err}
 use Rattle.std.proofs.Common.{sym, ap, subst, ◌∙◌}
-use Rattle.papaya_raw.specs.declared.machines.asking.Reply.{Reply as MachineReply}
+use Rattle.papaya_raw.specs.declared.machines.asking.MachineReply.{MachineReply}
 use Rattle.run_schedules.specs.Schedules.After.{moment}
 use Rattle.run_schedules.specs.Schedules.Entry.{Entry}
 use Rattle.run_schedules.specs.Schedules.Moment.{Moment}
@@ -15,7 +15,7 @@ use Rattle.run_logged.specs.Log.Calling.{CallTakes}
 use Rattle.run_logged.specs.declared.logged.Logged.{Logged}
 use Rattle.play_scheduler.specs.Played.{IsDue, Plays}
 use Rattle.run_executor.specs.Named.Seen.{is_named, takes}
-use Rattle.run_executor.specs.declared.caller.Caller.{Caller}
+use Rattle.run_executor.specs.declared.caller.NamedCaller.{NamedCaller}
 use Rattle.run_executor.specs.declared.caller.Stands.TheVariants as far
 use Rattle.play_scheduler.specs.declared.scheduler.Scheduler.{Scheduler}
 use Rattle.play_scheduler.proofs.Here.{Here, here_at, read_here}
@@ -25,8 +25,8 @@ use Rattle.run_executor.specs.Executing.Replying.{RepliesThere}
 use Rattle.run_shows.specs.Scenes.Scene.{HasCall}
 
 module _ {K V S : Type 0} (same : K → K → Bool) (hash : K → ℕ) (terms : Terms) (log : List (Entry K V)) (p : Scheduler K V S) (own : List ℕ) (reply : Reply V)
-    (due : IsDue same hash terms log (Replied own reply) p) (place : ℕ) (placed : Some place ≡ position (is_named own) p.calls) (x : Caller V)
-    (reads : x ≡ slice_index_or p.calls place x) (taken : takes x reply ≡ true) (y : Caller V) (reads_y : y ≡ slice_index_or p.calls place y) where
+    (due : IsDue same hash terms log (Replied own reply) p) (place : ℕ) (placed : Some place ≡ position (is_named own) p.calls) (x : NamedCaller V)
+    (reads : x ≡ slice_index_or p.calls place x) (taken : takes x reply ≡ true) (y : NamedCaller V) (reads_y : y ≡ slice_index_or p.calls place y) where
   abbrev m : Moment K V
   m = moment log
 
@@ -34,10 +34,10 @@ module _ {K V S : Type 0} (same : K → K → Bool) (hash : K → ℕ) (terms : 
   here = here_at same hash terms m p due.played own place placed
 
   takes_it : takes here.caller reply ≡ true
-  takes_it = ap (λ (c : Caller V). takes c reply) (sym (read_here same hash terms m p due.played own place here x reads)) ∙ taken
+  takes_it = ap (λ (c : NamedCaller V). takes c reply) (sym (read_here same hash terms m p due.played own place here x reads)) ∙ taken
 
   number_is : y.number ≡ here.caller.number
-  number_is = ap (λ (c : Caller V). c.number) (read_here same hash terms m p due.played own place here y reads_y)
+  number_is = ap (λ (c : NamedCaller V). c.number) (read_here same hash terms m p due.played own place here y reads_y)
 
   pub call_there : HasCall due.played.scene y.number
   call_there = subst (λ (n : ℕ). HasCall due.played.scene n) (sym number_is) (has_call same hash terms log p own reply due place placed takes_it)
@@ -58,7 +58,7 @@ module _ {K V S : Type 0} (same : K → K → Bool) (hash : K → ℕ) (terms : 
     pub is_taken : is_err result ≡ false
     is_taken = ap (λ (r : Result Unit (MachineReply V)). is_err r) (result_is same hash terms log p own reply due place placed takes_it result new leads_it takes_so_it)
 
-    pub goes_on : (value : Option V) (callers : List (Caller V))
-        → ((c : Caller V) → slice_get p.calls place ≡ Some c → callers ≡ slice_set p.calls place (record c { stands = far.Goes; value = value }))
+    pub goes_on : (value : Option V) (callers : List (NamedCaller V))
+        → ((c : NamedCaller V) → slice_get p.calls place ≡ Some c → callers ≡ slice_set p.calls place (record c { stands = far.Goes; value = value }))
         → Plays same hash terms log (quiet (Replied own reply) Goes) (record p { logged = new; calls = callers })
     goes_on value callers resumed = told same hash terms log p own reply due place placed takes_it result new leads_it takes_so_it value callers (resumed here.caller here.at)

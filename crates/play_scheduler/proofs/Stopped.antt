@@ -35,10 +35,10 @@ use Rattle.run_shows.specs.Others.Walks.{given_up}
 use Rattle.run_executor.specs.Named.Machines.{IsAsFar}
 use Rattle.play_scheduler.specs.Played.{CallsAre, IsDue, IsUnderWay, Plays, StandsFor}
 use Rattle.run_executor.specs.Named.Seen.{Seen, far_of, if_ready, is_named, is_ready as is_ready_there, ready_place, seen, seen_of, shows}
-use Rattle.run_executor.specs.declared.caller.Caller.{Caller}
+use Rattle.run_executor.specs.declared.caller.NamedCaller.{NamedCaller}
 use Rattle.run_executor.specs.declared.caller.Stands.{Stands as HowFar}
 use Rattle.run_executor.specs.declared.caller.Stands.TheVariants as far
-use Rattle.run_executor.specs.declared.kind.Kind.{Kind}
+use Rattle.run_executor.specs.declared.kind.CallKind.{CallKind}
 use Rattle.play_scheduler.specs.declared.scheduler.Scheduler.{Scheduler}
 use Rattle.run_logged.proofs.Rows.Facts.{no_ending_of, no_making_of, no_work_at, row_rests, used_still}
 use Rattle.play_scheduler.proofs.Here.{Here, here_at, there_is}
@@ -62,7 +62,7 @@ shows_is far.Goes e = absurd (cc e)
 shows_is (far.Asks question) e = absurd (cc e)
 
 -- a machine that shows pairs may be given up
-pub asked_ready : {K V : Type 0} (kind : Kind) (machine : Machine K V K) → IsAsFar kind far.Ready machine → (machine_asked machine).1 ≡ true
+pub asked_ready : {K V : Type 0} (kind : CallKind) (machine : Machine K V K) → IsAsFar kind far.Ready machine → (machine_asked machine).1 ≡ true
 asked_ready kind (kinds.Sweep c) is = ap (λ (x : Sweeping). sweep_is_ready x) is.1
 asked_ready kind (kinds.Key call) is = absurd is
 asked_ready kind (kinds.Reserve c) is = absurd is
@@ -72,7 +72,7 @@ module _ {K V S : Type 0} (same : K → K → Bool) (hash : K → ℕ) (terms : 
   abbrev m : Moment K V
   m = moment log
 
-  abbrev calls : List (Caller V)
+  abbrev calls : List (NamedCaller V)
   calls = p.calls
 
   module _ (stands : StandsFor same hash terms m p) where
@@ -91,7 +91,7 @@ module _ {K V S : Type 0} (same : K → K → Bool) (hash : K → ℕ) (terms : 
         none_shows None e = refl
         none_shows (Some c) e = absurd (cc e)
 
-        one : (place : ℕ) (d : Caller V) (o : Option (Caller V)) → o ≡ Some d → shows d.stands ≡ is_some (cond (is_ready_there o) (Some place) None)
+        one : (place : ℕ) (d : NamedCaller V) (o : Option (NamedCaller V)) → o ≡ Some d → shows d.stands ≡ is_some (cond (is_ready_there o) (Some place) None)
         one place d o e = two (shows d.stands) (is_ready_there o) (sym (ap is_ready_there e))
           where
             two : (a b : Bool) → a ≡ b → a ≡ is_some (cond b (Some place) None)
@@ -132,7 +132,7 @@ module _ {K V S : Type 0} (same : K → K → Bool) (hash : K → ℕ) (terms : 
       abbrev at_place : Here same hash terms m p stands own place
       at_place = here_at same hash terms m p stands own place (ready_parts stands place ready).0
 
-      abbrev d : Caller V
+      abbrev d : NamedCaller V
       d = at_place.caller
 
       abbrev i : ℕ
@@ -163,7 +163,7 @@ module _ {K V S : Type 0} (same : K → K → Bool) (hash : K → ℕ) (terms : 
         abbrev then_m : Moment K V
         then_m = given_up own true m
 
-        abbrev calls2 : List (Caller V)
+        abbrev calls2 : List (NamedCaller V)
         calls2 = remove calls place
 
         gone_then : then_at.calls d.map i ≡ None
@@ -211,13 +211,13 @@ module _ {K V S : Type 0} (same : K → K → Bool) (hash : K → ℕ) (terms : 
             other true b e = e
             other false b e = refl
 
-        still : (x : Caller V) → is_named own x ≡ false → IsUnderWay stands.name s p.there x → IsUnderWay stands.name then_at p.there x
+        still : (x : NamedCaller V) → is_named own x ≡ false → IsUnderWay stands.name s p.there x → IsUnderWay stands.name then_at p.there x
         still x apart way = (way.0, there_then x.map x.number ne ∙ way.1, way.2, way.3, way.4)
           where
             ne : x.number ≢ i
             ne e = let a = subst (λ (y : List ℕ). is_same y own ≡ false) (sym way.2 ∙ ap stands.name e ∙ name_is) apart in let b = is_same_refl own in cc (a, b)
 
-        abbrev Named : Caller V → Type 0
+        abbrev Named : NamedCaller V → Type 0
         Named x = (is_same x.name own ≡ false) × IsUnderWay stands.name then_at p.there x
 
         named_then : AllByRecursion Named calls2
@@ -288,7 +288,7 @@ module _ {K V S : Type 0} (same : K → K → Bool) (hash : K → ℕ) (terms : 
                 no_work_at same hash new.executor then_at shown.is_at j none (no_making_of same hash p.logged.executor s at_s j before) (no_ending_of same hash p.logged.executor s at_s j before)
                 (row_rests same hash p.logged.executor s at_s j before)
 
-        stands_then : (callers : List (Caller V)) → callers ≡ calls2 → StandsFor same hash terms then_m (record p { logged = new; calls = callers })
+        stands_then : (callers : List (NamedCaller V)) → callers ≡ calls2 → StandsFor same hash terms then_m (record p { logged = new; calls = callers })
         stands_then callers items = record {
           name = stands.name;
           scene = then_at;
@@ -297,7 +297,7 @@ module _ {K V S : Type 0} (same : K → K → Bool) (hash : K → ℕ) (terms : 
           there = stands.there;
           mapped = stands.mapped;
           closed = stands.closed;
-          calls = subst (λ (xs : List (Caller V)). CallsAre stands.name then_at p.there then_m xs) (sym items) (record {
+          calls = subst (λ (xs : List (NamedCaller V)). CallsAre stands.name then_at p.there then_m xs) (sym items) (record {
             listed = removed_at seen seen_of (λ (z : Seen). is_same z.name own) m.calls calls stands.calls.listed (stands.calls.once own) at_place.any
                 ∙ ap (λ (k : ℕ). map seen_of (remove calls k)) (sym at_place.first);
             once = λ other. (let a = removed_count (is_named other) calls place in let b = stands.calls.once other in omega (arith, a, b));
@@ -310,7 +310,7 @@ module _ {K V S : Type 0} (same : K → K → Bool) (hash : K → ℕ) (terms : 
           names = stands.names;
         }
 
-        pub done : (callers : List (Caller V)) → callers ≡ calls2 → Plays same hash terms log (quiet (Stop own) Done) (record p { logged = new; calls = callers })
+        pub done : (callers : List (NamedCaller V)) → callers ≡ calls2 → Plays same hash terms log (quiet (Stop own) Done) (record p { logged = new; calls = callers })
         done callers items =
             let e = quiet (Stop own) Done in
             let p2 = record p { logged = new; calls = callers } in

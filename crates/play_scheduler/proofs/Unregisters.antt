@@ -5,7 +5,7 @@ use Rattle.std.proofs.lemmas.Bool.{cases_eq, ne_eqb}
 use Rattle.std.proofs.lemmas.List.{get_or-set_other, get_or-set_same, length-set}
 use Rattle.seize_words.specs.declared.fault.Fault.TheVariants.{Busy}
 use Rattle.papaya_raw.specs.Given.TablesDeclared.node.Node.{Node}
-use Rattle.run_schedules.specs.declared.holders.Registration.{Registration}
+use Rattle.run_schedules.specs.declared.holders.NamedRegistration.{NamedRegistration}
 use Rattle.run_schedules.specs.Runs.Present.{Present, guards_on, has_registration, living_on, registration_of, slot_of_registration, unregisters}
 use Rattle.run_schedules.specs.declared.effect.Effect.{Effect}
 use Rattle.run_schedules.specs.declared.event.Event.TheVariants.{Unregister}
@@ -78,7 +78,7 @@ module _ {K V S : Type 0} (same : K → K → Bool) (hash : K → ℕ) (terms : 
       abbrev there2 : Present
       there2 = unregisters registration p.there
 
-      abbrev its : (r : Registration) × (registration_of registration p.there.registrations ≡ Some r) × (r.slot ≡ slot)
+      abbrev its : (r : NamedRegistration) × (registration_of registration p.there.registrations ≡ Some r) × (r.slot ≡ slot)
       its = slot_found (registration_of registration p.there.registrations) slot found
 
       none_now : has_registration slot there2.registrations ≡ false

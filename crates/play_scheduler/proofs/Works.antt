@@ -1,7 +1,7 @@
 -- What an event has done is what its functions have done.
 use Rattle.std.specs.Prelude.{◌≡◌, ℕ, true, List, []}
 use Rattle.std.proofs.Common.{refl, sym, subst, inl, inr}
-use Rattle.seize.specs.declared.progress.Progress.{Progress}
+use Rattle.seize.specs.declared.advance.Advance.{Advance}
 use Rattle.seize_words.specs.declared.fault.Fault.{Fault}
 use Rattle.papaya_raw.specs.Given.TablesDeclared.node.Node.{Node}
 use Rattle.papaya_raw.specs.Given.TablesDeclared.setting.Setting.{Setting}
@@ -54,12 +54,12 @@ module _ {K V S : Type 0} (event : Event K V) (old : Scheduler K V S) (played : 
       did_row comes ran = did_told ran.0 (comes ran.0) ran.1
 
 -- What has run from an empty list is so, of the map by its number, and by what was told.
-module _ {K V S : Type 0} (i map number : ℕ) (is : map ≡ number) (said last : Progress Setting) (told : said ≡ last) (before after : List Effect) (nothing : before ≡ []) (began new : Logged K V S) where
-  abbrev So : (ℕ → Progress Setting → List Effect → Type 0) → Type 0
+module _ {K V S : Type 0} (i map number : ℕ) (is : map ≡ number) (said last : Advance Setting) (told : said ≡ last) (before after : List Effect) (nothing : before ≡ []) (began new : Logged K V S) where
+  abbrev So : (ℕ → Advance Setting → List Effect → Type 0) → Type 0
   So P = P map said before → P number last []
 
-  so : (P : ℕ → Progress Setting → List Effect → Type 0) → So P
-  so P it = subst (λ (xs : List Effect). P number last xs) nothing (subst (λ (x : Progress Setting). P number x before) told (subst (λ (n : ℕ). P n said before) is it))
+  so : (P : ℕ → Advance Setting → List Effect → Type 0) → So P
+  so P it = subst (λ (xs : List Effect). P number last xs) nothing (subst (λ (x : Advance Setting). P number x before) told (subst (λ (n : ℕ). P n said before) is it))
 
   pub run_as : MakingRan i map said before after began new → MakingRan i number last [] after began new
   run_as = so (λ n x xs. MakingRan i n x xs after began new)

@@ -8,7 +8,7 @@ use Rattle.run_shows.specs.Given.CallersTogether.{UnderWay}
 use Rattle.run_shows.specs.Given.FinishesMachines.{machine_of}
 use Rattle.run_shows.specs.Given.FinishesMaps.{Standing}
 use Rattle.run_executor.specs.Given.HandsAsked.{as_told}
-use Rattle.papaya_raw.specs.declared.machines.asking.Reply.{Reply as MachineReply}
+use Rattle.papaya_raw.specs.declared.machines.asking.MachineReply.{MachineReply}
 use Rattle.papaya_raw.specs.declared.machines.machine.Machine.{Machine}
 use Rattle.run_schedules.specs.Runs.Present.{Present, HaveNames, guard_of, living_slot}
 use Rattle.run_schedules.specs.declared.setup.Setup.{Setup}
@@ -30,7 +30,7 @@ use Rattle.run_logged.specs.Log.Shown.{IsShown}
 use Rattle.run_executor.specs.Named.Machines.{IsAsFar, RefusedForRoom, aborted_by, machine_for}
 use Rattle.run_logged.specs.Rows.Rows.{used_as}
 use Rattle.run_executor.specs.Named.Seen.{is_named, kind_of, named, named_of, ready_place, seen, seen_of, setting_named, takes}
-use Rattle.run_executor.specs.declared.caller.Caller.{Caller}
+use Rattle.run_executor.specs.declared.caller.NamedCaller.{NamedCaller}
 use Rattle.run_executor.specs.declared.caller.Stands.TheVariants as far
 use Rattle.play_scheduler.specs.declared.played.Played.{Played}
 use Rattle.run_executor.specs.declared.named_map.NamedMap.{NamedMap}
@@ -49,29 +49,29 @@ abbrev pub entry_of : {K V : Type 0} → Event K V → Played V → Entry K V
 entry_of event played = record { event = event; outcome = played.outcome; steps = played.steps; effects = played.effects.items }
 
 -- a machine is as far as its caller says, and is refused for nothing else than what such a call may be
-abbrev pub AsFar : {K V : Type 0} → Caller V → Machine K V K → Type 0
+abbrev pub AsFar : {K V : Type 0} → NamedCaller V → Machine K V K → Type 0
 AsFar d machine = IsAsFar d.kind d.stands machine × RefusedForRoom machine
 
 -- where this is so of the machine of each caller
-module _ {K V : Type 0} (Far : Caller V → Machine K V K → Type 0) (name : ℕ → List ℕ) (s : Scene K V) (there : Present) where
+module _ {K V : Type 0} (Far : NamedCaller V → Machine K V K → Type 0) (name : ℕ → List ℕ) (s : Scene K V) (there : Present) where
   -- a caller has its call under way in the scene, by its name, in the slot of its guard, which lives, and is as far
-  abbrev pub IsUnderWayAs : Caller V → Type 0
+  abbrev pub IsUnderWayAs : NamedCaller V → Type 0
   IsUnderWayAs d =
       (u : UnderWay K V K) × (s.calls d.map d.number ≡ Some u) × (name d.number ≡ d.name) × (living_slot (guard_of d.guard there.guards) ≡ Some (slot_of d.number))
       × Far d (machine_of u)
 
   -- the callers are those of the moment, each once, and those of the scene
-  pub record CallsAs (m : Moment K V) (calls : List (Caller V)) : Type 0 where
+  pub record CallsAs (m : Moment K V) (calls : List (NamedCaller V)) : Type 0 where
     pub listed : map seen m.calls ≡ map seen_of calls
     pub once : (own : List ℕ) → length (filter (is_named own) calls) ≤ 1
     pub each : AllByRecursion IsUnderWayAs calls
     pub only : (map i : ℕ) (u : UnderWay K V K) → s.calls map i ≡ Some u → list_any (λ d. (d.map == map) && (d.number == i)) calls ≡ true
 
 module _ {K V : Type 0} (name : ℕ → List ℕ) (s : Scene K V) (there : Present) where
-  abbrev pub IsUnderWay : Caller V → Type 0
+  abbrev pub IsUnderWay : NamedCaller V → Type 0
   IsUnderWay = IsUnderWayAs AsFar name s there
 
-  abbrev pub CallsAre : Moment K V → List (Caller V) → Type 0
+  abbrev pub CallsAre : Moment K V → List (NamedCaller V) → Type 0
   CallsAre = CallsAs AsFar name s there
 
 -- the maps are those of the moment, and each stands in the scene
@@ -81,7 +81,7 @@ pub record MapsAre {K V : Type 0} (s : Scene K V) (m : Moment K V) (maps : List 
 
 -- The scheduler stands as the moment says: its executor is shown, and who is there, calls and maps have the names of the moment; slots are used as guards and
 -- registrations say, and nothing is under way but these calls.
-pub record StandsAs {K V S : Type 0} (Far : Caller V → Machine K V K → Type 0) (same : K → K → Bool) (hash : K → ℕ) (terms : Terms) (m : Moment K V)
+pub record StandsAs {K V S : Type 0} (Far : NamedCaller V → Machine K V K → Type 0) (same : K → K → Bool) (hash : K → ℕ) (terms : Terms) (m : Moment K V)
     (p : Scheduler K V S) : Type 0 where
   pub name : ℕ → List ℕ
   pub scene : Scene K V
@@ -137,7 +137,7 @@ module _ {K V S : Type 0} (same : K → K → Bool) (hash : K → ℕ) where
         → CallBegins same hash names v t (length old.logged.executor.workers.items * SLOTS + slot) number (machine_for (record setting { slot = slot }) hash call) old.logged new.logged
     pub begins : (s : Scene K V) → IsThere same hash old.logged.executor s
         → BeginsThere same hash number (machine_for (record setting { slot = slot }) hash call) (length old.logged.executor.workers.items * SLOTS + slot) s old.logged.executor new.logged.executor
-    pub caller : Caller V
+    pub caller : NamedCaller V
     pub is : seen_of caller ≡ record { name = own; guard = guard; map = number; kind = kind_of call; far = far.Goes }
     pub numbered : caller.number ≡ length old.logged.executor.workers.items * SLOTS + slot
     pub keeps_none : caller.value ≡ None
@@ -162,10 +162,10 @@ module _ {K V S : Type 0} (same : K → K → Bool) (hash : K → ℕ) where
   pub record HasReplied (own : List ℕ) (reply : Reply V) (old new : Scheduler K V S) : Type 0 where
     pub place : ℕ
     pub placed : Some place ≡ position (is_named own) old.calls
-    pub asked : Caller V
+    pub asked : NamedCaller V
     pub reads : asked ≡ slice_index_or old.calls place asked
     pub taken : takes asked reply ≡ true
-    pub whose : Caller V
+    pub whose : NamedCaller V
     pub reads_whose : whose ≡ slice_index_or old.calls place whose
     pub as_it : MachineReply V
     pub is_told : as_it ≡ as_told reply
@@ -174,7 +174,7 @@ module _ {K V S : Type 0} (same : K → K → Bool) (hash : K → ℕ) where
     pub leads : (s : Scene K V) → IsThere same hash old.logged.executor s → RepliesThere same hash whose.number as_it result s old.logged.executor new.logged.executor
     pub value : Option V
     pub value_is : value ≡ aborted_by reply
-    pub calls : (d : Caller V) → slice_get old.calls place ≡ Some d
+    pub calls : (d : NamedCaller V) → slice_get old.calls place ≡ Some d
         → new.calls ≡ slice_set old.calls place (record d { stands = far.Goes; value = value })
     pub notes : new.logged.notes ≡ old.logged.notes
 
@@ -185,7 +185,7 @@ module _ {K V S : Type 0} (same : K → K → Bool) (hash : K → ℕ) where
   pub record HasStopped (own : List ℕ) (old new : Scheduler K V S) : Type 0 where
     pub place : ℕ
     pub ready : Some place ≡ ready_place own old.calls
-    pub whose : Caller V
+    pub whose : NamedCaller V
     pub reads : whose ≡ slice_index_or old.calls place whose
     pub stopped : Bool
     pub leads : (s : Scene K V) → IsThere same hash old.logged.executor s → StopsThere same hash whose.number stopped s old.logged.executor new.logged.executor

@@ -10,13 +10,13 @@ use Rattle.run_schedules.specs.Schedules.Terms.{Terms}
 use Rattle.run_logged.specs.Given.EffectsKnown.{Known, known}
 use Rattle.run_shows.specs.Reclaims.Reclaims.{LeftBehind}
 use Rattle.play_scheduler.specs.Played.{IsDue, Plays, entry_of}
-use Rattle.run_executor.specs.declared.caller.Caller.{Caller}
+use Rattle.run_executor.specs.declared.caller.NamedCaller.{NamedCaller}
 use Rattle.play_scheduler.specs.declared.played.Played.{Played}
 use Rattle.play_scheduler.specs.declared.scheduler.Scheduler.{Scheduler}
 use Rattle.run_shows.specs.Scenes.Scene.{Scene}
 
 -- nobody is there but guards that were forgotten, and no call is under way
-abbrev pub are_gone : {V : Type 0} → Present → List (Caller V) → Bool
+abbrev pub are_gone : {V : Type 0} → Present → List (NamedCaller V) → Bool
 are_gone there calls = (length there.registrations == 0) && all_forgotten there.guards && (length calls == 0)
 
 -- words of slots are noted just where there are some

@@ -1,8 +1,8 @@
 -- What an event has done by a row on a slot, by the making of a map, or by the end of one: which steps ran; and what one has done by which none runs.
 use Rattle.std.specs.Prelude.{◌≡◌, ◌≢◌, ◌<◌, ◌⊎◌, ℕ, Bool, true, false, ◌==◌, List, [], length, is_none, is_some, option_map, Some, None, ◌+◌, ◌*◌, if◌then◌else◌}
 use Rattle.std.specs.List.{list_any}
-use Rattle.seize.specs.declared.progress.Progress.{Progress}
-use Rattle.seize.specs.declared.progress.Progress.TheVariants as progress
+use Rattle.seize.specs.declared.advance.Advance.{Advance}
+use Rattle.seize.specs.declared.advance.Advance.TheVariants as progress
 use Rattle.seize.specs.declared.states.TheConstants.{BATCH, HELD}
 use Rattle.seize_words.specs.OneMemory.Mem.{word_at}
 use Rattle.seize_words.specs.declared.at.At.TheVariants as at
@@ -108,7 +108,7 @@ module _ {K V S : Type 0} (played : Played V) (old new : Scheduler K V S) where
       × RowRan slot called said [] played.effects.items old.logged new.logged))))
 
   -- The making of a map has run by the next number, by such steps, from what it was to begin with; they told this at last.
-  pub record MakingHasRun (own : List ℕ) (mode : ResizeMode) (capacity : ℕ) (told : Progress Setting) : Type 0 where
+  pub record MakingHasRun (own : List ℕ) (mode : ResizeMode) (capacity : ℕ) (told : Advance Setting) : Type 0 where
     pub caller : ℕ
     pub fresh : caller ≡ length old.logged.executor.workers.items * SLOTS + 0
     pub faultless : map_fault mode capacity ≡ None

@@ -12,10 +12,10 @@ ghost use Rattle.run_executor.specs.Executing.IsThere.{KeepsGiven};
 
 use crate::played::Played;
 use crate::scheduler::Scheduler;
-use papaya_raw::machines::Reply as Told;
+use papaya_raw::machines::MachineReply as Told;
 use papaya_raw::{Hashes, Setting};
-use run_executor::caller::{Caller, Stands};
-use run_executor::kind::Kind;
+use run_executor::caller::{NamedCaller, Stands};
+use run_executor::kind::CallKind;
 use run_executor::machines::machine_for;
 use run_schedules::call::{Call, Reply};
 use run_schedules::outcome::Outcome;
@@ -59,11 +59,11 @@ impl<K: Eq + Hash + Drop, V: Drop, S: Hashes<K>> Scheduler<K, V, S> {
         let Some((map, setting)) = self.setting_of(map) else {
             return Ok(false);
         };
-        let kind = Kind::of(&call);
+        let kind = CallKind::of(&call);
         let setting = Setting { slot, ..setting };
         let machine = machine_for(setting, &self.logged.executor.hasher, call);
         let number = self.logged.begin(slot, map, machine)?;
-        self.calls.add(Caller {
+        self.calls.add(NamedCaller {
             name,
             guard,
             map,

@@ -18,7 +18,7 @@ use papaya_raw::{Node, Setting};
 use run_executor::callers::Callers;
 use run_executor::named_map::NamedMap;
 use run_logged::Logged;
-use run_names::Present;
+use run_names::Holders;
 use run_names::crowd::Crowd;
 use run_schedules::effect::Effect;
 use run_schedules::ended::Pair;
@@ -36,7 +36,7 @@ pub struct Scheduler<K, V, S> {
     /// What the collector is made with.
     pub setup: Setup,
     /// The registrations and the guards.
-    pub there: Present,
+    pub there: Holders,
     /// The maps that are there, in the order in which they were made.
     pub maps: Crowd<NamedMap>,
     /// The callers that have a call under way.
@@ -58,7 +58,7 @@ impl<K: Drop, V: Drop, S: Drop> Scheduler<K, V, S> {
         Ok(Scheduler {
             logged: Logged::new(alloc, hasher, setup.batch_size, setup.roots)?,
             setup,
-            there: Present::nobody(alloc),
+            there: Holders::nobody(alloc),
             maps: Crowd::new(alloc),
             calls: Callers::nobody(alloc),
             is_mapped: false,

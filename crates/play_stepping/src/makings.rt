@@ -15,7 +15,7 @@ use play_scheduler::scheduler::Scheduler;
 use play_scheduler::{NamedMap, places_for};
 use run_schedules::outcome::Outcome;
 use run_schedules::token::Token;
-use seize::Progress;
+use seize::Advance;
 use seize_words::Fault;
 use std::alloc::AllocError;
 
@@ -79,7 +79,7 @@ pub fn make_map<K: Drop, V: Drop, S>(
     let caller = scheduler.logged.begin_making(0, given, places)?;
     let told = scheduler.logged.run_making(caller, number, &mut effects)?;
     match told {
-        Progress::Done(_) => {
+        Advance::Done(_) => {
             scheduler.maps.push(NamedMap { name: map, number })?;
             Ok(Played {
                 outcome: Outcome::Done,
@@ -87,11 +87,11 @@ pub fn make_map<K: Drop, V: Drop, S>(
                 effects,
             })
         }
-        Progress::Refused(fault) => Ok(Played {
+        Advance::Refused(fault) => Ok(Played {
             outcome: Outcome::Refused(fault),
             steps: 0,
             effects,
         }),
-        Progress::Goes | Progress::Waits => unreachable!(),
+        Advance::Goes | Advance::Waits => unreachable!(),
     }
 }

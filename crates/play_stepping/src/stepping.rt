@@ -7,7 +7,7 @@ ghost use Rattle.play_scheduler.specs.Played.{MayPlay};
 ghost use Rattle.run_schedules.specs.Runs.Stopped.{most_steps};
 ghost use Rattle.play_stepping.specs.EventSteps.Stepping.{HasCaller, IsCaller, IsPlaced, IsStepped, MayGo, MayStep, MayTake, PlaysOnAt, StepsCome, TakenAs, TookSteps, TookWhole, callers_then, outcome_of};
 ghost use Rattle.run_executor.specs.Named.Telling.{goes_on};
-ghost use Rattle.run_executor.specs.declared.caller.Caller.{Caller};
+ghost use Rattle.run_executor.specs.declared.caller.NamedCaller.{NamedCaller};
 ghost use Rattle.run_executor.specs.Executing.IsThere.{KeepsGiven};
 
 use crate::{Played, Scheduler};
@@ -36,7 +36,7 @@ fn goes_on<V>(outcome: &Outcome<V>) -> bool
 /// The number of the call of this name, and that of its map.
 pub(crate) fn way_of<V: Drop>(calls: &Callers<V>, caller: &Token) -> (u64, u64)
     requires { HasCaller caller.now calls.now }
-    ensures { (place : ℕ) (called : Caller V) → IsCaller caller.now place called calls.now → result ≡ (called.number, called.map) }
+    ensures { (place : ℕ) (called : NamedCaller V) → IsCaller caller.now place called calls.now → result ≡ (called.number, called.map) }
 {
     let Some(called) = calls.get(caller) else {
         unreachable!()
@@ -47,7 +47,7 @@ pub(crate) fn way_of<V: Drop>(calls: &Callers<V>, caller: &Token) -> (u64, u64)
 /// How far the call of this name is.
 fn far_of<V: Drop>(calls: &Callers<V>, caller: &Token) -> Stands
     requires { HasCaller caller.now calls.now }
-    ensures { (place : ℕ) (called : Caller V) → IsCaller caller.now place called calls.now → result ≡ called.stands }
+    ensures { (place : ℕ) (called : NamedCaller V) → IsCaller caller.now place called calls.now → result ≡ called.stands }
 {
     let Some(called) = calls.get(caller) else {
         unreachable!()
@@ -62,9 +62,9 @@ pub(crate) fn come_to<K: Drop, V: Drop, S>(
     progress: Progress<Node<K, V>>,
 ) -> Outcome<V>
     requires { HasCaller caller.now scheduler.old.calls }
-    ensures outcome { (place : ℕ) (called : Caller V) → IsCaller caller.now place called scheduler.old.calls
+    ensures outcome { (place : ℕ) (called : NamedCaller V) → IsCaller caller.now place called scheduler.old.calls
         → result ≡ outcome_of (known scheduler.old.logged.notes) called.kind called.value progress }
-    ensures calls { (place : ℕ) (called : Caller V) → IsCaller caller.now place called scheduler.old.calls
+    ensures calls { (place : ℕ) (called : NamedCaller V) → IsCaller caller.now place called scheduler.old.calls
         → scheduler.new.calls ≡ callers_then (known scheduler.old.logged.notes) place called progress scheduler.old.calls }
     ensures rest { scheduler.new ≡ record scheduler.old { calls = scheduler.new.calls } }
 {

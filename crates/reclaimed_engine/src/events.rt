@@ -5,7 +5,7 @@ ghost use Rattle.std.specs.List.{flat_map, zip};
 ghost use Rattle.reclaimed_engine.specs.PrintedText.Text.{answer_line, asks_line, back_line, back_lines, event_lines, line, numbered, outcome_line, refused_line, shape_line, table_shape};
 
 use crate::pieces::append_numbered;
-use run_schedules::call::Answer;
+use run_schedules::call::Response;
 use run_schedules::effect::{Effect, Thing};
 use run_schedules::outcome::Outcome;
 use run_schedules::record::Run;
@@ -98,22 +98,22 @@ fn append_answer_line(
     alloc: Global,
     out: &mut Vec<u8>,
     run: &Run<u64, Token>,
-    answer: &Answer<Token>,
+    answer: &Response<Token>,
 ) -> Result<(), AllocError>
     ensures { OnOk result (out.new.items ≡ out.old.items ++ answer_line run.now answer.now) }
 {
     match answer {
-        Answer::Absent => out.extend_from_slice(b"none\n"),
-        Answer::Found(number) => append_pair_line(alloc, out, run, b"some", *number),
-        Answer::Stored(number) => append_pair_line(alloc, out, run, b"stored", *number),
-        Answer::Occupied { there, value } => append_occupied_line(alloc, out, run, *there, value),
-        Answer::Kept(number) => append_pair_line(alloc, out, run, b"kept", *number),
-        Answer::Inserted(number) => append_pair_line(alloc, out, run, b"inserted", *number),
-        Answer::Updated { old, new } => append_updated_line(alloc, out, run, *old, *new),
-        Answer::Removed(number) => append_pair_line(alloc, out, run, b"removed", *number),
-        Answer::Aborted(value) => append_aborted_line(out, value),
-        Answer::Completed => out.extend_from_slice(b"ok\n"),
-        Answer::Counted(count) => append_number_line(alloc, out, b"len ", *count),
+        Response::Absent => out.extend_from_slice(b"none\n"),
+        Response::Found(number) => append_pair_line(alloc, out, run, b"some", *number),
+        Response::Stored(number) => append_pair_line(alloc, out, run, b"stored", *number),
+        Response::Occupied { there, value } => append_occupied_line(alloc, out, run, *there, value),
+        Response::Kept(number) => append_pair_line(alloc, out, run, b"kept", *number),
+        Response::Inserted(number) => append_pair_line(alloc, out, run, b"inserted", *number),
+        Response::Updated { old, new } => append_updated_line(alloc, out, run, *old, *new),
+        Response::Removed(number) => append_pair_line(alloc, out, run, b"removed", *number),
+        Response::Aborted(value) => append_aborted_line(out, value),
+        Response::Completed => out.extend_from_slice(b"ok\n"),
+        Response::Counted(count) => append_number_line(alloc, out, b"len ", *count),
     }
 }
 

@@ -14,24 +14,24 @@ ghost use Rattle.std.specs.Prelude.{◌≡◌, false, IfOk, IfErr, OnErr, IfSome
 
 pub use output::{Output, write};
 use papaya_steps::running::run;
-use reclaimed_script::{Script, Stop, hasher_of, read, setup_of};
+use reclaimed_script::{Script, ScriptStop, hasher_of, read, setup_of};
 use std::alloc::{AllocError, Global};
 use std::io::{Read, Write};
 pub use text::{fault_line, text_of};
 
 /// The line that says why a script gives no run.
-fn stop_line(alloc: Global, stop: Stop) -> Result<Vec<u8>, AllocError>
+fn stop_line(alloc: Global, stop: ScriptStop) -> Result<Vec<u8>, AllocError>
     ensures { IfOk result (λ line. line.items ≡ stop_line stop) }
 {
     match stop {
-        Stop::Line { number, fault } => fault_line(alloc, number, fault.text()),
-        Stop::ReadFailed { lines } => fault_line(alloc, lines, "read failed"),
-        Stop::NoMemory { lines } => fault_line(alloc, lines, "no memory"),
+        ScriptStop::Line { number, fault } => fault_line(alloc, number, fault.text()),
+        ScriptStop::ReadFailed { lines } => fault_line(alloc, lines, "read failed"),
+        ScriptStop::NoMemory { lines } => fault_line(alloc, lines, "no memory"),
     }
 }
 
 /// What is printed for a script, or, where memory runs out, that it did.
-fn printed(alloc: Global, script: Script) -> Result<Vec<u8>, Stop>
+fn printed(alloc: Global, script: Script) -> Result<Vec<u8>, ScriptStop>
     ensures ok { IfOk result (λ text. IsTextFor script.events.items text.items) }
     ensures err { IfErr result (λ stop. stop ≡ Stop.NoMemory script.lines) }
 {
@@ -39,16 +39,16 @@ fn printed(alloc: Global, script: Script) -> Result<Vec<u8>, Stop>
     let setup = setup_of(&script.events);
     let hasher = hasher_of(&script.events);
     match run(alloc, setup, hasher, script.events, Vec::new(alloc)) {
-        Err(_) => Err(Stop::NoMemory { lines }),
+        Err(_) => Err(ScriptStop::NoMemory { lines }),
         Ok(run) => match text_of(alloc, &run) {
-            Err(_) => Err(Stop::NoMemory { lines }),
+            Err(_) => Err(ScriptStop::NoMemory { lines }),
             Ok(text) => Ok(text),
         },
     }
 }
 
 /// Says why there is no run, and answers the status for it.
-fn say<E: Write>(alloc: Global, errors: &mut Output<E>, stop: Stop) -> Result<u8, AllocError>
+fn say<E: Write>(alloc: Global, errors: &mut Output<E>, stop: ScriptStop) -> Result<u8, AllocError>
     ensures status { IfOk result (λ status. status ≡ 1) }
     ensures said { IfOk result (λ _. has_failed errors.new ≡ false
         → Appends (E.contents (writer_of errors.old)) (E.contents (writer_of errors.new)) (stop_line stop)) }

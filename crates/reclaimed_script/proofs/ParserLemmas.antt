@@ -7,8 +7,8 @@ use Rattle.std.proofs.lemmas.List.Sums.{sum_by-append}
 use Rattle.std.proofs.lemmas.List.Folds.{list_all-append}
 use Rattle.reclaimed_script.specs.declared.fault.LineFault.{LineFault}
 use Rattle.reclaimed_script.specs.declared.fault.LineFault.TheVariants.{TooLong, TooManyLines}
-use Rattle.reclaimed_script.specs.declared.fault.Stop.{Stop}
-use Rattle.reclaimed_script.specs.declared.fault.Stop.TheVariants.{Line, ReadFailed, NoMemory}
+use Rattle.reclaimed_script.specs.declared.fault.ScriptStop.{ScriptStop}
+use Rattle.reclaimed_script.specs.declared.fault.ScriptStop.TheVariants.{Line, ReadFailed, NoMemory}
 use Rattle.reclaimed_script.specs.Lines.{ScriptEvent, event_of}
 use Rattle.reclaimed_script.specs.Script.{lines_of, one_event, events_of, line_at, script_from, script_of, Adds, AddsNothing}
 use Rattle.reclaimed_script.specs.Reading.{StartsWell, StopsAt, Answers, IsAt}
@@ -70,14 +70,14 @@ starts : (n : ℕ) (text : List ℕ) (lines others : List (List ℕ)) (events : 
 starts n text lines others events parts count said =
     (rw parts (omega (arith, length-append lines others)), rw (parts, take_at lines others n count, said) refl)
 
-pub stops : (text : List ℕ) (lines : List (List ℕ)) (line : List ℕ) (others : List (List ℕ)) (events : List ScriptEvent) (number : ℕ) (stop : Stop) → lines_of text ≡ lines ++ line ∷ others → script_from 1 lines ≡ Ok events → number ≡ length lines + 1 → AddsNothing number (line_at number line) stop → StopsAt text stop
+pub stops : (text : List ℕ) (lines : List (List ℕ)) (line : List ℕ) (others : List (List ℕ)) (events : List ScriptEvent) (number : ℕ) (stop : ScriptStop) → lines_of text ≡ lines ++ line ∷ others → script_from 1 lines ≡ Ok events → number ≡ length lines + 1 → AddsNothing number (line_at number line) stop → StopsAt text stop
 stops text lines line others events number (Line n fault) parts said count (same, e) = rw (parts, same) (script_from-fault lines line others events fault number count said e)
 stops text lines line others events number (NoMemory n) parts said count (same, e) =
     let found = ok_value (line_at number line) e in
     starts n text (lines ++ line ∷ []) others (events ++ found.0) (parts ∙ sym (append_assoc lines (line ∷ []) others)) (omega (arith, length-append lines (line ∷ []))) (script_from-more lines line events found.0 number count said found.1)
 stops text lines line others events number (ReadFailed n) parts said count h = absurd h
 
-pub Answers-stop : (text : List ℕ) (left : Option (List ℕ)) (stop : Stop) → StopsAt text stop → Answers text left (Err stop)
+pub Answers-stop : (text : List ℕ) (left : Option (List ℕ)) (stop : ScriptStop) → StopsAt text stop → Answers text left (Err stop)
 Answers-stop text left (Line n fault) h = h
 Answers-stop text left (NoMemory n) h = h
 Answers-stop text left (ReadFailed n) h = absurd h
@@ -125,7 +125,7 @@ IsAt-feed read events new count line adds at =
       open_line = refl;
     }
 
-pub stops_feed : (read : List ℕ) (events : List ScriptEvent) (count : ℕ) (line rest : List ℕ) (stop : Stop) → AddsNothing (count + 1) (line_at (count + 1) line) stop → IsAt read events count line → StopsAt (read ++ 10 ∷ rest) stop
+pub stops_feed : (read : List ℕ) (events : List ScriptEvent) (count : ℕ) (line rest : List ℕ) (stop : ScriptStop) → AddsNothing (count + 1) (line_at (count + 1) line) stop → IsAt read events count line → StopsAt (read ++ 10 ∷ rest) stop
 stops_feed read events count line rest stop nothing at =
     stops (read ++ 10 ∷ rest) at.lines line (lines_of rest) events (count + 1) stop (at.goes_on (10 ∷ rest) ∙ ap (λ (l : List (List ℕ)). at.lines ++ l) (lines_of-feed line rest at.open_line)) at.said (omega (arith, at.counted)) nothing
 
@@ -156,7 +156,7 @@ IsWhole-open read events new count line some adds at =
     let added = Adds-is events new (line_at (count + 1) line) adds in
     whole_at read (at.lines ++ line ∷ []) new (count + 1) (last_line read events count line some at) (script_from-more at.lines line events added.events (count + 1) (omega (arith, at.counted)) at.said added.said_is ∙ ap (λ (l : List ScriptEvent). fine l) (sym added.new_is)) (omega (arith, length-append at.lines (line ∷ []), at.counted))
 
-pub stops_open : (read : List ℕ) (events : List ScriptEvent) (count : ℕ) (line : List ℕ) (stop : Stop) → eqb (length line) 0 ≡ false → AddsNothing (count + 1) (line_at (count + 1) line) stop → IsAt read events count line → StopsAt read stop
+pub stops_open : (read : List ℕ) (events : List ScriptEvent) (count : ℕ) (line : List ℕ) (stop : ScriptStop) → eqb (length line) 0 ≡ false → AddsNothing (count + 1) (line_at (count + 1) line) stop → IsAt read events count line → StopsAt read stop
 stops_open read events count line stop some nothing at =
     stops read at.lines line [] events (count + 1) stop (last_line read events count line some at) at.said (omega (arith, at.counted)) nothing
 
@@ -174,10 +174,10 @@ same_length n m b e h = subst (λ (k : ℕ). eqb k 0 ≡ b) e h
 
 -- ---- what ending a line says of a byte that is a line feed
 
-pub feed_ok : {U : Type 0} (r : Result U Stop) (events new : List ScriptEvent) (count lines : ℕ) (line rest : List ℕ) (b : ℕ) → b ≡ 10 → OnOk r (Adds events new (line_at (count + 1) line)) → OnOk r (lines ≡ count + 1) → OnOk r (rest ≡ []) → OnOk r ((read : List ℕ) → IsAt read events count line → IsAt (read ++ b ∷ []) new lines rest)
+pub feed_ok : {U : Type 0} (r : Result U ScriptStop) (events new : List ScriptEvent) (count lines : ℕ) (line rest : List ℕ) (b : ℕ) → b ≡ 10 → OnOk r (Adds events new (line_at (count + 1) line)) → OnOk r (lines ≡ count + 1) → OnOk r (rest ≡ []) → OnOk r ((read : List ℕ) → IsAt read events count line → IsAt (read ++ b ∷ []) new lines rest)
 feed_ok (Ok x) events new count lines line rest b feed adds more none = λ read at. rw (feed, more, none) (IsAt-feed read events new count line adds at)
 feed_ok (Err stop) events new count lines line rest b feed adds more none = tt
 
-pub feed_err : {U : Type 0} (r : Result U Stop) (events : List ScriptEvent) (count : ℕ) (line : List ℕ) (b : ℕ) → b ≡ 10 → IfErr r (AddsNothing (count + 1) (line_at (count + 1) line)) → IfErr r (λ stop. (read rest : List ℕ) → IsAt read events count line → StopsAt (read ++ b ∷ rest) stop)
+pub feed_err : {U : Type 0} (r : Result U ScriptStop) (events : List ScriptEvent) (count : ℕ) (line : List ℕ) (b : ℕ) → b ≡ 10 → IfErr r (AddsNothing (count + 1) (line_at (count + 1) line)) → IfErr r (λ stop. (read rest : List ℕ) → IsAt read events count line → StopsAt (read ++ b ∷ rest) stop)
 feed_err (Ok x) events count line b feed nothing = tt
 feed_err (Err stop) events count line b feed nothing = λ read rest at. rw feed (stops_feed read events count line rest stop nothing at)

@@ -2,8 +2,8 @@
 use Rattle.std.proofs.Common.{◌≡◌, ℕ, List, ◌++◌, Option, Some, None, Result, Err, refl, sym, ap, subst, ◌∙◌, append_assoc}
 use Rattle.std.proofs.lemmas.List.{append-nil}
 use Rattle.std.specs.Io.KnownBytes.{Consumes, Keeps, IsAtEnd}
-use Rattle.reclaimed_script.specs.declared.fault.Stop.{Stop}
-use Rattle.reclaimed_script.specs.declared.fault.Stop.TheVariants.{ReadFailed}
+use Rattle.reclaimed_script.specs.declared.fault.ScriptStop.{ScriptStop}
+use Rattle.reclaimed_script.specs.declared.fault.ScriptStop.TheVariants.{ReadFailed}
 use Rattle.reclaimed_script.specs.declared.parser.Parser.{Parser}
 use Rattle.reclaimed_script.specs.declared.parser.Script.{Script}
 use Rattle.reclaimed_script.specs.Reading.{StandsAfter, StopsAt, Answers, Reads}
@@ -27,7 +27,7 @@ ReadTo-keeps (Some text) None after p same h = absurd h
 ReadTo-keeps (Some text) (Some left) None p same h = absurd same
 ReadTo-keeps (Some text) (Some left) (Some rest) p same (read, e, at) = (read, e ∙ ap (λ (l : List ℕ). read ++ l) (sym same), at)
 
-pub Reads-stop : (first before after : Option (List ℕ)) (p : Parser) (bytes : List ℕ) (stop : Stop) → Consumes before after bytes → ((read rest : List ℕ) → StandsAfter read p → StopsAt (read ++ bytes ++ rest) stop) → ReadTo first before p → Reads first after (Err stop)
+pub Reads-stop : (first before after : Option (List ℕ)) (p : Parser) (bytes : List ℕ) (stop : ScriptStop) → Consumes before after bytes → ((read rest : List ℕ) → StandsAfter read p → StopsAt (read ++ bytes ++ rest) stop) → ReadTo first before p → Reads first after (Err stop)
 Reads-stop None before after p bytes stop took step h = tt
 Reads-stop (Some text) None after p bytes stop took step h = absurd h
 Reads-stop (Some text) (Some left) None p bytes stop took step h = absurd took
@@ -35,14 +35,14 @@ Reads-stop (Some text) (Some left) (Some rest) p bytes stop took step (read, e, 
     let parts : text ≡ read ++ bytes ++ rest = e ∙ ap (λ (l : List ℕ). read ++ l) took ∙ sym (append_assoc read bytes rest) in
     Answers-stop text (Some rest) stop (subst (λ (l : List ℕ). StopsAt l stop) (sym parts) (step read rest at))
 
-pub Reads-end : (first before after : Option (List ℕ)) (p : Parser) (result : Result Script Stop) → IsAtEnd before → ((read : List ℕ) (left : Option (List ℕ)) → StandsAfter read p → Answers read left result) → ReadTo first before p → Reads first after result
+pub Reads-end : (first before after : Option (List ℕ)) (p : Parser) (result : Result Script ScriptStop) → IsAtEnd before → ((read : List ℕ) (left : Option (List ℕ)) → StandsAfter read p → Answers read left result) → ReadTo first before p → Reads first after result
 Reads-end None before after p result ended step h = tt
 Reads-end (Some text) None after p result ended step h = absurd h
 Reads-end (Some text) (Some left) after p result ended step (read, e, at) =
     let all : text ≡ read = e ∙ ap (λ (l : List ℕ). read ++ l) ended ∙ append-nil read in
     subst (λ (l : List ℕ). Answers l after result) (sym all) (step read after at)
 
-pub Reads-failed : (first before after : Option (List ℕ)) (p : Parser) (stop : Stop) → stop ≡ ReadFailed p.lines → Keeps before after → ReadTo first before p → Reads first after (Err stop)
+pub Reads-failed : (first before after : Option (List ℕ)) (p : Parser) (stop : ScriptStop) → stop ≡ ReadFailed p.lines → Keeps before after → ReadTo first before p → Reads first after (Err stop)
 Reads-failed None before after p stop is same h = tt
 Reads-failed (Some text) None after p stop is same h = absurd h
 Reads-failed (Some text) (Some left) None p stop is same h = absurd same

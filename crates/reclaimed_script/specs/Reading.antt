@@ -1,8 +1,8 @@
 -- What reading a script answers, and where a parser stands on the way.
 use Rattle.std.specs.Prelude.{◌≡◌, ℕ, ◌≤◌, true, not, List, ◌++◌, length, take, count_by, Option, Result, Ok, Err, IsOk, IfSome, ◌==◌}
 use Rattle.std.specs.List.{list_all}
-use Rattle.reclaimed_script.specs.declared.fault.Stop.{Stop}
-use Rattle.reclaimed_script.specs.declared.fault.Stop.TheVariants.{Line, ReadFailed, NoMemory}
+use Rattle.reclaimed_script.specs.declared.fault.ScriptStop.{ScriptStop}
+use Rattle.reclaimed_script.specs.declared.fault.ScriptStop.TheVariants.{Line, ReadFailed, NoMemory}
 use Rattle.std.specs.Io.KnownBytes.{Consumes, Keeps, IsAtEnd}
 use Rattle.reclaimed_script.specs.declared.reading.Turn.{Turn}
 use Rattle.reclaimed_script.specs.declared.reading.Turn.TheVariants.{Bytes, End, Interrupted, Failed}
@@ -20,14 +20,14 @@ abbrev pub HasRead : ℕ → List ℕ → Option (List ℕ) → Type 0
 HasRead n bytes left = IfSome left (λ rest. (read : List ℕ) × (bytes ≡ read ++ rest) × (n ≡ count_by (λ b. b == 10) read))
 
 -- Why reading this text stopped, where no input failed: the first faulty line, or memory at a line up to which there is no fault.
-abbrev pub StopsAt : List ℕ → Stop → Type 0
+abbrev pub StopsAt : List ℕ → ScriptStop → Type 0
 StopsAt bytes (Line n fault) = script_of bytes ≡ Err (n, fault)
 StopsAt bytes (NoMemory n) = StartsWell n bytes
 StopsAt bytes (ReadFailed n) = ⊥
 
 -- What reading a text answers: its events and how many lines it has, or the first faulty line. Where the input
 -- or memory failed, no line up to there is faulty.
-abbrev pub Answers : List ℕ → Option (List ℕ) → Result Script Stop → Type 0
+abbrev pub Answers : List ℕ → Option (List ℕ) → Result Script ScriptStop → Type 0
 Answers bytes left (Ok script) = (script_of bytes ≡ Ok script.events.items) × (script.lines ≡ length (lines_of bytes))
 Answers bytes left (Err (Line n fault)) = script_of bytes ≡ Err (n, fault)
 Answers bytes left (Err (NoMemory n)) = StartsWell n bytes
@@ -46,7 +46,7 @@ abbrev pub StandsAfter : List ℕ → Parser → Type 0
 StandsAfter read parser = IsAt read parser.events.items parser.lines parser.line.items
 
 -- What reading an input answers, by the bytes that it had left before and has left after, where those are known.
-abbrev pub Reads : Option (List ℕ) → Option (List ℕ) → Result Script Stop → Type 0
+abbrev pub Reads : Option (List ℕ) → Option (List ℕ) → Result Script ScriptStop → Type 0
 Reads before after result = IfSome before (λ bytes. Answers bytes after result)
 
 -- what one read of an input gave

@@ -7,8 +7,8 @@ use Rattle.run_schedules.specs.declared.key_hash.KeyHash.{KeyHash}
 use Rattle.run_schedules.specs.declared.key_hash.KeyHash.TheVariants.{Key}
 use Rattle.reclaimed_script.specs.declared.fault.LineFault.{LineFault}
 use Rattle.reclaimed_script.specs.declared.fault.LineFault.TheVariants.{TooLong, TooManyLines}
-use Rattle.reclaimed_script.specs.declared.fault.Stop.{Stop}
-use Rattle.reclaimed_script.specs.declared.fault.Stop.TheVariants.{Line, ReadFailed, NoMemory}
+use Rattle.reclaimed_script.specs.declared.fault.ScriptStop.{ScriptStop}
+use Rattle.reclaimed_script.specs.declared.fault.ScriptStop.TheVariants.{Line, ReadFailed, NoMemory}
 use Rattle.reclaimed_script.specs.Lines.{ScriptEvent, event_of}
 
 -- The lines of a text, each ended by a line feed, which the last may lack. A text that ends in one has no further line.
@@ -77,7 +77,7 @@ Adds old new (Ok events) = new ≡ old ++ events
 Adds old new (Err fault) = ⊥
 
 -- why nothing was added: the fault of this line, or memory at a line with no fault
-abbrev pub AddsNothing : ℕ → Result (List ScriptEvent) LineFault → Stop → Type 0
+abbrev pub AddsNothing : ℕ → Result (List ScriptEvent) LineFault → ScriptStop → Type 0
 AddsNothing number said (Line n fault) = (n ≡ number) × (said ≡ Err fault)
 AddsNothing number said (NoMemory n) = (n ≡ number) × IsOk said
 AddsNothing number said (ReadFailed n) = ⊥

@@ -37,7 +37,7 @@ impl LineFault {
 
 /// Why reading a script ended before its end.
 #[derive(Clone, Copy)]
-pub enum Stop {
+pub enum ScriptStop {
     /// The first faulty line, counted from 1, and its fault.
     Line { number: u64, fault: LineFault },
     /// The input failed after this many whole lines.

@@ -14,7 +14,7 @@ mod replies;
 pub mod setup;
 mod words;
 
-pub use fault::{LineFault, Stop};
+pub use fault::{LineFault, ScriptStop};
 pub use parser::Script;
 pub use reading::read;
 pub use setup::{hasher_of, setup_of};

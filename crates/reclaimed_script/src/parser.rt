@@ -3,7 +3,7 @@ ghost use Rattle.std.specs.Prelude.{◌≡◌, ◌≢◌, ℕ, ◌≤◌, ◌+�
 ghost use Rattle.reclaimed_script.specs.Lines.{event_of};
 ghost use Rattle.reclaimed_script.specs.Script.{one_event, line_at, Adds, AddsNothing};
 
-use crate::fault::{LineFault, LineStop, Stop};
+use crate::fault::{LineFault, LineStop, ScriptStop};
 use crate::line::event_of;
 use run_schedules::event::Event;
 use run_schedules::token::Token;
@@ -46,17 +46,17 @@ fn add_event(
     number: u64,
     line: &[u8],
     events: &mut Vec<Event<u64, Token>>,
-) -> Result<(), Stop>
+) -> Result<(), ScriptStop>
     ensures ok { OnOk result (Adds events.old.items events.new.items (one_event (event_of line.now))) }
     ensures err { IfErr result (AddsNothing number (one_event (event_of line.now))) }
 {
     match event_of(alloc, line) {
         Ok(event) => match push_event(events, event) {
             Ok(()) => Ok(()),
-            Err(_) => Err(Stop::NoMemory { lines: number }),
+            Err(_) => Err(ScriptStop::NoMemory { lines: number }),
         },
-        Err(LineStop::Fault(fault)) => Err(Stop::Line { number, fault }),
-        Err(LineStop::Memory) => Err(Stop::NoMemory { lines: number }),
+        Err(LineStop::Fault(fault)) => Err(ScriptStop::Line { number, fault }),
+        Err(LineStop::Memory) => Err(ScriptStop::NoMemory { lines: number }),
     }
 }
 
@@ -66,14 +66,14 @@ fn add_line(
     number: u64,
     line: &[u8],
     events: &mut Vec<Event<u64, Token>>,
-) -> Result<(), Stop>
+) -> Result<(), ScriptStop>
     requires { length line.now ≤ 256 }
     ensures ok { OnOk result (Adds events.old.items events.new.items (line_at number line.now)) }
     ensures few { OnOk result (number ≤ 1000000) }
     ensures err { IfErr result (AddsNothing number (line_at number line.now)) }
 {
     if number > LINES {
-        return Err(Stop::Line {
+        return Err(ScriptStop::Line {
             number,
             fault: LineFault::TooManyLines,
         });
@@ -99,14 +99,14 @@ impl Parser {
     }
 
     /// What is answered where the input fails.
-    pub fn read_failed(&self) -> Stop
+    pub fn read_failed(&self) -> ScriptStop
         ensures { result ≡ Stop.ReadFailed self.now.lines }
     {
-        Stop::ReadFailed { lines: self.lines }
+        ScriptStop::ReadFailed { lines: self.lines }
     }
 
     /// Ends the line that is read.
-    fn end_line(&mut self, alloc: Global) -> Result<(), Stop>
+    fn end_line(&mut self, alloc: Global) -> Result<(), ScriptStop>
         ensures events { OnOk result (Adds self.old.events.items self.new.events.items
             (line_at (self.old.lines + 1) self.old.line.items)) }
         ensures lines { OnOk result (self.new.lines ≡ self.old.lines + 1) }
@@ -121,25 +121,25 @@ impl Parser {
     }
 
     /// Takes a byte of a line, which is no line feed.
-    fn extend_line(&mut self, byte: u8) -> Result<(), Stop>
+    fn extend_line(&mut self, byte: u8) -> Result<(), ScriptStop>
         requires { byte ≢ 10 }
         ensures ok { OnOk result ((read : List ℕ) → StandsAfter read self.old → StandsAfter (read ++ byte ∷ []) self.new) }
         ensures err { IfErr result (λ stop. (read rest : List ℕ) → StandsAfter read self.old → StopsAt (read ++ byte ∷ rest) stop) }
     {
         if self.line.len() >= LINE_BYTES {
-            return Err(Stop::Line {
+            return Err(ScriptStop::Line {
                 number: self.lines + 1,
                 fault: LineFault::TooLong,
             });
         }
         match self.line.push(byte) {
             Ok(()) => Ok(()),
-            Err(_) => Err(Stop::NoMemory { lines: self.lines }),
+            Err(_) => Err(ScriptStop::NoMemory { lines: self.lines }),
         }
     }
 
     /// Takes the next byte. After an `Err` the text before it has what the error says, whatever follows.
-    fn take_byte(&mut self, alloc: Global, byte: u8) -> Result<(), Stop>
+    fn take_byte(&mut self, alloc: Global, byte: u8) -> Result<(), ScriptStop>
         ensures ok { OnOk result ((read : List ℕ) → StandsAfter read self.old → StandsAfter (read ++ byte ∷ []) self.new) }
         ensures err { IfErr result (λ stop. (read rest : List ℕ) → StandsAfter read self.old → StopsAt (read ++ byte ∷ rest) stop) }
     {
@@ -151,7 +151,7 @@ impl Parser {
     }
 
     /// Takes the next bytes.
-    pub fn feed(&mut self, alloc: Global, bytes: &[u8]) -> Result<(), Stop>
+    pub fn feed(&mut self, alloc: Global, bytes: &[u8]) -> Result<(), ScriptStop>
         ensures ok { OnOk result ((read : List ℕ) → StandsAfter read self.old → StandsAfter (read ++ bytes.now) self.new) }
         ensures err { IfErr result (λ stop. (read rest : List ℕ) → StandsAfter read self.old → StopsAt (read ++ bytes.now ++ rest) stop) }
     {
@@ -172,7 +172,7 @@ impl Parser {
     }
 
     /// Ends the text, and so its last line, if that lacks its line feed.
-    pub fn finish(mut self, alloc: Global) -> Result<Script, Stop>
+    pub fn finish(mut self, alloc: Global) -> Result<Script, ScriptStop>
         ensures { (read : List ℕ) (left : Option (List ℕ)) → StandsAfter read self → Answers read left result }
     {
         if self.line.is_empty() {

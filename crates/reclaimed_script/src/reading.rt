@@ -2,7 +2,7 @@
 ghost use Rattle.std.specs.Prelude.{◌≡◌, ◌<◌, length};
 ghost use Rattle.reclaimed_script.specs.Reading.{Reads, GivesBytes, IsWithin};
 
-use crate::fault::Stop;
+use crate::fault::ScriptStop;
 use crate::parser::{Parser, Script};
 use std::alloc::Global;
 use std::io::{ErrorKind, Read};
@@ -37,7 +37,7 @@ fn next_bytes<R: Read>(input: &mut R, buffer: &mut [u8]) -> Turn
 
 /// Reads a whole script: its events, or its first faulty line. The bytes behind that line may stay unread. An
 /// input that fails, or that answers `Interrupted` too often, ends the reading, and so does want of memory.
-pub fn read<R: Read>(alloc: Global, input: &mut R) -> Result<Script, Stop>
+pub fn read<R: Read>(alloc: Global, input: &mut R) -> Result<Script, ScriptStop>
     ensures { Reads (R.remaining input.old) (R.remaining input.new) result }
 {
     let mut parser = Parser::new(alloc);

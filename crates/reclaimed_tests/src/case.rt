@@ -1,5 +1,5 @@
 //! One case: a script, and what the engine has to write for it.
-use crate::given::Given;
+use crate::given::GivenBytes;
 use crate::narrow::Narrow;
 use crate::text::{append_text, byte_of, malformed};
 use reclaimed_engine::{Output, engine};
@@ -139,7 +139,7 @@ impl Case {
 
     /// Runs the script.
     pub fn run(&self, alloc: Global) -> Result<Ended, AllocError> {
-        let mut input = Given {
+        let mut input = GivenBytes {
             left: &self.script,
             piece: self.piece,
             interruptions: self.interruptions,

@@ -3,7 +3,7 @@ use std::io::{self, ErrorKind, Read};
 
 /// An input over bytes.
 #[derive(Drop)]
-pub struct Given<'a> {
+pub struct GivenBytes<'a> {
     /// What it has left.
     pub left: &'a [u8],
     /// So many bytes are given by one read at most.
@@ -14,7 +14,7 @@ pub struct Given<'a> {
     pub breaks: bool,
 }
 
-impl Read for Given<'_> {
+impl Read for GivenBytes<'_> {
     fn read(&mut self, buffer: &mut [u8]) -> io::Result<usize> {
         if self.interruptions > 0 {
             self.interruptions -= 1;

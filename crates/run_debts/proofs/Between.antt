@@ -16,8 +16,8 @@ use Rattle.run_places.specs.Given.RawDeclared.machines.answer.KeyAnswer.TheVaria
 use Rattle.run_places.specs.Given.RawDeclared.machines.asking.Asking.TheVariants as asking
 use Rattle.run_places.specs.Given.RawDeclared.machines.asking.Gap.{Gap}
 use Rattle.run_places.specs.Given.RawDeclared.machines.asking.Gap.TheVariants as gaps
-use Rattle.run_places.specs.Given.RawDeclared.machines.asking.Reply.{Reply as MachineReply}
-use Rattle.run_places.specs.Given.RawDeclared.machines.asking.Reply.TheVariants as reply
+use Rattle.run_places.specs.Given.RawDeclared.machines.asking.MachineReply.{MachineReply}
+use Rattle.run_places.specs.Given.RawDeclared.machines.asking.MachineReply.TheVariants as reply
 use Rattle.run_places.specs.Given.RawDeclared.machines.asking.Takes.{Takes}
 use Rattle.run_places.specs.Given.RawDeclared.machines.asking.Takes.TheVariants as takes
 use Rattle.run_places.specs.Given.RawDeclared.machines.asking.Told.{Told}

@@ -23,8 +23,8 @@ use Rattle.run_places.specs.Given.ResizeDeclared.copier.Copying.TheVariants as c
 use Rattle.run_places.specs.Given.ResizeDeclared.dispose.Dispose.{Dispose}
 use Rattle.run_places.specs.Given.ResizeDeclared.dispose.Disposing.{Disposing}
 use Rattle.run_places.specs.Given.ResizeDeclared.dispose.Disposing.TheVariants as disposing
-use Rattle.run_places.specs.Given.ResizeDeclared.outcome.Outcome.{Outcome}
-use Rattle.run_places.specs.Given.ResizeDeclared.outcome.Outcome.TheVariants as outcome
+use Rattle.run_places.specs.Given.ResizeDeclared.yielding.Yielding.{Yielding}
+use Rattle.run_places.specs.Given.ResizeDeclared.yielding.Yielding.TheVariants as outcome
 use Rattle.run_places.specs.Given.ReservesReserve.{reserve_plan}
 use Rattle.run_places.specs.Given.ReservesReserve as reserves
 use Rattle.run_places.specs.Given.ReservesDeclared.reserve.Reserve.{Reserve}
@@ -49,7 +49,7 @@ use Rattle.run_places.specs.Given.RawDeclared.machines.machine.Machine.{Machine}
 use Rattle.run_places.specs.Given.RawDeclared.machines.machine.Machine.TheVariants as kinds
 use Rattle.run_places.specs.Given.RawDeclared.machines.progress.Progress.{Progress}
 use Rattle.run_places.specs.Given.RunsDeclared.shapes.TableShape.{TableShape}
-use Rattle.run_places.specs.Given.RunsDeclared.effect.Table.{Table as Numbered}
+use Rattle.run_places.specs.Given.RunsDeclared.effect.TableId.{TableId as Numbered}
 use Rattle.run_places.specs.Given.SchedulesMoment.{Moment}
 use Rattle.run_places.specs.Given.TellerTells.{StepsTold}
 use Rattle.run_places.specs.Given.EffectsDeclared.changed.Changed.{Changed}
@@ -237,14 +237,14 @@ module _ {K V : Type 0} {size : ℕ} (w : World (Node K V)) (r : Reached deferre
     disposed_to before answer (d, settled.Gave value) tells done = tells
     disposed_to before answer (d, settled.Done) tells done = spent before (due_in_disposing d.stands) None (sym (done refl)) tells
 
-    helped_to : (before : Option Due) (goal : Table) (q : Copier × Outcome (Node K V) Table) → TellsDue before (due_in_copying q.0.stands) → GoesOn q.1 → CallTo before (helped x goal q)
+    helped_to : (before : Option Due) (goal : Table) (q : Copier × Yielding (Node K V) Table) → TellsDue before (due_in_copying q.0.stands) → GoesOn q.1 → CallTo before (helped x goal q)
     helped_to before goal (c, outcome.Goes) tells goes = tells
     helped_to before goal (c, outcome.Waits) tells goes = tells
     helped_to before goal (c, outcome.Gave value) tells goes = tells
     helped_to before goal (c, outcome.Done table) tells goes = absurd goes
     helped_to before goal (c, outcome.Refused fault) tells goes = absurd goes
 
-    copied_to : (before : Option Due) (q : Copier × Outcome (Node K V) Table) → TellsDue before (due_in_copying q.0.stands) → GoesOn q.1 → CallTo before (copied x q)
+    copied_to : (before : Option Due) (q : Copier × Yielding (Node K V) Table) → TellsDue before (due_in_copying q.0.stands) → GoesOn q.1 → CallTo before (copied x q)
     copied_to before (c, outcome.Goes) tells goes = tells
     copied_to before (c, outcome.Waits) tells goes = tells
     copied_to before (c, outcome.Gave value) tells goes = tells
@@ -269,14 +269,14 @@ module _ {K V : Type 0} {size : ℕ} (w : World (Node K V)) (r : Reached deferre
             subst (CallTo (due_in_copying copier.stands)) (sym inner.1) (copied_to (due_in_copying copier.stands) inner.0 row.0 row.1)
         by _ its st = absurd its
 
-  module _ (hash : K → ℕ) (x : Reserve) (end : Reserve × Outcome (Node K V) Unit) (steps : StepsTold K V (Reserve × Outcome (Node K V) Unit) w.memory changed.Nothing (reserve_plan hash x) m2 told end) where
+  module _ (hash : K → ℕ) (x : Reserve) (end : Reserve × Yielding (Node K V) Unit) (steps : StepsTold K V (Reserve × Yielding (Node K V) Unit) w.memory changed.Nothing (reserve_plan hash x) m2 told end) where
     abbrev RoomAt : Reserving → Type 0
-    RoomAt p = StepsTold K V (Reserve × Outcome (Node K V) Unit) w.memory changed.Nothing (reserves.plan_at {V = V} hash x p) m2 told end
+    RoomAt p = StepsTold K V (Reserve × Yielding (Node K V) Unit) w.memory changed.Nothing (reserves.plan_at {V = V} hash x p) m2 told end
 
-    abbrev RoomTo : Option Due → Reserve × Outcome (Node K V) Unit → Type 0
+    abbrev RoomTo : Option Due → Reserve × Yielding (Node K V) Unit → Type 0
     RoomTo before e = TellsDue before (due_in_reserving e.0.stands)
 
-    copied_room : (before : Option Due) (q : Copier × Outcome (Node K V) Table) → TellsDue before (due_in_copying q.0.stands) → GoesOn q.1 → RoomTo before (reserves.copied x q)
+    copied_room : (before : Option Due) (q : Copier × Yielding (Node K V) Table) → TellsDue before (due_in_copying q.0.stands) → GoesOn q.1 → RoomTo before (reserves.copied x q)
     copied_room before (c, outcome.Goes) tells goes = tells
     copied_room before (c, outcome.Waits) tells goes = tells
     copied_room before (c, outcome.Gave value) tells goes = tells
@@ -314,7 +314,7 @@ module _ {K V : Type 0} {size : ℕ} (w : World (Node K V)) (r : Reached deferre
     disposed_sweep before (d, settled.Gave value) tells done = tells
     disposed_sweep before (d, settled.Done) tells done = spent before (due_in_disposing d.stands) (due_in_sweeping (points.further x).stands) (further_none ∙ sym (done refl)) tells
 
-    copied_sweep : (before : Option Due) (q : Copier × Outcome (Node K V) Table) → TellsDue before (due_in_copying q.0.stands) → GoesOn q.1 → SweepTo before (sweeps.copied x q)
+    copied_sweep : (before : Option Due) (q : Copier × Yielding (Node K V) Table) → TellsDue before (due_in_copying q.0.stands) → GoesOn q.1 → SweepTo before (sweeps.copied x q)
     copied_sweep before (c, outcome.Goes) tells goes = tells
     copied_sweep before (c, outcome.Waits) tells goes = tells
     copied_sweep before (c, outcome.Gave value) tells goes = tells
@@ -402,7 +402,7 @@ module _ {K V : Type 0} (same : K → K → Bool) (hash : ℕ → K → ℕ) (na
   room_tells x is row =
       let inner = told_in old.memory new.memory told of_room (reserve_plan to.0.hash x.reserve) (to.1, said) (stepped (ForRoom x) is) in
       of_machine (ForRoom x) (kinds.Reserve inner.0.0) (ap (λ (z : Machine K V K × Progress (Node K V)). z.0) inner.1)
-      (room_row s.world r i map known new.memory told entries.blank (rows.none map i u under_way) (entries.one map i u under_way) tables_are to.0.hash x.reserve inner.0 (subst (λ (k : Mem (Node K V)). StepsTold K V (Reserve × Outcome (Node K V) Unit) k changed.Nothing (reserve_plan to.0.hash x.reserve) new.memory told inner.0) (sym at_old.memory) inner.2) its)
+      (room_row s.world r i map known new.memory told entries.blank (rows.none map i u under_way) (entries.one map i u under_way) tables_are to.0.hash x.reserve inner.0 (subst (λ (k : Mem (Node K V)). StepsTold K V (Reserve × Yielding (Node K V) Unit) k changed.Nothing (reserve_plan to.0.hash x.reserve) new.memory told inner.0) (sym at_old.memory) inner.2) its)
     where
       its : ReservingIs s.world i x.reserve.stands
       its = elim (each.stand i (ForRoom x) (under_way ∙ ap Some is)) as (λ _. ReservingIs s.world i x.reserve.stands) [

@@ -8,7 +8,7 @@ use Rattle.run_places.specs.Given.SeizeWordsOp.{Found, Stored, Exchanged, Made, 
 use Rattle.run_places.specs.Given.SeizeWordsMem.{Mem, value_at, word_at}
 use Rattle.run_places.specs.Given.SeizeWordsWord.{block_in}
 use Rattle.run_places.specs.Given.SeizeFurther.{IsWordOf}
-use Rattle.run_places.specs.Given.SeizeDeclared.progress.Progress.{Progress}
+use Rattle.run_places.specs.Given.SeizeDeclared.advance.Advance.{Advance}
 use Rattle.run_places.specs.Given.SeizeDeclared.states.TheConstants.{LAST_SLOT}
 use Rattle.run_places.specs.Given.SeizeDeclared.rows.defer.Defer.{Defer}
 use Rattle.run_places.specs.Given.SeizeDeclared.rows.defer.Deferring.{Deferring}
@@ -29,7 +29,7 @@ use Rattle.run_places.specs.Given.TablesNodes.{deferred_word}
 use Rattle.run_places.specs.Given.TablesDeclared.node.Node.{Node}
 use Rattle.run_places.specs.Given.TablesDeclared.node.Node.TheVariants as node
 use Rattle.run_places.specs.Given.TablesDeclared.table_words.TheConstants.{DEFERRED}
-use Rattle.run_places.specs.Given.RunsDeclared.effect.Table.{Table}
+use Rattle.run_places.specs.Given.RunsDeclared.effect.TableId.{TableId}
 use Rattle.run_places.specs.Given.TellerTells.{StepsTold}
 use Rattle.run_places.specs.Given.EffectsDeclared.changed.Changed.{Changed}
 use Rattle.run_places.specs.Given.EffectsDeclared.changed.Changed.TheVariants as changed
@@ -44,7 +44,7 @@ use Rattle.run_debts.proofs.EntryRows.{named as named_by}
 
 -- each block that has a list, and may carry what is put on it, is noted as a table
 abbrev pub AreTables : {K V : Type 0} → Mem (Node K V) → (ℕ → Life) → Known → Type 0
-AreTables memory life known = (b d : ℕ) → (view deferred_word memory).lists b ≡ Some d → can_carry (life b) ≡ true → (t : Table) × (len : ℕ) × (known.roles b ≡ role.Table t len)
+AreTables memory life known = (b d : ℕ) → (view deferred_word memory).lists b ≡ Some d → can_carry (life b) ≡ true → (t : TableId) × (len : ℕ) × (known.roles b ≡ role.Table t len)
 
 -- the list of a block that a section holds, and that may carry others, was not taken over
 undrained : (l : Life) (debt : ℕ → ℕ → Debt) (s : ℕ) (d : Bool) → IsGuarded l debt s → can_carry l ≡ true → DrainedIs l d → d ≡ false
@@ -68,14 +68,14 @@ word_of_list (Some (node.Table len limit turn)) d is = by (len == 0) is
 word_of_list (Some _) d is = absurd (cc is)
 
 module _ {K V : Type 0} {size : ℕ} (w : World (Node K V)) (r : Reached deferred_word size w) (i caller map : ℕ) (known : Known) (m2 : Mem (Node K V)) (told : Changed) (s : ℕ) (c : Defer)
-    (fits : FitsDefer (LAST_SLOT + 1) i (view deferred_word w.memory) r.good.state r.good.extra s c.block c.table_word c.stands) (end : Defer × Progress Unit)
-    (steps : StepsTold K V (Defer × Progress Unit) w.memory changed.Nothing (plans.defer_plan c) m2 told end)
+    (fits : FitsDefer (LAST_SLOT + 1) i (view deferred_word w.memory) r.good.state r.good.extra s c.block c.table_word c.stands) (end : Defer × Advance Unit)
+    (steps : StepsTold K V (Defer × Advance Unit) w.memory changed.Nothing (plans.defer_plan c) m2 told end)
     (tables : AreTables w.memory r.good.state.life known) where
   abbrev m : State
   m = r.good.state
 
   abbrev SteppedAt : Deferring → Type 0
-  SteppedAt p = StepsTold K V (Defer × Progress Unit) w.memory changed.Nothing (plans.plan_at {T = Node K V} c p) m2 told end
+  SteppedAt p = StepsTold K V (Defer × Advance Unit) w.memory changed.Nothing (plans.plan_at {T = Node K V} c p) m2 told end
 
   abbrev FitsHere : Deferring → Type 0
   FitsHere p = FitsDefer (LAST_SLOT + 1) i (view deferred_word w.memory) m r.good.extra s c.block c.table_word p
@@ -121,7 +121,7 @@ module _ {K V : Type 0} {size : ℕ} (w : World (Node K V)) (r : Reached deferre
           absurd (omega (arith, none, some))
 
   -- a table carries its pairs by this word
-  put_told : (x : Role) (t : Table) (len : ℕ) → x ≡ role.Table t len → (was is : Role) → in_block (acts.Call caller map) x DEFERRED known.stored false was is ≡ carried t is
+  put_told : (x : Role) (t : TableId) (len : ℕ) → x ≡ role.Table t len → (was is : Role) → in_block (acts.Call caller map) x DEFERRED known.stored false was is ≡ carried t is
   put_told x t len e was is = ap (λ (y : Role). in_block (acts.Call caller map) y DEFERRED known.stored false was is) e
 
   still : (p : Deferring) (word : ℕ) (place : At) → due_in_defer c p ≡ Some (ToPut word place) → due_in_defer end.0 end.0.stands ≡ Some (ToPut word place) → effects_by caller map known told ≡ [] → Goes p
@@ -131,7 +131,7 @@ module _ {K V : Type 0} {size : ℕ} (w : World (Node K V)) (r : Reached deferre
   defer_tells = by c.stands refl fits steps
     where
       reads : c.stands ≡ at.Reads → SteppedAt at.Reads → due_in_defer end.0 end.0.stands ≡ Some (ToPut c.block c.table_word)
-      reads is (Found head, (took, told_so), ends) = ap (λ (q : Defer × Progress Unit). due_in_defer q.0 q.0.stands) ends
+      reads is (Found head, (took, told_so), ends) = ap (λ (q : Defer × Advance Unit). due_in_defer q.0 q.0.stands) ends
       reads is (Stored, (took, told_so), ends) = absurd took.0
       reads is (Exchanged x, (took, told_so), ends) = absurd took.0
       reads is (Made x, (took, told_so), ends) = absurd took.0
@@ -143,13 +143,13 @@ module _ {K V : Type 0} {size : ℕ} (w : World (Node K V)) (r : Reached deferre
           let told_at : told ≡ changed.Wrote (name.Word f.on.t f.on.d) found c.block = told_so ∙ ap (λ (a : At). changed.Wrote a found c.block) f.on.at_is in
           let there : word_at w.memory (name.Word f.on.t f.on.d) ≡ Some found = subst (λ (a : At). word_at w.memory a ≡ Some found) f.on.at_is took.0.0 in
           let table = tables f.on.t f.on.d f.on.list (carries f.on) in
-          TellsDeferred c.block f.on.t c.table_word table.0 table.1 refl (subst (IsWordOf f.on.t) (sym f.on.at_is) refl) (ap (λ (q : Defer × Progress Unit). due_in_defer q.0 q.0.stands) ends) table.2
+          TellsDeferred c.block f.on.t c.table_word table.0 table.1 refl (subst (IsWordOf f.on.t) (sym f.on.at_is) refl) (ap (λ (q : Defer × Advance Unit). due_in_defer q.0 q.0.stands) ends) table.2
           (ap (effects_by caller map known) told_at
           ∙ ap (λ (q : Bool). in_block (acts.Call caller map) (known.roles f.on.t) f.on.d known.stored q (named known found) (named known c.block)) (apart f.on found there)
           ∙ ap (λ (d : ℕ). in_block (acts.Call caller map) (known.roles f.on.t) d known.stored false (named known found) (named known c.block)) (word_of_list (value_at w.memory f.on.t) f.on.d f.on.list)
           ∙ put_told (known.roles f.on.t) table.0 table.1 table.2 (named known found) (named known c.block))
       pushes head f (Exchanged (Err found), (took, told_so), ends) =
-          TellsNone (ap (effects_by caller map known) told_so) (ap (λ (q : Defer × Progress Unit). due_in_defer q.0 q.0.stands) ends)
+          TellsNone (ap (effects_by caller map known) told_so) (ap (λ (q : Defer × Advance Unit). due_in_defer q.0 q.0.stands) ends)
       pushes head f (Found x, (took, told_so), ends) = absurd took.0
       pushes head f (Stored, (took, told_so), ends) = absurd took.0
       pushes head f (Made x, (took, told_so), ends) = absurd took.0
@@ -159,8 +159,8 @@ module _ {K V : Type 0} {size : ℕ} (w : World (Node K V)) (r : Reached deferre
       by : (p : Deferring) → c.stands ≡ p → FitsHere p → SteppedAt p → Goes p
       by at.Reads is f st = still at.Reads c.block c.table_word refl (reads is st) (plan_none caller map known w.memory m2 told (plans.plan_at {T = Node K V} c at.Reads) end st tt)
       by (at.Links head) is f st =
-          still (at.Links head) c.block c.table_word refl (ap (λ (q : Defer × Progress Unit). due_in_defer q.0 q.0.stands) st.2)
+          still (at.Links head) c.block c.table_word refl (ap (λ (q : Defer × Advance Unit). due_in_defer q.0 q.0.stands) st.2)
           (plan_none caller map known w.memory m2 told (plans.plan_at {T = Node K V} c (at.Links head)) end st (λ e. absurd (omega (arith, e))))
       by (at.Pushes head) is f st = pushes head f st
       by at.Over is f st =
-          TellsNone (ap (effects_by caller map known) st.2) (ap (λ (q : Defer × Progress Unit). due_in_defer q.0 q.0.stands) st.1 ∙ ap (due_in_defer c) is)
+          TellsNone (ap (effects_by caller map known) st.2) (ap (λ (q : Defer × Advance Unit). due_in_defer q.0 q.0.stands) st.1 ∙ ap (due_in_defer c) is)

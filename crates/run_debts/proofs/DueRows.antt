@@ -6,8 +6,8 @@ use Rattle.run_places.specs.Given.SeizeWordsOp.{Found, Stored, Exchanged, Made, 
 use Rattle.run_places.specs.Given.SeizeWordsMem.{Mem, value_at}
 use Rattle.run_places.specs.Given.SeizeWordsPlan.{Ends, Now}
 use Rattle.run_places.specs.Given.SeizeWordsWord.{block_in}
-use Rattle.run_places.specs.Given.SeizeDeclared.progress.Progress.{Progress}
-use Rattle.run_places.specs.Given.SeizeDeclared.progress.Progress.TheVariants as progress
+use Rattle.run_places.specs.Given.SeizeDeclared.advance.Advance.{Advance}
+use Rattle.run_places.specs.Given.SeizeDeclared.advance.Advance.TheVariants as progress
 use Rattle.run_places.specs.Given.SeizeDeclared.states.TheConstants.{HELD, LAST_SLOT}
 use Rattle.run_places.specs.Given.SeizeDeclared.rows.defer.Defer.{Defer}
 use Rattle.run_places.specs.Given.SeizeDeclared.rows.defer.Deferring.{Deferring}
@@ -51,8 +51,8 @@ use Rattle.run_places.specs.Given.ResizeDeclared.copier.Copying.TheVariants as c
 use Rattle.run_places.specs.Given.ResizeDeclared.dispose.Dispose.{Dispose}
 use Rattle.run_places.specs.Given.ResizeDeclared.dispose.Disposing.{Disposing}
 use Rattle.run_places.specs.Given.ResizeDeclared.dispose.Disposing.TheVariants as disposing
-use Rattle.run_places.specs.Given.ResizeDeclared.outcome.Outcome.{Outcome}
-use Rattle.run_places.specs.Given.ResizeDeclared.outcome.Outcome.TheVariants as outcome
+use Rattle.run_places.specs.Given.ResizeDeclared.yielding.Yielding.{Yielding}
+use Rattle.run_places.specs.Given.ResizeDeclared.yielding.Yielding.TheVariants as outcome
 use Rattle.run_places.specs.Given.RunsDeclared.effect.Effect.{Effect}
 use Rattle.run_places.specs.Given.TellerTells.{StepsTold}
 use Rattle.run_places.specs.Given.EffectsDeclared.changed.Changed.{Changed}
@@ -72,13 +72,13 @@ over_is at.Over e = refl
 over_is _ e = absurd (cc e)
 
 -- a row that has put a block behind another has none in hand
-abbrev pub EndsNone : Defer → Progress Unit → Type 0
+abbrev pub EndsNone : Defer → Advance Unit → Type 0
 EndsNone d (progress.Done x) = due_in_defer d d.stands ≡ None
 EndsNone d (progress.Refused fault) = due_in_defer d d.stands ≡ None
 EndsNone d _ = Unit {0}
 
 -- it goes on
-abbrev pub GoesOn : {A B : Type 0} → Outcome A B → Type 0
+abbrev pub GoesOn : {A B : Type 0} → Yielding A B → Type 0
 GoesOn (outcome.Done x) = ⊥
 GoesOn (outcome.Refused fault) = ⊥
 GoesOn _ = Unit {0}
@@ -195,18 +195,18 @@ module _ {K V : Type 0} {size : ℕ} (w : World (Node K V)) (r : Reached deferre
 
   -- putting behind
 
-  module _ (c : Defer) (end : Defer × Progress Unit) (steps : StepsTold K V (Defer × Progress Unit) w.memory changed.Nothing (defer_plan c) m2 told end) where
+  module _ (c : Defer) (end : Defer × Advance Unit) (steps : StepsTold K V (Defer × Advance Unit) w.memory changed.Nothing (defer_plan c) m2 told end) where
     abbrev DeferGoes : Type 0
     DeferGoes = Tells (due_in_defer c c.stands) (due_in_defer end.0 end.0.stands)
 
     abbrev DeferAt : Deferring → Type 0
-    DeferAt p = StepsTold K V (Defer × Progress Unit) w.memory changed.Nothing (defers.plan_at {T = Node K V} c p) m2 told end
+    DeferAt p = StepsTold K V (Defer × Advance Unit) w.memory changed.Nothing (defers.plan_at {T = Node K V} c p) m2 told end
 
     begun_on : c.stands ≡ deferring.Reads → DeferGoes
     begun_on stands = by (subst DeferAt stands steps)
       where
-        after : (x : Defer × Progress Unit) → end ≡ x → due_in_defer x.0 x.0.stands ≡ Some (ToPut c.block c.table_word) → due_in_defer end.0 end.0.stands ≡ due_in_defer c c.stands
-        after x is due = ap (λ (q : Defer × Progress Unit). due_in_defer q.0 q.0.stands) is ∙ due ∙ sym (ap (due_in_defer c) stands)
+        after : (x : Defer × Advance Unit) → end ≡ x → due_in_defer x.0 x.0.stands ≡ Some (ToPut c.block c.table_word) → due_in_defer end.0 end.0.stands ≡ due_in_defer c c.stands
+        after x is due = ap (λ (q : Defer × Advance Unit). due_in_defer q.0 q.0.stands) is ∙ due ∙ sym (ap (due_in_defer c) stands)
 
         by : DeferAt deferring.Reads → DeferGoes
         by (Found head, (took, told_so), ends) = TellsNone (ap (effects_by i map known) told_so) (after _ ends refl)
@@ -222,7 +222,7 @@ module _ {K V : Type 0} {size : ℕ} (w : World (Node K V)) (r : Reached deferre
     defer_row (IsToPut block word is) = begun_on (ap (λ (x : Defer). x.stands) is)
 
     -- it is over once it has nothing in hand
-    abbrev DoneNone : Defer × Progress Unit → Type 0
+    abbrev DoneNone : Defer × Advance Unit → Type 0
     DoneNone e = EndsNone e.0 e.1
 
     pub defer_done : DoneNone end
@@ -266,7 +266,7 @@ module _ {K V : Type 0} {size : ℕ} (w : World (Node K V)) (r : Reached deferre
     settles_to before (c, settled.Gave value) tells done = (tells, λ e. absurd (cc e))
     settles_to before (c, settled.Done) tells done = (as_after before (due_in_settle c c.stands) None (sym (done refl)) tells, λ e. refl)
 
-    defers_to : (before : Option Due) (c : Defer) (o : Progress Unit) → Tells before (due_in_defer c c.stands) → EndsNone c o → GoesTo before (disposes.deferred d (c, o))
+    defers_to : (before : Option Due) (c : Defer) (o : Advance Unit) → Tells before (due_in_defer c c.stands) → EndsNone c o → GoesTo before (disposes.deferred d (c, o))
     defers_to before c progress.Goes tells done = (tells, λ e. absurd (cc e))
     defers_to before c progress.Waits tells done = (tells, λ e. absurd (cc e))
     defers_to before c (progress.Done x) tells done = (as_after before (due_in_defer c c.stands) None (sym done) tells, λ e. refl)
@@ -289,11 +289,11 @@ module _ {K V : Type 0} {size : ℕ} (w : World (Node K V)) (r : Reached deferre
         by disposing.Over is st = absurd is
 
   -- within a copier
-  module _ (hash : K → ℕ) (c : Copier) (end : Copier × Outcome (Node K V) Table) (steps : StepsTold K V (Copier × Outcome (Node K V) Table) w.memory changed.Nothing (copier_plan hash c) m2 told end) where
+  module _ (hash : K → ℕ) (c : Copier) (end : Copier × Yielding (Node K V) Table) (steps : StepsTold K V (Copier × Yielding (Node K V) Table) w.memory changed.Nothing (copier_plan hash c) m2 told end) where
     abbrev CopierAt : Copying → Type 0
-    CopierAt p = StepsTold K V (Copier × Outcome (Node K V) Table) w.memory changed.Nothing (copiers.plan_at {V = V} hash c p) m2 told end
+    CopierAt p = StepsTold K V (Copier × Yielding (Node K V) Table) w.memory changed.Nothing (copiers.plan_at {V = V} hash c p) m2 told end
 
-    abbrev CopiesTo : Option Due → Copier × Outcome (Node K V) Table → Type 0
+    abbrev CopiesTo : Option Due → Copier × Yielding (Node K V) Table → Type 0
     CopiesTo before e = Tells before (due_in_copying e.0.stands) × GoesOn e.1
 
     abbrev RetiredTo : Option Due → ℕ → Settle × Settled (Node K V) → Type 0

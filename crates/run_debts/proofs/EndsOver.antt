@@ -7,8 +7,8 @@ use Rattle.run_places.specs.Given.SeizeWordsPlan.{Steps}
 use Rattle.run_places.specs.Given.SeizeWordsWord.{block_in}
 use Rattle.run_places.specs.Given.SeizeDeclared.rows.settle.Settled.{Settled}
 use Rattle.run_places.specs.Given.SeizeDeclared.rows.settle.Settled.TheVariants as settled
-use Rattle.run_places.specs.Given.SeizeDeclared.progress.Progress.{Progress}
-use Rattle.run_places.specs.Given.SeizeDeclared.progress.Progress.TheVariants as progress
+use Rattle.run_places.specs.Given.SeizeDeclared.advance.Advance.{Advance}
+use Rattle.run_places.specs.Given.SeizeDeclared.advance.Advance.TheVariants as progress
 use Rattle.run_places.specs.Given.TablesChunks.{is_incremental}
 use Rattle.run_places.specs.Given.TablesFinding.{may_name}
 use Rattle.run_places.specs.Given.TablesTrials.{next_trial, with_met}
@@ -27,8 +27,8 @@ use Rattle.run_places.specs.Given.ResizeNewTable.{new_table_plan}
 use Rattle.run_places.specs.Given.ResizeDeclared.copier.Copier.{Copier}
 use Rattle.run_places.specs.Given.ResizeDeclared.lookup.Lookup.{Lookup}
 use Rattle.run_places.specs.Given.ResizeDeclared.new_table.NewTable.{NewTable}
-use Rattle.run_places.specs.Given.ResizeDeclared.outcome.Outcome.{Outcome}
-use Rattle.run_places.specs.Given.ResizeDeclared.outcome.Outcome.TheVariants as outcome
+use Rattle.run_places.specs.Given.ResizeDeclared.yielding.Yielding.{Yielding}
+use Rattle.run_places.specs.Given.ResizeDeclared.yielding.Yielding.TheVariants as outcome
 use Rattle.run_places.specs.Given.RawAnswers.{ended}
 use Rattle.run_places.specs.Given.RawCall.{made, makes_of, root_found, next_found, dropped, key_read, pair_read, word_read, word_found, tried, looked, looks_for, first_made, next_made, helped, copied, disposed, plan_at, call_plan}
 use Rattle.run_places.specs.Given.RawCallFills.{filled, putting_by, fill_by, emptied, fills_with, given_up}
@@ -150,33 +150,33 @@ module _ {K V Q : Type 0} where
     changed_ends word new = either (new == TOMBSTONE) (going p (at.Counts word)) _ tt (either (word == 0) (going p (at.Counts 0)) _ tt tt)
 
     -- what machines within it tell
-    looked_ends : (end : Lookup × Progress (Option ℕ)) → IsEnded (looked p end)
+    looked_ends : (end : Lookup × Advance (Option ℕ)) → IsEnded (looked p end)
     looked_ends (l, progress.Goes) = tt
     looked_ends (l, progress.Waits) = tt
     looked_ends (l, progress.Done (Some found)) = tt
     looked_ends (l, progress.Done None) = tt
     looked_ends (l, progress.Refused fault) = tt
 
-    first_ends : (end : NewTable × Progress Table) → IsEnded (first_made p end)
+    first_ends : (end : NewTable × Advance Table) → IsEnded (first_made p end)
     first_ends (n, progress.Goes) = tt
     first_ends (n, progress.Waits) = tt
     first_ends (n, progress.Done table) = tt
     first_ends (n, progress.Refused fault) = ending_ends (ends.Refused fault)
 
-    next_ends : (end : NewTable × Progress Table) → IsEnded (next_made p end)
+    next_ends : (end : NewTable × Advance Table) → IsEnded (next_made p end)
     next_ends (n, progress.Goes) = tt
     next_ends (n, progress.Waits) = tt
     next_ends (n, progress.Done table) = on_ends table
     next_ends (n, progress.Refused fault) = ending_ends (ends.Refused fault)
 
-    helped_ends : (goal : Table) (end : Copier × Outcome (Node K V) Table) → IsEnded (helped p goal end)
+    helped_ends : (goal : Table) (end : Copier × Yielding (Node K V) Table) → IsEnded (helped p goal end)
     helped_ends goal (c, outcome.Goes) = tt
     helped_ends goal (c, outcome.Waits) = tt
     helped_ends goal (c, outcome.Gave value) = tt
     helped_ends goal (c, outcome.Done table) = tt
     helped_ends goal (c, outcome.Refused fault) = ending_ends (ends.Refused fault)
 
-    copied_ends : (end : Copier × Outcome (Node K V) Table) → IsEnded (copied p end)
+    copied_ends : (end : Copier × Yielding (Node K V) Table) → IsEnded (copied p end)
     copied_ends (c, outcome.Goes) = tt
     copied_ends (c, outcome.Waits) = tt
     copied_ends (c, outcome.Gave value) = tt

@@ -3,8 +3,8 @@ use Rattle.std.specs.Prelude.{Option, ◌⊎◌}
 use Rattle.std.proofs.Common.{◌≡◌, ℕ, ◌+◌, ◌/◌, ◌<◌, List, length, refl, arith, inl, inr, ap, sym, subst, ◌∙◌}
 use Rattle.run_places.specs.Given.SeizeWordsMem.{Mem}
 use Rattle.run_places.specs.Given.SeizeDeclared.states.TheConstants.{NEXT, FIRST, COUNT, LINK, LAST_SLOT}
-use Rattle.run_places.specs.Given.SeizeDeclared.progress.Progress.{Progress}
-use Rattle.run_places.specs.Given.SeizeDeclared.progress.Progress.TheVariants as progress
+use Rattle.run_places.specs.Given.SeizeDeclared.advance.Advance.{Advance}
+use Rattle.run_places.specs.Given.SeizeDeclared.advance.Advance.TheVariants as progress
 use Rattle.run_places.specs.Given.SeizeDeclared.rows.defer.Defer.{Defer}
 use Rattle.run_places.specs.Given.SeizeDeclared.rows.defer.Deferring.{Deferring}
 use Rattle.run_places.specs.Given.SeizeDeclared.rows.defer.Deferring.TheVariants as deferring
@@ -141,13 +141,13 @@ module _ {T : Type 0} (defers : T → Option ℕ) {size : ℕ} (w : World T) (r 
     settles_memory c d m2 (Gave value) = refl
     settles_memory c d m2 Done = refl
 
-    registers_memory : (c d : Register) (m2 : Mem T) (p : Progress ℕ) → (registers_on w i c m2 (d, p)).memory ≡ m2
+    registers_memory : (c d : Register) (m2 : Mem T) (p : Advance ℕ) → (registers_on w i c m2 (d, p)).memory ≡ m2
     registers_memory c d m2 progress.Goes = refl
     registers_memory c d m2 progress.Waits = refl
     registers_memory c d m2 (progress.Done s) = refl
     registers_memory c d m2 (progress.Refused fault) = refl
 
-    defers_memory : (s : ℕ) (d : Defer) (m2 : Mem T) (p : Progress Unit) → (defers_on w i s m2 (d, p)).memory ≡ m2
+    defers_memory : (s : ℕ) (d : Defer) (m2 : Mem T) (p : Advance Unit) → (defers_on w i s m2 (d, p)).memory ≡ m2
     defers_memory s d m2 progress.Goes = refl
     defers_memory s d m2 progress.Waits = refl
     defers_memory s d m2 (progress.Done u) = refl

@@ -5,8 +5,8 @@ use Rattle.run_places.specs.Given.SeizeWordsMem.{Mem, Can, Took, value_at}
 use Rattle.run_places.specs.Given.SeizeWordsPlan.{May, Steps}
 use Rattle.run_places.specs.Given.SeizeWordsWord.{block_in, link_to}
 use Rattle.run_places.specs.Given.SeizeWordsDeclared.at.At.TheVariants.{Entry}
-use Rattle.run_places.specs.Given.SeizeDeclared.progress.Progress.{Progress}
-use Rattle.run_places.specs.Given.SeizeDeclared.progress.Progress.TheVariants as progress
+use Rattle.run_places.specs.Given.SeizeDeclared.advance.Advance.{Advance}
+use Rattle.run_places.specs.Given.SeizeDeclared.advance.Advance.TheVariants as progress
 use Rattle.run_places.specs.Given.SeizeDeclared.rows.defer.Defer.{Defer}
 use Rattle.run_places.specs.Given.SeizeDeclared.rows.register.Register.{Register}
 use Rattle.run_places.specs.Given.SeizeDeclared.rows.settle.Settle.{Settle}
@@ -242,7 +242,7 @@ module _ {T : Type 0} (defers : T → Option ℕ) {size : ℕ} (w : World T) (r 
       row_at : (mem : Mem T) (row : Row) → RetiresOne (IsZero mem) row → RetiresOne (IsZero mem) ((λ (j : ℕ). with_at w.row i row j) i)
       row_at mem row so = at_cases (RetiresOne (IsZero mem)) w.row i row i (λ e. so) (λ ne. absurd (ne refl))
 
-      registered : (c : Register) (mem : Mem T) (d : Register) (p : Progress ℕ) → OneOf (registers_on w i c mem (d, p)) i
+      registered : (c : Register) (mem : Mem T) (d : Register) (p : Advance ℕ) → OneOf (registers_on w i c mem (d, p)) i
       registered c mem d progress.Goes = row_at mem (Registers d) tt
       registered c mem d progress.Waits = row_at mem (Registers d) tt
       registered c mem d (progress.Done s) = row_at mem Rests tt
@@ -254,7 +254,7 @@ module _ {T : Type 0} (defers : T → Option ℕ) {size : ℕ} (w : World T) (r 
       settles c mem d (settled.Gave value) so = row_at mem (Settles d) so
       settles c mem d settled.Done so = row_at mem Rests tt
 
-      deferred : (s : ℕ) (mem : Mem T) (d : Defer) (p : Progress Unit) → OneOf (defers_on w i s mem (d, p)) i
+      deferred : (s : ℕ) (mem : Mem T) (d : Defer) (p : Advance Unit) → OneOf (defers_on w i s mem (d, p)) i
       deferred s mem d progress.Goes = row_at mem (Defers s d) tt
       deferred s mem d progress.Waits = row_at mem (Defers s d) tt
       deferred s mem d (progress.Done x) = row_at mem Rests tt

@@ -5,8 +5,8 @@ use Rattle.run_places.specs.Given.SeizeWordsMem.{Mem, Took, value_at}
 use Rattle.run_places.specs.Given.SeizeWordsOp.{Out, Found, Stored, Exchanged, Made, Taken, Roomed}
 use Rattle.run_places.specs.Given.SeizeWordsPlan.{Steps}
 use Rattle.run_places.specs.Given.SeizeWordsWord.{block_in}
-use Rattle.run_places.specs.Given.SeizeDeclared.progress.Progress.{Progress}
-use Rattle.run_places.specs.Given.SeizeDeclared.progress.Progress.TheVariants as progress
+use Rattle.run_places.specs.Given.SeizeDeclared.advance.Advance.{Advance}
+use Rattle.run_places.specs.Given.SeizeDeclared.advance.Advance.TheVariants as progress
 use Rattle.run_places.specs.Given.TablesChunks.{is_incremental}
 use Rattle.run_places.specs.Given.TablesFinding.{may_name}
 use Rattle.run_places.specs.Given.TablesTrials.{next_trial, with_met}
@@ -26,8 +26,8 @@ use Rattle.run_places.specs.Given.ResizeNewTable.{new_table_plan}
 use Rattle.run_places.specs.Given.ResizeDeclared.copier.Copier.{Copier}
 use Rattle.run_places.specs.Given.ResizeDeclared.lookup.Lookup.{Lookup}
 use Rattle.run_places.specs.Given.ResizeDeclared.new_table.NewTable.{NewTable}
-use Rattle.run_places.specs.Given.ResizeDeclared.outcome.Outcome.{Outcome}
-use Rattle.run_places.specs.Given.ResizeDeclared.outcome.Outcome.TheVariants as outcome
+use Rattle.run_places.specs.Given.ResizeDeclared.yielding.Yielding.{Yielding}
+use Rattle.run_places.specs.Given.ResizeDeclared.yielding.Yielding.TheVariants as outcome
 use Rattle.run_places.specs.Given.RawCall.{made, makes_of, root_found, next_found, dropped, key_read, pair_read, word_read, word_found, tried, looked, looks_for, first_made, next_made, helped, copied, plan_at, call_plan}
 use Rattle.run_places.specs.Given.RawCallFills.{filled, putting_by, fill_by, emptied, fills_with, given_up}
 use Rattle.run_places.specs.Given.RawCallPoints.{going, over, ending, storing, burying, at_gap, gap_by, asking_at, pair_by, tableless, at_free, at_last, at_pair, told_of, entering, went_on, changed, having_met}
@@ -190,33 +190,33 @@ module _ {K V Q : Type 0} where
     changed_fresh word new = either (new == TOMBSTONE) (going p (at.Counts word)) _ tt (either (word == 0) (going p (at.Counts 0)) _ tt (_, _, refl))
 
     -- what machines within it tell
-    looked_fresh : (end : Lookup × Progress (Option ℕ)) → IsFresh (looked p end)
+    looked_fresh : (end : Lookup × Advance (Option ℕ)) → IsFresh (looked p end)
     looked_fresh (l, progress.Goes) = tt
     looked_fresh (l, progress.Waits) = tt
     looked_fresh (l, progress.Done (Some found)) = (tt, refl)
     looked_fresh (l, progress.Done None) = (tt, refl)
     looked_fresh (l, progress.Refused fault) = refl
 
-    first_fresh : (end : NewTable × Progress Table) → IsFresh (first_made p end)
+    first_fresh : (end : NewTable × Advance Table) → IsFresh (first_made p end)
     first_fresh (n, progress.Goes) = tt
     first_fresh (n, progress.Waits) = tt
     first_fresh (n, progress.Done table) = tt
     first_fresh (n, progress.Refused fault) = ending_fresh (ends.Refused fault) tt
 
-    next_fresh : (end : NewTable × Progress Table) → IsFresh (next_made p end)
+    next_fresh : (end : NewTable × Advance Table) → IsFresh (next_made p end)
     next_fresh (n, progress.Goes) = tt
     next_fresh (n, progress.Waits) = tt
     next_fresh (n, progress.Done table) = on_fresh table
     next_fresh (n, progress.Refused fault) = ending_fresh (ends.Refused fault) tt
 
-    helped_fresh : (goal : Table) (end : Copier × Outcome (Node K V) Table) → IsFresh (helped p goal end)
+    helped_fresh : (goal : Table) (end : Copier × Yielding (Node K V) Table) → IsFresh (helped p goal end)
     helped_fresh goal (c, outcome.Goes) = tt
     helped_fresh goal (c, outcome.Waits) = tt
     helped_fresh goal (c, outcome.Gave value) = tt
     helped_fresh goal (c, outcome.Done table) = tt
     helped_fresh goal (c, outcome.Refused fault) = ending_fresh (ends.Refused fault) tt
 
-    copied_fresh : (end : Copier × Outcome (Node K V) Table) → IsFresh (copied p end)
+    copied_fresh : (end : Copier × Yielding (Node K V) Table) → IsFresh (copied p end)
     copied_fresh (c, outcome.Goes) = tt
     copied_fresh (c, outcome.Waits) = tt
     copied_fresh (c, outcome.Gave value) = tt

@@ -9,7 +9,7 @@ use Rattle.run_places.specs.Given.RawDeclared.machines.machine.Machine.{Machine}
 use Rattle.run_places.specs.Given.RawDeclared.machines.progress.Progress.{Progress}
 use Rattle.run_places.specs.Given.RunsDeclared.effect.Effect.{Effect}
 use Rattle.run_places.specs.Given.RunsDeclared.effect.Effect.TheVariants as effect
-use Rattle.run_places.specs.Given.RunsDeclared.effect.Table.{Table}
+use Rattle.run_places.specs.Given.RunsDeclared.effect.TableId.{TableId}
 use Rattle.run_places.specs.Given.RunsDeclared.effect.Thing.{Thing}
 use Rattle.run_places.specs.Given.SchedulesLinearizable.{shift_of}
 use Rattle.run_places.specs.Given.SchedulesMoment.{Moment}
@@ -70,14 +70,14 @@ module _ {K V : Type 0} (same : K → K → Bool) (hash : ℕ → K → ℕ) (na
 
   -- a step that spares the roots makes no table the root
   pub no_promotion : {R : Type 0} (plan : Plan (Node K V) R) (end : R) → PlanSparesRoot plan → StepsTold K V R old.memory changed.Nothing plan new.memory new.changed end
-      → (t : Table) → effects ≡ effect.Promoted t ∷ [] → ⊥
+      → (t : TableId) → effects ≡ effect.Promoted t ∷ [] → ⊥
   no_promotion plan end spares steps t are =
       (let none = none_promotes i map known (nothing_free s.world m.stored known shown.blocks.roles) new.changed
       (spared_tells old.memory new.memory new.changed plan end spares steps) in
       let no = (subst NonePromotes are none).0 in cc no)
 
   -- so its effects leave what is owed
-  pub leaves : OfNoRow same hash name m known s old new at_old shown map i u under_way said leads u to.4.did → ((p : ℕ) → TakesPair effects p → ⊥) → ((t : Table) → effects ≡ effect.Promoted t ∷ [] → ⊥)
+  pub leaves : OfNoRow same hash name m known s old new at_old shown map i u under_way said leads u to.4.did → ((p : ℕ) → TakesPair effects p → ⊥) → ((t : TableId) → effects ≡ effect.Promoted t ∷ [] → ⊥)
       → AllLeave effects
   leaves own no_pair no_table = by taking.0 taking.1
     where

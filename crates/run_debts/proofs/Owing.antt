@@ -6,7 +6,7 @@ use Rattle.run_places.specs.Given.RunsDeclared.call.Call.{Call}
 use Rattle.run_places.specs.Given.RunsDeclared.call.Call.TheVariants as call
 use Rattle.run_places.specs.Given.RunsDeclared.effect.Effect.{Effect}
 use Rattle.run_places.specs.Given.RunsDeclared.effect.Effect.TheVariants as effect
-use Rattle.run_places.specs.Given.RunsDeclared.effect.Table.{Table}
+use Rattle.run_places.specs.Given.RunsDeclared.effect.TableId.{TableId}
 use Rattle.run_places.specs.Given.RunsDeclared.effect.Thing.{Thing}
 use Rattle.run_places.specs.Given.RunsDeclared.effect.Thing.TheVariants.{APair, ATable}
 use Rattle.run_places.specs.Given.SchedulesEffects.{AtEachEffect, call_by, due_for, with_effect, with_effects}
@@ -19,7 +19,7 @@ use Rattle.run_places.specs.Given.SchedulesViews.{call_of}
 use Rattle.run_places.proofs.Changes.Changes.{acted_on}
 use Rattle.run_debts.specs.Owing.{HandsOver, leaves_owed, AllLeave, OwesGo, KeepsOwed, TakesOut, PutsOver, Passes, HandsFirst, FindsOwed, OwesFollow}
 
-table_itself : (t : Table) → same_table t t ≡ true
+table_itself : (t : TableId) → same_table t t ≡ true
 table_itself t = ap (λ (q : Bool). q && (t.turn == t.turn)) (eq-eqb t.map t.map refl) ∙ eq-eqb t.turn t.turn refl
 
 thing_itself : (x : Thing) → same_thing x x ≡ true

@@ -13,7 +13,7 @@ use Rattle.run_places.specs.Given.ResizeDeclared.copier.Copier.{Copier}
 use Rattle.run_places.specs.Given.ResizeDeclared.copier.Copying.{Copying}
 use Rattle.run_places.specs.Given.ResizeDeclared.copier.Copying.TheVariants as copying
 use Rattle.run_places.specs.Given.TablesDeclared.node.Node.{Node}
-use Rattle.run_places.specs.Given.RunsDeclared.effect.Table.{Table}
+use Rattle.run_places.specs.Given.RunsDeclared.effect.TableId.{TableId}
 use Rattle.run_places.specs.Given.RunsDeclared.effect.Thing.{Thing}
 use Rattle.run_places.specs.Given.RunsDeclared.effect.Thing.TheVariants.{ATable}
 use Rattle.run_places.specs.Given.SchedulesEffects.{passed}
@@ -60,7 +60,7 @@ passed_first map first (suc n) low = elim (cases_lt first n) as (λ _. passed ma
 
 module _ (known : Known) (p : Copier) where
   -- from a word that names a table of a map
-  pub tables_named : (word len : ℕ) (t : Table) → word ≢ 0 → known.roles (block_in word) ≡ role.Table t len → tables_from known p word ≡ passed t.map t.turn p.target.turn
+  pub tables_named : (word len : ℕ) (t : TableId) → word ≢ 0 → known.roles (block_in word) ≡ role.Table t len → tables_from known p word ≡ passed t.map t.turn p.target.turn
   tables_named word len t some is = by (word == 0) refl
     where
       by : (q : Bool) → (word == 0) ≡ q → (if q then [] else tables_up_to p.target.turn (known.roles (block_in word))) ≡ passed t.map t.turn p.target.turn

@@ -16,8 +16,8 @@ use Rattle.run_places.specs.Given.ResizeCopier.{copier_plan}
 use Rattle.run_places.specs.Given.ResizeDispose.{dispose_plan}
 use Rattle.run_places.specs.Given.ResizeDeclared.copier.Copier.{Copier}
 use Rattle.run_places.specs.Given.ResizeDeclared.dispose.Dispose.{Dispose}
-use Rattle.run_places.specs.Given.ResizeDeclared.outcome.Outcome.{Outcome}
-use Rattle.run_places.specs.Given.ResizeDeclared.outcome.Outcome.TheVariants as outcome
+use Rattle.run_places.specs.Given.ResizeDeclared.yielding.Yielding.{Yielding}
+use Rattle.run_places.specs.Given.ResizeDeclared.yielding.Yielding.TheVariants as outcome
 use Rattle.run_places.specs.Given.SweepsSweep as sweeps
 use Rattle.run_places.specs.Given.SweepsSweep.{sweep_plan}
 use Rattle.run_places.specs.Given.SweepsSweepPoints as points
@@ -68,14 +68,14 @@ module _ {K V Q : Type 0} where
     disposed_past answer (d, settled.Gave value) = refl
     disposed_past answer (d, settled.Done) = refl
 
-    helped_past : (goal : Table) (end : Copier × Outcome (Node K V) Table) → IsPast (helped p goal end)
+    helped_past : (goal : Table) (end : Copier × Yielding (Node K V) Table) → IsPast (helped p goal end)
     helped_past goal (c, outcome.Goes) = refl
     helped_past goal (c, outcome.Waits) = refl
     helped_past goal (c, outcome.Gave value) = refl
     helped_past goal (c, outcome.Done table) = refl
     helped_past goal (c, outcome.Refused fault) = ending_past (ends.Refused fault)
 
-    copied_past : (end : Copier × Outcome (Node K V) Table) → IsPast (copied p end)
+    copied_past : (end : Copier × Yielding (Node K V) Table) → IsPast (copied p end)
     copied_past (c, outcome.Goes) = refl
     copied_past (c, outcome.Waits) = refl
     copied_past (c, outcome.Gave value) = refl
@@ -153,7 +153,7 @@ module _ (T : Type 0) (p : Sweep) where
   disposed_idle (d, settled.Done) = further_idle p
 
 module _ (K V : Type 0) (p : Sweep) where
-  copied_idle : (end : Copier × Outcome (Node K V) Table) → IsIdleSweep {T = Node K V} (sweeps.copied p end)
+  copied_idle : (end : Copier × Yielding (Node K V) Table) → IsIdleSweep {T = Node K V} (sweeps.copied p end)
   copied_idle (c, outcome.Goes) = refl
   copied_idle (c, outcome.Waits) = refl
   copied_idle (c, outcome.Gave value) = refl

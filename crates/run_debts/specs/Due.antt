@@ -27,7 +27,7 @@ use Rattle.run_places.specs.Given.RunsDeclared.shapes.TableShape.{TableShape}
 use Rattle.run_places.specs.Given.TablesDeclared.node.Node.{Node}
 use Rattle.run_places.specs.Given.RunsDeclared.effect.Effect.{Effect}
 use Rattle.run_places.specs.Given.RunsDeclared.effect.Effect.TheVariants as effect
-use Rattle.run_places.specs.Given.RunsDeclared.effect.Table.{Table}
+use Rattle.run_places.specs.Given.RunsDeclared.effect.TableId.{TableId}
 use Rattle.run_places.specs.Given.RunsDeclared.effect.Thing.TheVariants.{APair, ATable}
 use Rattle.run_places.specs.Given.SchedulesMoment.{Moment}
 use Rattle.owner_facts.specs.Given.CallersTogether.{UnderWay}
@@ -110,7 +110,7 @@ told_retired _ = []
 pub data RowTells (caller map : ℕ) (known : Known) (effects : List Effect) (before after : Option Due) : Type 0 where
   TellsNone : effects ≡ [] → after ≡ before → RowTells caller map known effects before after
   TellsRetired : (word : ℕ) → before ≡ Some (ToRetire word) → after ≡ None → effects ≡ told_retired (known.roles (block_in word)) → RowTells caller map known effects before after
-  TellsDeferred : (word block : ℕ) (place : At) (t : Table) (len : ℕ) → before ≡ Some (ToPut word place) → IsWordOf block place → after ≡ None → known.roles block ≡ role.Table t len
+  TellsDeferred : (word block : ℕ) (place : At) (t : TableId) (len : ℕ) → before ≡ Some (ToPut word place) → IsWordOf block place → after ≡ None → known.roles block ≡ role.Table t len
       → effects ≡ carried t (named known word)
       → RowTells caller map known effects before after
 

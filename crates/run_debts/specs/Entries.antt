@@ -3,7 +3,7 @@ use Rattle.std.specs.Prelude.{◌≡◌, ◌≢◌, ℕ, Bool, List, Option, Som
 use Rattle.run_places.specs.Given.SeizeWordsMem.{Mem, word_at}
 use Rattle.run_places.specs.Given.SeizeWordsWord.{block_in}
 use Rattle.run_places.specs.Given.SeizeWordsDeclared.at.At.TheVariants.{Entry}
-use Rattle.run_places.specs.Given.SeizeDeclared.progress.Progress.{Progress as Making}
+use Rattle.run_places.specs.Given.SeizeDeclared.advance.Advance.{Advance as Making}
 use Rattle.run_places.specs.Given.SeizeDeclared.rows.settle.Settle.{Settle}
 use Rattle.run_places.specs.Given.SeizeDeclared.rows.settle.Settled.{Settled}
 use Rattle.run_places.specs.Given.SeizeDeclared.rows.settle.Settling.{Settling}

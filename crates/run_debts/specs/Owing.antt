@@ -6,7 +6,7 @@ use Rattle.run_places.specs.Given.RawDeclared.machines.progress.Progress.{Progre
 use Rattle.run_places.specs.Given.RunsDeclared.effect.Effect.{Effect}
 use Rattle.run_places.specs.Given.RunsDeclared.effect.Effect.TheVariants.{Promoted, Stored, Replaced, Removed, Deferred, Retired}
 use Rattle.run_places.specs.Given.RunsDeclared.effect.Spot.{Spot}
-use Rattle.run_places.specs.Given.RunsDeclared.effect.Table.{Table}
+use Rattle.run_places.specs.Given.RunsDeclared.effect.TableId.{TableId}
 use Rattle.run_places.specs.Given.RunsDeclared.effect.Thing.{Thing}
 use Rattle.run_places.specs.Given.RunsDeclared.effect.Thing.TheVariants.{APair, ATable}
 use Rattle.run_places.specs.Given.SchedulesEffects.{AtEachEffect, passed, with_effects}
@@ -57,7 +57,7 @@ module _ {K V : Type 0} where
     KeepsOwed : AllLeave effects → after ≡ before → OwesGo m effects before after
     TakesOut : (p : ℕ) → effects ≡ Removed p ∷ [] → after ≡ before ++ APair p ∷ [] → OwesGo m effects before after
     PutsOver : (p n : ℕ) (s : Spot) → effects ≡ Replaced p ∷ Stored n s ∷ [] → after ≡ before ++ APair p ∷ [] → OwesGo m effects before after
-    Passes : (t : Table) → effects ≡ Promoted t ∷ [] → after ≡ before ++ passed t.map (first_of t.map m) t.turn → OwesGo m effects before after
+    Passes : (t : TableId) → effects ≡ Promoted t ∷ [] → after ≡ before ++ passed t.map (first_of t.map m) t.turn → OwesGo m effects before after
     HandsFirst : (f : Effect) (x : Thing) → effects ≡ f ∷ [] → HandsOver f x → before ≡ x ∷ after → OwesGo m effects before after
 
   -- a call that hands something over owes it; and of tables, where calls come one after another, the first

@@ -3,34 +3,34 @@ ghost use Rattle.std.specs.Prelude.{◌≡◌, IfOk};
 ghost use Rattle.run_effects.specs.Copies.Copies.{AreAlike, ClonesAreSame};
 ghost use Rattle.run_effects.specs.Copies.Same.{same_answer, same_outcome, same_shape};
 
-use run_schedules::call::Answer;
+use run_schedules::call::Response;
 use run_schedules::outcome::Outcome;
 use run_schedules::shapes::TableShape;
 use std::alloc::{AllocError, Global};
 
 /// A copy of an answer.
-fn copy_of_answer<V: Clone>(answer: &Answer<V>) -> Result<Answer<V>, AllocError>
+fn copy_of_answer<V: Clone>(answer: &Response<V>) -> Result<Response<V>, AllocError>
     requires { ClonesAreSame V.is_clone }
     ensures { IfOk result (λ copy. copy ≡ answer.now) }
 {
     Ok(match answer {
-        Answer::Absent => Answer::Absent,
-        Answer::Found(pair) => Answer::Found(*pair),
-        Answer::Stored(pair) => Answer::Stored(*pair),
-        Answer::Occupied { there, value } => Answer::Occupied {
+        Response::Absent => Response::Absent,
+        Response::Found(pair) => Response::Found(*pair),
+        Response::Stored(pair) => Response::Stored(*pair),
+        Response::Occupied { there, value } => Response::Occupied {
             there: *there,
             value: value.clone()?,
         },
-        Answer::Kept(pair) => Answer::Kept(*pair),
-        Answer::Inserted(pair) => Answer::Inserted(*pair),
-        Answer::Updated { old, new } => Answer::Updated {
+        Response::Kept(pair) => Response::Kept(*pair),
+        Response::Inserted(pair) => Response::Inserted(*pair),
+        Response::Updated { old, new } => Response::Updated {
             old: *old,
             new: *new,
         },
-        Answer::Removed(pair) => Answer::Removed(*pair),
-        Answer::Aborted(value) => Answer::Aborted(value.clone()?),
-        Answer::Completed => Answer::Completed,
-        Answer::Counted(count) => Answer::Counted(*count),
+        Response::Removed(pair) => Response::Removed(*pair),
+        Response::Aborted(value) => Response::Aborted(value.clone()?),
+        Response::Completed => Response::Completed,
+        Response::Counted(count) => Response::Counted(*count),
     })
 }
 
@@ -54,27 +54,28 @@ pub fn copy_of<V: Clone>(alloc: Global, outcome: &Outcome<V>) -> Result<Outcome<
 }
 
 /// Whether two answers are the same, their values compared by `==`.
-fn same_answer<V: PartialEq>(one: &Answer<V>, other: &Answer<V>) -> bool
+fn same_answer<V: PartialEq>(one: &Response<V>, other: &Response<V>) -> bool
     ensures { result ≡ same_answer V.eq one.now other.now }
 {
     match (one, other) {
-        (Answer::Absent, Answer::Absent) => true,
-        (Answer::Found(pair), Answer::Found(n)) => pair == n,
-        (Answer::Stored(pair), Answer::Stored(n)) => pair == n,
+        (Response::Absent, Response::Absent) => true,
+        (Response::Found(pair), Response::Found(n)) => pair == n,
+        (Response::Stored(pair), Response::Stored(n)) => pair == n,
         (
-            Answer::Occupied { there, value },
-            Answer::Occupied {
+            Response::Occupied { there, value },
+            Response::Occupied {
                 there: n,
                 value: other,
             },
         ) => there == n && value == other,
-        (Answer::Kept(pair), Answer::Kept(n)) => pair == n,
-        (Answer::Inserted(pair), Answer::Inserted(n)) => pair == n,
-        (Answer::Updated { old, new }, Answer::Updated { old: m, new: n }) => old == m && new == n,
-        (Answer::Removed(pair), Answer::Removed(n)) => pair == n,
-        (Answer::Aborted(value), Answer::Aborted(other)) => value == other,
-        (Answer::Completed, Answer::Completed) => true,
-        (Answer::Counted(count), Answer::Counted(n)) => count == n,
+        (Response::Kept(pair), Response::Kept(n)) => pair == n,
+        (Response::Inserted(pair), Response::Inserted(n)) => pair == n,
+        (Response::Updated { old, new }, Response::Updated { old: m, new: n }) => old == m
+            && new == n,
+        (Response::Removed(pair), Response::Removed(n)) => pair == n,
+        (Response::Aborted(value), Response::Aborted(other)) => value == other,
+        (Response::Completed, Response::Completed) => true,
+        (Response::Counted(count), Response::Counted(n)) => count == n,
         _ => false,
     }
 }

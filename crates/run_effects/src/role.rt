@@ -1,5 +1,5 @@
 //! What a block of a run's memory is.
-use run_schedules::effect::Table;
+use run_schedules::effect::TableId;
 use run_schedules::shapes::TableShape;
 
 /// What a block is.
@@ -24,7 +24,7 @@ pub enum Role {
     /// A table of a map.
     Table {
         /// Which one it is.
-        table: Table,
+        table: TableId,
         /// How many places it has.
         len: u64,
     },

@@ -9,8 +9,8 @@ ghost use Rattle.run_effects.specs.Tallies.Tally.{TellsAll, TellsNext, counted, 
 ghost use Rattle.run_effects.specs.declared.tally.Whereabouts.TheVariants.{Unborn, Waits};
 
 use crate::by_map::ByMap;
-use crate::places::Places;
-use run_schedules::effect::{Effect, Table, Thing};
+use crate::table_index::TableIndex;
+use run_schedules::effect::{Effect, TableId, Thing};
 use std::alloc::{AllocError, Global};
 
 /// Where a pair is.
@@ -32,14 +32,14 @@ pub struct Behind {
     /// The number of the pair.
     pub pair: u64,
     /// The table.
-    pub table: Table,
+    pub table: TableId,
 }
 
 /// A table of a map, and whether it was retired and not reclaimed.
 #[derive(Clone, Copy)]
 pub struct Flagged {
     /// The table.
-    pub table: Table,
+    pub table: TableId,
     /// Whether it waits.
     pub is_retired: bool,
 }
@@ -54,11 +54,11 @@ pub struct Tally {
     /// The tables that ever were tables of maps.
     pub tables: Vec<Flagged>,
     /// Where each stands among them.
-    pub places: Places,
+    pub places: TableIndex,
 }
 
 /// Whether two tables are one.
-fn same(one: Table, other: Table) -> bool
+fn same(one: TableId, other: TableId) -> bool
     ensures { result ≡ same_table one other }
 {
     one.map == other.map && one.turn == other.turn
@@ -85,7 +85,11 @@ fn put(pairs: &mut Vec<Whereabouts>, pair: u64, there: Whereabouts) -> Result<()
 }
 
 /// What waits behind a table waits by itself from now on.
-fn release(pairs: &mut Vec<Whereabouts>, behind: &[Behind], table: Table) -> Result<(), AllocError>
+fn release(
+    pairs: &mut Vec<Whereabouts>,
+    behind: &[Behind],
+    table: TableId,
+) -> Result<(), AllocError>
     ensures { OnOk result ((n : ℕ) → slice_index_or pairs.new.items n Unborn ≡ if is_among n (numbers_behind table behind.now) then Waits else slice_index_or pairs.old.items n Unborn) }
 {
     for waiting in behind {
@@ -97,14 +101,14 @@ fn release(pairs: &mut Vec<Whereabouts>, behind: &[Behind], table: Table) -> Res
 }
 
 /// Nothing waits behind this table any more.
-fn without(behind: &mut Vec<Behind>, table: Table)
+fn without(behind: &mut Vec<Behind>, table: TableId)
     ensures { behind.new.items ≡ filter (λ waiting. not (same_table waiting.table table)) behind.old.items }
 {
     behind.retain(|waiting| !same(waiting.table, table));
 }
 
 /// A table with another flag, if it is this one.
-fn with_flag(it: Flagged, table: Table, is_retired: bool) -> Flagged
+fn with_flag(it: Flagged, table: TableId, is_retired: bool) -> Flagged
     ensures { result ≡ flagged table is_retired it }
 {
     if same(it.table, table) {
@@ -115,7 +119,7 @@ fn with_flag(it: Flagged, table: Table, is_retired: bool) -> Flagged
 }
 
 /// Whether a table waits is this from now on, by a look at each.
-fn flag_each(tables: &mut Vec<Flagged>, table: Table, is_retired: bool)
+fn flag_each(tables: &mut Vec<Flagged>, table: TableId, is_retired: bool)
     ensures { tables.new.items ≡ map (flagged table is_retired) tables.old.items }
 {
     for place in 0..tables.len() {
@@ -124,7 +128,7 @@ fn flag_each(tables: &mut Vec<Flagged>, table: Table, is_retired: bool)
 }
 
 /// Whether a table waits is this from now on.
-fn flag(tables: &mut Vec<Flagged>, places: &Places, table: Table, is_retired: bool)
+fn flag(tables: &mut Vec<Flagged>, places: &TableIndex, table: TableId, is_retired: bool)
     ensures { Leads places.now tables.old.items → tables.new.items ≡ map (flagged table is_retired) tables.old.items }
 {
     let Some(place) = places.get(table) else {
@@ -167,7 +171,7 @@ impl Tally {
             pairs: Vec::new(alloc),
             behind: Vec::new(alloc),
             tables: Vec::new(alloc),
-            places: Places::nothing(alloc),
+            places: TableIndex::nothing(alloc),
         }
     }
 
@@ -180,7 +184,7 @@ impl Tally {
     }
 
     /// A table goes: what waits behind it waits by itself.
-    fn go(&mut self, table: Table) -> Result<(), AllocError>
+    fn go(&mut self, table: TableId) -> Result<(), AllocError>
         ensures pairs { OnOk result ((n : ℕ) → slice_index_or self.new.pairs.items n Unborn ≡ if is_among n (numbers_behind table self.old.behind.items) then Waits else slice_index_or self.old.pairs.items n Unborn) }
         ensures behind { OnOk result (self.new.behind.items ≡ filter (λ waiting. not (same_table waiting.table table)) self.old.behind.items) }
         ensures tables { OnOk result (Leads self.old.places self.old.tables.items → self.new.tables.items ≡ map (flagged table false) self.old.tables.items) }
@@ -193,7 +197,7 @@ impl Tally {
     }
 
     /// A pair is put behind a table, and waits.
-    fn put_behind(&mut self, pair: u64, table: Table) -> Result<(), AllocError>
+    fn put_behind(&mut self, pair: u64, table: TableId) -> Result<(), AllocError>
         ensures pairs { OnOk result ((n : ℕ) → slice_index_or self.new.pairs.items n Unborn ≡ if n == pair then Waits else slice_index_or self.old.pairs.items n Unborn) }
         ensures behind { OnOk result (self.new.behind.items ≡ record { pair = pair; table = table } ∷ self.old.behind.items) }
         ensures tables { self.new.tables ≡ self.old.tables }
@@ -228,7 +232,7 @@ impl Tally {
     }
 
     /// A table comes.
-    fn link(&mut self, table: Table) -> Result<(), AllocError>
+    fn link(&mut self, table: TableId) -> Result<(), AllocError>
         ensures tables { OnOk result (self.new.tables.items ≡ self.old.tables.items ++ record { table = table; is_retired = false } ∷ []) }
         ensures places { OnOk result (Comes table (length self.old.tables.items) self.old.places self.new.places) }
         ensures rest { self.new ≡ record self.old { tables = self.new.tables; places = self.new.places } }

@@ -13,7 +13,7 @@ use crate::did::Did;
 use crate::notes::Notes;
 use crate::role::Role;
 use map_tables::table_words::{DEFERRED, NEXT, PLACES};
-use run_schedules::effect::{Effect, Growth, Spot, Table, Thing};
+use run_schedules::effect::{Effect, Growth, Spot, TableId, Thing};
 use run_schedules::shapes::TableShape;
 use seize::states::FIRST;
 use seize_words::{At, Link};
@@ -41,10 +41,10 @@ impl Acting {
     }
 
     /// The table with this turn.
-    fn table(self, turn: u64) -> Table
+    fn table(self, turn: u64) -> TableId
         ensures { result ≡ table_at self turn }
     {
-        Table {
+        TableId {
             map: self.map(),
             turn,
         }
@@ -91,7 +91,7 @@ impl Acting {
     }
 
     /// What becomes of a table that is taken away.
-    fn table_taken(self, table: Table) -> Effect
+    fn table_taken(self, table: TableId) -> Effect
         ensures { result ≡ table_taken self table }
     {
         match self {
@@ -143,7 +143,7 @@ impl Acting {
     }
 
     /// What a word of a table says, which has so many places.
-    fn in_table(self, table: Table, len: u64, field: u64, stored: u64, was: Role, is: Role) -> Did
+    fn in_table(self, table: TableId, len: u64, field: u64, stored: u64, was: Role, is: Role) -> Did
         requires { stored + 1 < 2 ^ 64 }
         ensures { listed result ≡ in_table self table len field stored was is }
     {
@@ -207,7 +207,7 @@ fn retired(field: u64, thing: Thing) -> Did
 }
 
 /// What the head of the list says that a table carries.
-fn carried(behind: Table, is: Role) -> Did
+fn carried(behind: TableId, is: Role) -> Did
     ensures { listed result ≡ carried behind is }
 {
     match is {

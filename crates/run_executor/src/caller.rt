@@ -3,7 +3,7 @@ ghost use Rattle.std.specs.Prelude.{◌≡◌, ℕ, List};
 ghost use Rattle.run_executor.specs.Named.Seen.{shows, takes};
 ghost use Rattle.run_executor.specs.Named.Telling.{value_of};
 
-use crate::kind::Kind;
+use crate::kind::CallKind;
 use papaya_raw::Node;
 use run_names::crowd::HasName;
 use run_schedules::call::Reply;
@@ -22,7 +22,7 @@ pub enum Stands {
 
 /// A caller, with its call.
 #[derive(Drop)]
-pub struct Caller<V> {
+pub struct NamedCaller<V> {
     /// Its name.
     pub name: Token,
     /// The guard under which it calls.
@@ -32,7 +32,7 @@ pub struct Caller<V> {
     /// The number that the executor has for it.
     pub number: u64,
     /// What the call is.
-    pub kind: Kind,
+    pub kind: CallKind,
     /// How far it is.
     pub stands: Stands,
     /// The value that was not stored, or that its closure aborted with.
@@ -49,7 +49,7 @@ pub(crate) fn value_of<K: Drop, V: Drop>(node: Node<K, V>) -> Option<V>
     }
 }
 
-impl<V> Caller<V> {
+impl<V> NamedCaller<V> {
     /// Whether its call asks, and a reply is of the kind that it asks for.
     pub fn takes(&self, reply: &Reply<V>) -> bool
         ensures { result ≡ takes self.now reply.now }
@@ -65,7 +65,7 @@ impl<V> Caller<V> {
     }
 }
 
-impl<V: Drop> HasName for Caller<V> {
+impl<V: Drop> HasName for NamedCaller<V> {
     ghost name_of = { λ caller. caller.name };
 
     fn name(&self) -> &Token {

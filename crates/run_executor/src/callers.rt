@@ -6,15 +6,15 @@ ghost use Rattle.run_names.specs.Presence.Crowd.{IsAbsent, IsHome, LeadsHome};
 ghost use Rattle.run_executor.specs.Named.Roll.{IsTrimmedAt, called, name_of};
 ghost use Rattle.run_executor.specs.Named.Seen.{is_named};
 ghost use Rattle.run_executor.specs.Named.Telling.{kept, kept_by};
-ghost use Rattle.run_executor.specs.declared.caller.Caller.{Caller};
+ghost use Rattle.run_executor.specs.declared.caller.NamedCaller.{NamedCaller};
 
-use crate::caller::{Caller, Stands, value_of};
-use crate::kind::Kind;
+use crate::caller::{NamedCaller, Stands, value_of};
+use crate::kind::CallKind;
 use papaya_raw::Node;
 use run_names::counts::Counts;
 use run_names::crowd::{is_at, place_in};
-use run_names::places::Places;
-use run_names::tally::Tally;
+use run_names::name_index::NameIndex;
+use run_names::number_counts::NumberCounts;
 use run_schedules::token::Token;
 use std::alloc::{AllocError, Global};
 use std::marker::Model;
@@ -23,12 +23,12 @@ use std::marker::Model;
 #[derive(Drop)]
 pub struct Callers<V> {
     /// In the order of their coming. A place stays empty where one has left, until all behind it have.
-    comers: Vec<Option<Caller<V>>>,
-    places: Places,
+    comers: Vec<Option<NamedCaller<V>>>,
+    places: NameIndex,
     /// How many calls are under each guard.
     under: Counts,
     /// How many calls are on each map.
-    on: Tally,
+    on: NumberCounts,
     count: usize,
     /// Where the one stood of which was spoken last.
     last: usize,
@@ -37,9 +37,9 @@ pub struct Callers<V> {
 impl<V> Model for Callers<V> {
     ghost use Rattle.std.specs.Prelude.{List};
     ghost use Rattle.run_executor.specs.Named.Roll.{AreKept, newest};
-    ghost use Rattle.run_executor.specs.declared.caller.Caller.{Caller};
+    ghost use Rattle.run_executor.specs.declared.caller.NamedCaller.{NamedCaller};
 
-    ghost Value = { List (Caller V) };
+    ghost Value = { List (NamedCaller V) };
 
     ghost view = { λ c. newest c.comers.items };
 
@@ -59,14 +59,14 @@ enum Keeps<V> {
 
 impl<V: Drop> Keeps<V> {
     /// What a call keeps then.
-    fn after(self, kind: Kind, value: Option<V>) -> Option<V>
+    fn after(self, kind: CallKind, value: Option<V>) -> Option<V>
         ensures { result ≡ kept_by self kind value }
     {
         match self {
             Keeps::Same => value,
             Keeps::Is(other) => other,
             Keeps::Unstored(unstored) => match kind {
-                Kind::TriesToInsert => unstored,
+                CallKind::TriesToInsert => unstored,
                 _ => value,
             },
         }
@@ -75,8 +75,8 @@ impl<V: Drop> Keeps<V> {
 
 /// Where the caller of this name stands. It is looked for first where one stood before.
 fn place_of<V: Drop>(
-    comers: &[Option<Caller<V>>],
-    places: &Places,
+    comers: &[Option<NamedCaller<V>>],
+    places: &NameIndex,
     last: usize,
     name: &Token,
 ) -> Option<usize>
@@ -90,8 +90,8 @@ fn place_of<V: Drop>(
 }
 
 /// The call of the caller at this place is this far from now on, and keeps this.
-fn change<V: Drop>(place: &mut Option<Caller<V>>, stands: Stands, keeps: Keeps<V>)
-    ensures { (caller : Caller V) → place.old ≡ Some caller
+fn change<V: Drop>(place: &mut Option<NamedCaller<V>>, stands: Stands, keeps: Keeps<V>)
+    ensures { (caller : NamedCaller V) → place.old ≡ Some caller
         → place.new ≡ Some (record caller { stands = stands; value = kept_by keeps caller.kind caller.value }) }
 {
     if let Some(caller) = place {
@@ -101,7 +101,7 @@ fn change<V: Drop>(place: &mut Option<Caller<V>>, stands: Stands, keeps: Keeps<V
 }
 
 /// How many places are left once those at the end go where nobody stands.
-fn length_of<V: Drop>(comers: &[Option<Caller<V>>]) -> usize
+fn length_of<V: Drop>(comers: &[Option<NamedCaller<V>>]) -> usize
     ensures { IsTrimmedAt result comers.now }
 {
     for length in (0..comers.len()).rev() {
@@ -119,9 +119,9 @@ impl<V: Drop> Callers<V> {
     {
         Callers {
             comers: Vec::new(alloc),
-            places: Places::new(alloc),
+            places: NameIndex::new(alloc),
             under: Counts::new(alloc),
-            on: Tally::new(alloc),
+            on: NumberCounts::new(alloc),
             count: 0,
             last: 0,
         }
@@ -142,7 +142,7 @@ impl<V: Drop> Callers<V> {
     }
 
     /// The caller of this name.
-    pub fn get(&self, name: &Token) -> Option<&Caller<V>>
+    pub fn get(&self, name: &Token) -> Option<&NamedCaller<V>>
         ensures { option_copied result ≡ called name.now self.now }
     {
         if self.count == 0 {
@@ -168,7 +168,7 @@ impl<V: Drop> Callers<V> {
 
     /// The call of the caller of this name is this far from now on, and keeps this.
     fn change(&mut self, name: &Token, stands: Stands, keeps: Keeps<V>)
-        ensures { (place : ℕ) (caller : Caller V) → position (is_named name.now) self.old ≡ Some place → slice_get self.old place ≡ Some caller
+        ensures { (place : ℕ) (caller : NamedCaller V) → position (is_named name.now) self.old ≡ Some place → slice_get self.old place ≡ Some caller
             → self.new ≡ slice_set self.old place (record caller { stands = stands; value = kept_by keeps caller.kind caller.value }) }
     {
         if let Some(place) = place_of(&self.comers, &self.places, self.last, name) {
@@ -179,7 +179,7 @@ impl<V: Drop> Callers<V> {
 
     /// The call of the caller of this name goes on, with this value.
     pub fn resume(&mut self, name: &Token, value: Option<V>)
-        ensures { (place : ℕ) (caller : Caller V) → position (is_named name.now) self.old ≡ Some place → slice_get self.old place ≡ Some caller
+        ensures { (place : ℕ) (caller : NamedCaller V) → position (is_named name.now) self.old ≡ Some place → slice_get self.old place ≡ Some caller
             → self.new ≡ slice_set self.old place (record caller { stands = Stands.Goes; value = value }) }
     {
         self.change(name, Stands::Goes, Keeps::Is(value));
@@ -187,7 +187,7 @@ impl<V: Drop> Callers<V> {
 
     /// The call of the caller of this name is this far from now on.
     pub fn stand(&mut self, name: &Token, stands: Stands)
-        ensures { (place : ℕ) (caller : Caller V) → position (is_named name.now) self.old ≡ Some place → slice_get self.old place ≡ Some caller
+        ensures { (place : ℕ) (caller : NamedCaller V) → position (is_named name.now) self.old ≡ Some place → slice_get self.old place ≡ Some caller
             → self.new ≡ slice_set self.old place (record caller { stands = stands }) }
     {
         self.change(name, stands, Keeps::Same);
@@ -195,14 +195,14 @@ impl<V: Drop> Callers<V> {
 
     /// The call of the caller of this name goes on, and keeps the value that it has not stored, if it tells that.
     pub fn keep<K: Drop>(&mut self, name: &Token, unstored: Node<K, V>)
-        ensures { (place : ℕ) (caller : Caller V) → position (is_named name.now) self.old ≡ Some place → slice_get self.old place ≡ Some caller
+        ensures { (place : ℕ) (caller : NamedCaller V) → position (is_named name.now) self.old ≡ Some place → slice_get self.old place ≡ Some caller
             → self.new ≡ slice_set self.old place (record caller { stands = Stands.Goes; value = kept caller.kind unstored caller.value }) }
     {
         self.change(name, Stands::Goes, Keeps::Unstored(value_of(unstored)));
     }
 
     /// A caller comes. On an error nobody did: memory found none, or one of this name is there.
-    pub fn add(&mut self, caller: Caller<V>) -> Result<(), AllocError>
+    pub fn add(&mut self, caller: NamedCaller<V>) -> Result<(), AllocError>
         ensures { OnOk result (self.new ≡ caller ∷ self.old) }
     {
         if place_of(&self.comers, &self.places, self.last, &caller.name).is_some() {
@@ -222,7 +222,7 @@ impl<V: Drop> Callers<V> {
     }
 
     /// The caller of this name has a call no more. Answers what the call is, and the value that it kept.
-    pub fn remove(&mut self, name: &Token) -> Option<(Kind, Option<V>)>
+    pub fn remove(&mut self, name: &Token) -> Option<(CallKind, Option<V>)>
         ensures who { result ≡ option_map (λ caller. (caller.kind, caller.value)) (called name.now self.old) }
         ensures left { (place : ℕ) → position (is_named name.now) self.old ≡ Some place → self.new ≡ remove self.old place }
     {

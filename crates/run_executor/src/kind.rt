@@ -6,7 +6,7 @@ use run_schedules::call::{Call, OneKey, Reply};
 
 /// What a call is, without its keys and values.
 #[derive(Clone, Copy)]
-pub enum Kind {
+pub enum CallKind {
     /// A call on one key that answers with the pair that it finds, stores or removes: a lookup, a removal, `get_or_insert`, and `get_or_insert_with`.
     Finds,
     /// It answers with the pair that was there.
@@ -33,7 +33,7 @@ pub enum Kind {
     Walks,
 }
 
-impl Kind {
+impl CallKind {
     /// That of a call on one key.
     fn on<K, V>(one: &OneKey<K, V>) -> Self
         ensures { result ≡ kind_on one.now }
@@ -45,15 +45,15 @@ impl Kind {
             | OneKey::GetOrInsert(..)
             | OneKey::GetOrInsertWith(_)
             | OneKey::Remove(_)
-            | OneKey::RemoveEntry(_) => Kind::Finds,
-            OneKey::Insert(..) => Kind::Inserts,
-            OneKey::TryInsert(..) => Kind::TriesToInsert,
-            OneKey::TryInsertWith(_) => Kind::TriesToInsertWith,
+            | OneKey::RemoveEntry(_) => CallKind::Finds,
+            OneKey::Insert(..) => CallKind::Inserts,
+            OneKey::TryInsert(..) => CallKind::TriesToInsert,
+            OneKey::TryInsertWith(_) => CallKind::TriesToInsertWith,
             OneKey::Update(_) | OneKey::UpdateOrInsert(..) | OneKey::UpdateOrInsertWith(_) => {
-                Kind::Updates
+                CallKind::Updates
             }
-            OneKey::Compute(_) => Kind::Computes,
-            OneKey::RemoveIf(_) => Kind::RemovesIf,
+            OneKey::Compute(_) => CallKind::Computes,
+            OneKey::RemoveIf(_) => CallKind::RemovesIf,
         }
     }
 
@@ -62,12 +62,12 @@ impl Kind {
         ensures { result ≡ kind_of call.now }
     {
         match call {
-            Call::On(one) => Kind::on(one),
-            Call::Reserve(_) => Kind::Reserves,
-            Call::Clear => Kind::Clears,
-            Call::Retain => Kind::Retains,
-            Call::Len => Kind::Counts,
-            Call::Walk => Kind::Walks,
+            Call::On(one) => CallKind::on(one),
+            Call::Reserve(_) => CallKind::Reserves,
+            Call::Clear => CallKind::Clears,
+            Call::Retain => CallKind::Retains,
+            Call::Len => CallKind::Counts,
+            Call::Walk => CallKind::Walks,
         }
     }
 
@@ -76,14 +76,14 @@ impl Kind {
         ensures { result ≡ fits self reply.now }
     {
         match self {
-            Kind::Computes => !matches!(reply, Reply::Decides(_)),
-            Kind::RemovesIf | Kind::Retains => matches!(reply, Reply::Decides(_)),
-            Kind::Finds
-            | Kind::Inserts
-            | Kind::TriesToInsert
-            | Kind::TriesToInsertWith
-            | Kind::Updates => matches!(reply, Reply::Gives(_)),
-            Kind::Reserves | Kind::Clears | Kind::Counts | Kind::Walks => false,
+            CallKind::Computes => !matches!(reply, Reply::Decides(_)),
+            CallKind::RemovesIf | CallKind::Retains => matches!(reply, Reply::Decides(_)),
+            CallKind::Finds
+            | CallKind::Inserts
+            | CallKind::TriesToInsert
+            | CallKind::TriesToInsertWith
+            | CallKind::Updates => matches!(reply, Reply::Gives(_)),
+            CallKind::Reserves | CallKind::Clears | CallKind::Counts | CallKind::Walks => false,
         }
     }
 }

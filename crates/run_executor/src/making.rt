@@ -11,32 +11,32 @@ use crate::worker::{Work, Worker};
 use papaya_raw::Setting;
 use papaya_raw::machines::NewMap;
 use run_shows::callers::SLOTS;
-use seize::Progress;
+use seize::Advance;
 
 /// The making of a map after a step of it, unless it has ended.
 fn going_on<K, V>(
     slot: u64,
     map: u64,
     opening: NewMap,
-    progress: Progress<Setting>,
+    progress: Advance<Setting>,
 ) -> Option<Worker<K, V>>
     ensures { result ≡ worker_of slot (making_on map opening progress) }
 {
     match progress {
-        Progress::Goes | Progress::Waits => {
+        Advance::Goes | Advance::Waits => {
             let work = Work::Making { map, opening };
             Some(Worker { slot, work })
         }
-        Progress::Done(_) | Progress::Refused(_) => None,
+        Advance::Done(_) | Advance::Refused(_) => None,
     }
 }
 
 /// Keeps the setting of a map that was made.
-fn keep(maps: &mut Vec<Option<Setting>>, map: u64, progress: Progress<Setting>)
+fn keep(maps: &mut Vec<Option<Setting>>, map: u64, progress: Advance<Setting>)
     requires { map < length maps.old.items }
     ensures { maps.new.items ≡ maps_on map progress maps.old.items }
 {
-    if let Progress::Done(setting) = progress {
+    if let Advance::Done(setting) = progress {
         maps[map as usize] = Some(setting);
     }
 }
@@ -44,7 +44,7 @@ fn keep(maps: &mut Vec<Option<Setting>>, map: u64, progress: Progress<Setting>)
 impl<K: Drop, V: Drop, S> Executor<K, V, S> {
     /// Takes the next step of the making of a map that a caller has under way: at most one operation. One that has ended is under way no more, and its map
     /// stands, unless it was refused.
-    pub fn step_making(&mut self, caller: u64) -> Progress<Setting>
+    pub fn step_making(&mut self, caller: u64) -> Advance<Setting>
         requires { (same : K → K → Bool) × (hash : K → ℕ) × (s : Scene K V) × IsThere same hash self.old s × IsMaking s caller }
         ensures leads { (same : K → K → Bool) (hash : K → ℕ) (s : Scene K V) → IsThere same hash self.old s → MakesThere same hash caller result s self.old self.new }
         ensures numbers { length self.new.maps.items ≡ length self.old.maps.items }

@@ -11,7 +11,7 @@ use seize::rows::{ReclaimAll, Settled};
 
 /// All that waits is being reclaimed. It is no caller's: nobody has anything under way meanwhile.
 #[derive(Clone, Copy)]
-pub struct Reclaiming {
+pub struct FullReclamation {
     /// How far it is.
     pub all: ReclaimAll,
 }
@@ -25,7 +25,7 @@ fn leave<K, V, S>(executor: &mut Executor<K, V, S>, told: &Settled<Node<K, V>>)
     }
 }
 
-impl Reclaiming {
+impl FullReclamation {
     /// Begins with the slots, if one was ever taken, else with the roots.
     pub fn new<K, V, S>(executor: &Executor<K, V, S>, taken: bool) -> Self
         ensures begins { (same : K → K → Bool) (hash : K → ℕ) (s : Scene K V) (i : ℕ) (lists : ℕ → List ℕ) → IsThere same hash executor.now s → NobodyHas executor.now → MayReclaim executor.now s lists taken
@@ -37,7 +37,7 @@ impl Reclaiming {
         } else {
             ReclaimAll::clearing(executor.roots)
         };
-        Reclaiming { all }
+        FullReclamation { all }
     }
 
     /// Takes the next step: at most one operation. Once it is over no slot is in use.

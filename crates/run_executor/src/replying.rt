@@ -7,7 +7,7 @@ ghost use Rattle.run_shows.specs.Scenes.Scene.{HasCall, Scene};
 use crate::executor::Executor;
 use crate::taking::{TakenCall, take_call};
 use crate::worker::{Work, Worker};
-use papaya_raw::machines::{Machine, Reply};
+use papaya_raw::machines::{Machine, MachineReply};
 use run_shows::callers::SLOTS;
 
 impl<K: Drop, V: Drop, S> Executor<K, V, S> {
@@ -21,7 +21,7 @@ impl<K: Drop, V: Drop, S> Executor<K, V, S> {
     }
 
     /// Tells the call of a caller what it asks for. It hands back a reply that the call does not take, which goes on as it was.
-    pub fn reply(&mut self, caller: u64, reply: Reply<V>) -> Result<(), Reply<V>>
+    pub fn reply(&mut self, caller: u64, reply: MachineReply<V>) -> Result<(), MachineReply<V>>
         requires { (same : K → K → Bool) × (hash : K → ℕ) × (s : Scene K V) × IsThere same hash self.old s × HasCall s caller }
         ensures leads { (same : K → K → Bool) (hash : K → ℕ) (s : Scene K V) → IsThere same hash self.old s → RepliesThere same hash caller reply result s self.old self.new }
         ensures given { KeepsGiven self.old self.new }

@@ -3,11 +3,11 @@ ghost use Rattle.std.specs.Prelude.{◌≡◌};
 ghost use Rattle.run_effects.specs.Effects.Known.{known};
 ghost use Rattle.run_executor.specs.Named.Telling.{answer_of, answer_on, aborted_with, number_by, occupied_by};
 
-use crate::kind::Kind;
+use crate::kind::CallKind;
 use papaya_raw::machines::{Answer as Said, KeyAnswer};
 use run_effects::notes::Notes;
 use run_effects::role::Role;
-use run_schedules::call::Answer;
+use run_schedules::call::Response;
 use seize_words::Link;
 
 /// The number of the pair that a word links to.
@@ -21,71 +21,83 @@ pub fn number_by(notes: &Notes, word: u64) -> u64
 }
 
 /// The pair is there, and this value was not stored.
-fn occupied_by<V>(there: u64, value: Option<V>) -> Answer<V>
+fn occupied_by<V>(there: u64, value: Option<V>) -> Response<V>
     ensures { result ≡ occupied_by there value }
 {
     match value {
-        Some(value) => Answer::Occupied { there, value },
-        None => Answer::Found(there),
+        Some(value) => Response::Occupied { there, value },
+        None => Response::Found(there),
     }
 }
 
 /// A closure aborted with this.
-fn aborted_with<V>(value: Option<V>) -> Answer<V>
+fn aborted_with<V>(value: Option<V>) -> Response<V>
     ensures { result ≡ aborted_with value }
 {
     match value {
-        Some(value) => Answer::Aborted(value),
-        None => Answer::Absent,
+        Some(value) => Response::Aborted(value),
+        None => Response::Absent,
     }
 }
 
 /// What a call on one key answers.
-fn answer_on<V: Drop>(notes: &Notes, kind: Kind, value: Option<V>, said: KeyAnswer) -> Answer<V>
+fn answer_on<V: Drop>(
+    notes: &Notes,
+    kind: CallKind,
+    value: Option<V>,
+    said: KeyAnswer,
+) -> Response<V>
     ensures { result ≡ answer_on (known notes.now) kind value said }
 {
     match said {
         KeyAnswer::Absent => match kind {
-            Kind::Computes => aborted_with(value),
-            _ => Answer::Absent,
+            CallKind::Computes => aborted_with(value),
+            _ => Response::Absent,
         },
         KeyAnswer::Found(there) => match kind {
-            Kind::Computes => aborted_with(value),
-            Kind::TriesToInsert => occupied_by(number_by(notes, there), value),
-            Kind::TriesToInsertWith | Kind::RemovesIf => Answer::Kept(number_by(notes, there)),
-            _ => Answer::Found(number_by(notes, there)),
+            CallKind::Computes => aborted_with(value),
+            CallKind::TriesToInsert => occupied_by(number_by(notes, there), value),
+            CallKind::TriesToInsertWith | CallKind::RemovesIf => Response::Kept(number_by(
+                notes, there,
+            )),
+            _ => Response::Found(number_by(notes, there)),
         },
         KeyAnswer::Stored(new) => match kind {
-            Kind::Computes => Answer::Inserted(number_by(notes, new)),
-            Kind::Inserts => Answer::Absent,
-            _ => Answer::Stored(number_by(notes, new)),
+            CallKind::Computes => Response::Inserted(number_by(notes, new)),
+            CallKind::Inserts => Response::Absent,
+            _ => Response::Stored(number_by(notes, new)),
         },
         KeyAnswer::Replaced { old, new } => match kind {
-            Kind::Computes => Answer::Updated {
+            CallKind::Computes => Response::Updated {
                 old: number_by(notes, old),
                 new: number_by(notes, new),
             },
-            Kind::Updates => Answer::Stored(number_by(notes, new)),
-            _ => Answer::Found(number_by(notes, old)),
+            CallKind::Updates => Response::Stored(number_by(notes, new)),
+            _ => Response::Found(number_by(notes, old)),
         },
         KeyAnswer::Removed(old) => match kind {
-            Kind::Computes => Answer::Removed(number_by(notes, old)),
-            _ => Answer::Found(number_by(notes, old)),
+            CallKind::Computes => Response::Removed(number_by(notes, old)),
+            _ => Response::Found(number_by(notes, old)),
         },
     }
 }
 
 /// What a call answers.
-pub fn answer_of<V: Drop>(notes: &Notes, kind: Kind, value: Option<V>, said: Said) -> Answer<V>
+pub fn answer_of<V: Drop>(
+    notes: &Notes,
+    kind: CallKind,
+    value: Option<V>,
+    said: Said,
+) -> Response<V>
     ensures { result ≡ answer_of (known notes.now) kind value said }
 {
     match said {
         Said::Key(said) => answer_on(notes, kind, value, said),
-        Said::Reserved => Answer::Completed,
+        Said::Reserved => Response::Completed,
         Said::Swept => match kind {
-            Kind::Walks => Answer::Absent,
-            _ => Answer::Completed,
+            CallKind::Walks => Response::Absent,
+            _ => Response::Completed,
         },
-        Said::Count(count) => Answer::Counted(count),
+        Said::Count(count) => Response::Counted(count),
     }
 }

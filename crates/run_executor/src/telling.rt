@@ -8,11 +8,11 @@ ghost use Rattle.run_effects.specs.declared.changed.Changed.TheVariants.{Nothing
 use crate::executor::Executor;
 use papaya_raw::Node;
 use run_effects::teller::Teller;
-use seize::Machine;
+use seize::StepMachine;
 use seize_words::Plain;
 
 /// Takes a step, and tells what it has changed.
-pub(crate) fn step_telling<K, V, R: Machine<Node<K, V>>>(
+pub(crate) fn step_telling<K, V, R: StepMachine<Node<K, V>>>(
     memory: &mut Teller<Plain<Node<K, V>>>,
     row: &mut R,
 ) -> R::Progress
@@ -25,7 +25,7 @@ pub(crate) fn step_telling<K, V, R: Machine<Node<K, V>>>(
 
 impl<K, V, S> Executor<K, V, S> {
     /// Takes a step of what is no caller's, and tells what it has changed.
-    pub fn step_nobodys<R: Machine<Node<K, V>>>(&mut self, row: &mut R) -> R::Progress
+    pub fn step_nobodys<R: StepMachine<Node<K, V>>>(&mut self, row: &mut R) -> R::Progress
         requires { May Can Took value_at self.old.memory.memory (R.plan row.old) }
         ensures told { StepsTold K V (R × R.Progress) self.old.memory.memory Nothing (R.plan row.old) self.new.memory.memory self.new.memory.changed (row.new, result) }
         ensures rest { self.new ≡ record self.old { memory = self.new.memory } }

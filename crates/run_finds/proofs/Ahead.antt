@@ -4,7 +4,7 @@ use Rattle.std.specs.List.{list_all}
 use Rattle.std.proofs.Common.{refl, ap, sym, subst, ◌∙◌, arith}
 use Rattle.run_executor.specs.Given.RunsDeclared.effect.Effect.TheVariants as effect
 use Rattle.run_executor.specs.Given.RunsDeclared.effect.Spot.{Spot}
-use Rattle.run_executor.specs.Given.RunsDeclared.effect.Table.{Table}
+use Rattle.run_executor.specs.Given.RunsDeclared.effect.TableId.{TableId}
 use Rattle.run_executor.specs.Given.SchedulesEffects.{spot_by, is_chunked, with_effects}
 use Rattle.run_executor.specs.Given.SchedulesGrowing.{is_ahead, none_before}
 use Rattle.run_executor.specs.Given.SchedulesLists.{numbers_from}
@@ -30,7 +30,7 @@ all_numbers test each first zero = refl
 all_numbers test each first (suc many) = ap (λ (q : Bool). q && list_all test (numbers_from (suc first) many)) (each first) ∙ all_numbers test each (suc first) many
 
 -- Where a pair lies then no further up than there, it did before, or its copy is there.
-ahead_or_copied : (q : Bool) (place : ℕ → Place) (copy spot : ℕ → Spot) (t : Table) (n : ℕ) → t.turn ≤ (spot_by q place copy (effect.Promoted t) spot n).turn
+ahead_or_copied : (q : Bool) (place : ℕ → Place) (copy spot : ℕ → Spot) (t : TableId) (n : ℕ) → t.turn ≤ (spot_by q place copy (effect.Promoted t) spot n).turn
     → (nat_le t.turn (spot n).turn || ((copy n).turn == t.turn)) ≡ true
 ahead_or_copied true place copy spot t n l = ap (λ (z : Bool). z || ((copy n).turn == t.turn)) (at_most t.turn (spot n).turn l)
 ahead_or_copied false place copy spot t n l = by ((copy n).turn == t.turn) refl (is_in_map t.map (place n)) refl
@@ -47,7 +47,7 @@ ahead_or_copied false place copy spot t n l = by ((copy n).turn == t.turn) refl 
         let there : t.turn ≤ (spot n).turn = subst (λ (x : Spot). t.turn ≤ x.turn) stays l in
         ap (λ (z : Bool). z || ((copy n).turn == t.turn)) (at_most t.turn (spot n).turn there)
 
-module _ {K V : Type 0} (same : K → K → Bool) (hash : ℕ → K → ℕ) (name : ℕ → List ℕ) (own : List ℕ) (map : ℕ) (t : Table) (on : t.map ≡ map) (m : Moment K V) (was : MapThere)
+module _ {K V : Type 0} (same : K → K → Bool) (hash : ℕ → K → ℕ) (name : ℕ → List ℕ) (own : List ℕ) (map : ℕ) (t : TableId) (on : t.map ≡ map) (m : Moment K V) (was : MapThere)
     (was_there : map_at map m ≡ Some was) (known2 : Known) (s2 : Scene K V) (new : Held K V) (at2 : IsAt same hash new s2) where
   abbrev v : Moment K V
   v = with_effects (Some own) (Some map) (effect.Promoted t ∷ []) m

@@ -6,7 +6,7 @@ use Rattle.std.proofs.lemmas.Bool.{eq-eqb}
 use Rattle.run_executor.specs.Given.RunsDeclared.effect.Effect.{Effect}
 use Rattle.run_executor.specs.Given.RunsDeclared.effect.Effect.TheVariants as effect
 use Rattle.run_executor.specs.Given.RunsDeclared.effect.Spot.{Spot}
-use Rattle.run_executor.specs.Given.RunsDeclared.effect.Table.{Table}
+use Rattle.run_executor.specs.Given.RunsDeclared.effect.TableId.{TableId}
 use Rattle.run_executor.specs.Given.RunsDeclared.effect.Thing.TheVariants.{APair, ATable}
 use Rattle.run_executor.specs.Given.SchedulesEffects.{is_chunked, with_effect}
 use Rattle.run_executor.specs.Given.SchedulesLists.{is_in}
@@ -60,8 +60,8 @@ module _ {K V : Type 0} (m : Moment K V) (placed : PairsArePlaced m) where
     same_lies : (d : Deferral) → (v.born d.pair ≡ m.born d.pair) × (v.spot d.pair ≡ m.spot d.pair) → LiesNext m d → LiesNext v d
     same_lies d same lies = (
       lies.0,
-      ap (λ (t : Table). t.map) same.0 ∙ lies.1,
-      subst (λ (t : Table). t.turn < (v.spot d.pair).turn) (sym same.0) (subst (λ (x : Spot). (m.born d.pair).turn < x.turn) (sym same.1) lies.2),
+      ap (λ (t : TableId). t.map) same.0 ∙ lies.1,
+      subst (λ (t : TableId). t.turn < (v.spot d.pair).turn) (sym same.0) (subst (λ (x : Spot). (m.born d.pair).turn < x.turn) (sym same.1) lies.2),
       ap (λ (x : Spot). x.turn) same.1 ∙ lies.3,
     )
 
@@ -71,13 +71,13 @@ module _ {K V : Type 0} (m : Moment K V) (placed : PairsArePlaced m) where
         all_so (λ (d : Deferral). LiesNext m d × (1 ≤ put_in d.pair m.deferred)) (LiesNext v) (λ d its. same_lies d (kept who acted f m numbers onward d.pair (put_has_left d.pair its.1)) its.0) m.deferred
         (all_both (LiesNext m) (λ (d : Deferral). 1 ≤ put_in d.pair m.deferred) m.deferred all (each_is_put m.deferred))
 
-    fewer_lie : (t : Table) → AllByRecursion (LiesNext v) m.deferred → AllByRecursion (LiesNext v) (filter (λ (d : Deferral). not (same_table d.behind t)) m.deferred)
+    fewer_lie : (t : TableId) → AllByRecursion (LiesNext v) m.deferred → AllByRecursion (LiesNext v) (filter (λ (d : Deferral). not (same_table d.behind t)) m.deferred)
     fewer_lie t all =
         all_so (λ (d : Deferral). LiesNext v d × (not (same_table d.behind t) ≡ true)) (LiesNext v) (λ d its. its.0) (filter (λ (d : Deferral). not (same_table d.behind t)) m.deferred)
         (all_kept (LiesNext v) (λ (d : Deferral). not (same_table d.behind t)) m.deferred all)
 
     -- and so do those that wait then, if one that comes does
-    pub all_lie : ((n : ℕ) (t : Table) → f ≡ effect.Deferred n t → LiesNext m (record { pair = n; behind = t })) → AllByRecursion (LiesNext m) m.deferred → AllByRecursion (LiesNext v) v.deferred
+    pub all_lie : ((n : ℕ) (t : TableId) → f ≡ effect.Deferred n t → LiesNext m (record { pair = n; behind = t })) → AllByRecursion (LiesNext m) m.deferred → AllByRecursion (LiesNext v) v.deferred
     all_lie new all = by f refl (lie_still all)
       where
         Then : Effect → Type 0
@@ -86,7 +86,7 @@ module _ {K V : Type 0} (m : Moment K V) (placed : PairsArePlaced m) where
         by : (g : Effect) → f ≡ g → AllByRecursion (LiesNext v) m.deferred → Then g
         by (effect.Deferred n t) is still =
             let aside = aside_all who acted (f ∷ []) m (ap is_aside is, tt) in
-            (same_lies (record { pair = n; behind = t }) (ap (λ (g : ℕ → Table). g n) aside.born, ap (λ (g : ℕ → Spot). g n) aside.spot) (new n t is), still)
+            (same_lies (record { pair = n; behind = t }) (ap (λ (g : ℕ → TableId). g n) aside.born, ap (λ (g : ℕ → Spot). g n) aside.spot) (new n t is), still)
         by (effect.Reclaimed (ATable t)) is still = fewer_lie t still
         by (effect.Reclaimed (APair n)) is still = still
         by (effect.Taken t) is still = fewer_lie t still
@@ -98,7 +98,7 @@ module _ {K V : Type 0} (everything : Bool) (m : Moment K V) where
   none_links n s None its = its
   none_links n s (Some of) its = its
 
-  pub none_promotes : (t : Table) (o : Option ℕ) → EventFinds o everything m (effect.Promoted t) → ⊥
+  pub none_promotes : (t : TableId) (o : Option ℕ) → EventFinds o everything m (effect.Promoted t) → ⊥
   none_promotes t None its = its
   none_promotes t (Some of) its = its
 
@@ -106,7 +106,7 @@ module _ {K V : Type 0} (everything : Bool) (m : Moment K V) where
   none_copies n s None its = its
   none_copies n s (Some of) its = its
 
-  pub none_defers : (n : ℕ) (t : Table) (o : Option ℕ) → EventFinds o everything m (effect.Deferred n t) → ⊥
+  pub none_defers : (n : ℕ) (t : TableId) (o : Option ℕ) → EventFinds o everything m (effect.Deferred n t) → ⊥
   none_defers n t None its = its
   none_defers n t (Some of) its = its
 
@@ -121,7 +121,7 @@ module _ {K V : Type 0} (everything : Bool) (m : Moment K V) where
     event_onward (effect.Promoted t) finds = absurd (none_promotes t acted finds)
     event_onward _ finds = tt
 
-    pub event_next : (f : Effect) → EventFinds acted everything m f → (n : ℕ) (t : Table) → f ≡ effect.Deferred n t → LiesNext m (record { pair = n; behind = t })
+    pub event_next : (f : Effect) → EventFinds acted everything m f → (n : ℕ) (t : TableId) → f ≡ effect.Deferred n t → LiesNext m (record { pair = n; behind = t })
     event_next f finds n t is = absurd (none_defers n t acted (subst (EventFinds acted everything m) is finds))
 
 -- and a call puts what it owes behind the table just before that in which it lies.
@@ -140,7 +140,7 @@ module _ {K V : Type 0} (terms : Terms) (moments : List (Moment K V)) (acted : O
       subst (λ (q : ℕ). first_of q m ≤ t.turn) (sym finds.0) (comes_on (grows_in_chunks (map_at c.map m)) (first_of c.map m) t.turn (tables_of c.map m) finds.2)
   call_onward _ finds = tt
 
-  pub call_next : (f : Effect) → CallFinds terms moments m f c → (n : ℕ) (t : Table) → f ≡ effect.Deferred n t → LiesNext m (record { pair = n; behind = t })
+  pub call_next : (f : Effect) → CallFinds terms moments m f c → (n : ℕ) (t : TableId) → f ≡ effect.Deferred n t → LiesNext m (record { pair = n; behind = t })
   call_next f finds n t is =
       let found = subst (λ (g : Effect). CallFinds terms moments m g c) is finds in
       let may : MayDefer c.map m n t = found.1 in

@@ -8,7 +8,7 @@ use Rattle.run_executor.specs.Given.SeizeWorld.{World, times}
 use Rattle.run_executor.proofs.Given.SeizeRuleWorld.Bounded.{garbage_bounded}
 use Rattle.run_blocks.specs.Given.TablesNodes.{deferred_word}
 use Rattle.run_blocks.specs.Given.TablesDeclared.node.Node.{Node}
-use Rattle.run_executor.specs.Given.RunsDeclared.effect.Table.{Table}
+use Rattle.run_executor.specs.Given.RunsDeclared.effect.TableId.{TableId}
 use Rattle.run_executor.specs.Given.SchedulesMoment.{TableThere, Moment}
 use Rattle.run_executor.specs.Given.SchedulesReclaims.{is_handed, waiting_things}
 use Rattle.run_executor.specs.Given.SchedulesThings.{same_table}
@@ -89,7 +89,7 @@ module _ {K V : Type 0} (m : Moment K V) (known : Known) (w : World (Node K V)) 
   module _ (pairs : ℕ) (all_pairs : Blocks (IsPairUpTo pairs) (places_below is_handed m.place pairs)) where
     -- or it is that of one of these tables
     abbrev IsTableOf : List TableThere → ℕ → Type 0
-    IsTableOf tables b = (t : Table) × (len : ℕ) × (list_any (λ v. same_table v.table t) tables ≡ true) × (known.roles b ≡ role.Table t len) × (is_retired_in b w.log ≡ true)
+    IsTableOf tables b = (t : TableId) × (len : ℕ) × (list_any (λ v. same_table v.table t) tables ≡ true) × (known.roles b ≡ role.Table t len) × (is_retired_in b w.log ≡ true)
 
     abbrev IsEither : List TableThere → ℕ → Type 0
     IsEither tables b = IsPairUpTo pairs b ⊎ IsTableOf tables b
@@ -118,7 +118,7 @@ module _ {K V : Type 0} (m : Moment K V) (known : Known) (w : World (Node K V)) 
         not_new b len is (inr its) =
             let two : role.Table u.table len ≡ role.Table its.0 its.1 = sym is ∙ its.3 in
             let same : u.table ≡ its.0 = cc two in
-            let there : list_any (λ v. same_table v.table u.table) tables ≡ true = subst (λ (t : Table). list_any (λ v. same_table v.table t) tables ≡ true) (sym same) its.2 in
+            let there : list_any (λ v. same_table v.table u.table) tables ≡ true = subst (λ (t : TableId). list_any (λ v. same_table v.table t) tables ≡ true) (sym same) its.2 in
             let none = apart.0 in
             cc (there, none)
 

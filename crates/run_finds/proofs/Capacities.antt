@@ -6,8 +6,8 @@ use Rattle.std.proofs.lemmas.Nat.{pow_pos}
 use Rattle.run_executor.specs.Given.SeizeWorld.{World, with_at}
 use Rattle.run_executor.specs.Given.SeizeWordsDeclared.fault.Fault.{Fault}
 use Rattle.run_executor.specs.Given.SeizeWordsDeclared.fault.Fault.TheVariants.{Capacity}
-use Rattle.run_executor.specs.Given.SeizeDeclared.progress.Progress.{Progress as Making}
-use Rattle.run_executor.specs.Given.SeizeDeclared.progress.Progress.TheVariants as progress
+use Rattle.run_executor.specs.Given.SeizeDeclared.advance.Advance.{Advance as Making}
+use Rattle.run_executor.specs.Given.SeizeDeclared.advance.Advance.TheVariants as progress
 use Rattle.run_blocks.specs.Given.TablesLengths.{places_for, entries_of}
 use Rattle.run_blocks.specs.Given.TablesPowers.{floor_log2, next_power}
 use Rattle.run_blocks.specs.Given.TablesDeclared.node.Node.{Node}
@@ -18,7 +18,7 @@ use Rattle.run_blocks.specs.Given.ResizeDeclared.new_map.NewMap.{NewMap}
 use Rattle.run_executor.specs.Given.RunsRuns.{map_fault}
 use Rattle.run_executor.specs.Given.RunsDeclared.effect.Effect.{Effect}
 use Rattle.run_executor.specs.Given.RunsDeclared.effect.Effect.TheVariants as effect
-use Rattle.run_executor.specs.Given.RunsDeclared.effect.Table.{Table}
+use Rattle.run_executor.specs.Given.RunsDeclared.effect.TableId.{TableId}
 use Rattle.run_executor.specs.Given.SchedulesEffects.{promoted, with_effect, with_effects}
 use Rattle.run_executor.specs.Given.SchedulesGrowing.{Has}
 use Rattle.run_executor.specs.Given.SchedulesMoment.{MapThere, Moment}
@@ -99,7 +99,7 @@ module _ {X : Type 0} (look : Option MapThere → X) (but_root : (f : MapThere) 
   alike true x y a b one rest = one
   alike false x y a b one rest = rest
 
-  promoted_same : (t : Table) (of : ℕ) (fs : List MapThere) → look (find (λ f. f.number == of) (map (promoted t) fs)) ≡ look (find (λ f. f.number == of) fs)
+  promoted_same : (t : TableId) (of : ℕ) (fs : List MapThere) → look (find (λ f. f.number == of) (map (promoted t) fs)) ≡ look (find (λ f. f.number == of) fs)
   promoted_same t of [] = refl
   promoted_same t of (g ∷ fs) = by (g.number == t.map) (promoted_same t of fs)
     where

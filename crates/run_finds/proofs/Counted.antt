@@ -2,7 +2,7 @@
 use Rattle.std.specs.Prelude.{◌≡◌, ℕ, ◌+◌, ◌==◌, Bool, true, false, not, cond, ◌||◌, List, [], ◌∷◌, filter, map, if◌then◌else◌}
 use Rattle.std.proofs.Common.{refl, ap, sym, subst, ◌∙◌, arith, inl, inr}
 use Rattle.std.proofs.lemmas.Bool.{cases_eq, eq-eqb, ne_eqb}
-use Rattle.run_executor.specs.Given.RunsDeclared.effect.Table.{Table}
+use Rattle.run_executor.specs.Given.RunsDeclared.effect.TableId.{TableId}
 use Rattle.run_executor.specs.Given.SchedulesEffects.{all_at}
 use Rattle.run_executor.specs.Given.SchedulesLists.{is_among, put}
 use Rattle.run_executor.specs.Given.SchedulesMoment.{Place, Behind, Deferral}
@@ -59,7 +59,7 @@ module _ (test : Place → Bool) (place : ℕ → Place) (n : ℕ) (to : Place) 
 
 -- a table lets go what is behind it
 
-module _ (t : Table) where
+module _ (t : TableId) where
   abbrev pub stays_put : Deferral → Bool
   stays_put d = not (same_table d.behind t)
 

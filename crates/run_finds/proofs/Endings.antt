@@ -9,7 +9,7 @@ use Rattle.std.proofs.lemmas.List.Folds.{find-append}
 use Rattle.run_executor.specs.Given.RunsSame.{is_same}
 use Rattle.run_executor.specs.Given.RunsDeclared.effect.Effect.{Effect}
 use Rattle.run_executor.specs.Given.RunsDeclared.effect.Effect.TheVariants as effect
-use Rattle.run_executor.specs.Given.RunsDeclared.effect.Table.{Table}
+use Rattle.run_executor.specs.Given.RunsDeclared.effect.TableId.{TableId}
 use Rattle.run_executor.specs.Given.RunsDeclared.event.Event.{Event}
 use Rattle.run_executor.specs.Given.RunsDeclared.event.Event.TheVariants.{MakeMap, EndMap, Begin, OneCall}
 use Rattle.run_executor.specs.Given.RunsDeclared.outcome.Outcome.{Outcome}
@@ -42,7 +42,7 @@ module _ {X : Type 0} (of : MapThere → X) (same : X → X → Bool) where
   abbrev pub FoundBy : List MapThere → Type 0
   FoundBy fs = AllByRecursion (λ f. find (λ g. same (of g) (of f)) fs ≡ Some f) fs
 
-  module _ (t : Table) (stays : (f : MapThere) → of (promoted t f) ≡ of f) where
+  module _ (t : TableId) (stays : (f : MapThere) → of (promoted t f) ≡ of f) where
     found_promoted : (x : X) (fs : List MapThere) → find (λ f. same (of f) x) (map (promoted t) fs) ≡ option_map (promoted t) (find (λ f. same (of f) x) fs)
     found_promoted x [] = refl
     found_promoted x (f ∷ fs) =
@@ -71,14 +71,14 @@ module _ {X : Type 0} (of : MapThere → X) (same : X → X → Bool) where
       all_so (λ f. (find (λ g. same (of g) (of f)) fs ≡ Some f) × (keep f ≡ true)) (λ f. find (λ g. same (of g) (of f)) (filter keep fs) ≡ Some f)
       (λ f its. found_still (λ g. same (of g) (of f)) keep fs f its.0 its.1) (filter keep fs) (all_kept (λ f. find (λ g. same (of g) (of f)) fs ≡ Some f) keep fs found)
 
-name_same : (t : Table) (f : MapThere) → (promoted t f).name ≡ f.name
+name_same : (t : TableId) (f : MapThere) → (promoted t f).name ≡ f.name
 name_same t f = by (f.number == t.map)
   where
     by : (q : Bool) → (if q then record f { first = t.turn } else f).name ≡ f.name
     by true = refl
     by false = refl
 
-pub number_same : (t : Table) (f : MapThere) → (promoted t f).number ≡ f.number
+pub number_same : (t : TableId) (f : MapThere) → (promoted t f).number ≡ f.number
 number_same t f = by (f.number == t.map)
   where
     by : (q : Bool) → (if q then record f { first = t.turn } else f).number ≡ f.number
@@ -137,11 +137,11 @@ events_keep_named K V e m named new =
 -- as a map ends
 
 -- one table of the list is this one
-abbrev is_one : List Table → Table → Bool
+abbrev is_one : List TableId → TableId → Bool
 is_one tables t = list_any (same_table t) tables
 
 -- no table is linked that is none of these
-abbrev LinkedAre : (Table → Type 0) → List TableThere → Type 0
+abbrev LinkedAre : (TableId → Type 0) → List TableThere → Type 0
 LinkedAre Q tables = AllByRecursion (λ u. is_linked u.stage ≡ true → Q u.table) tables
 
 module _ {K V : Type 0} where
@@ -155,7 +155,7 @@ module _ {K V : Type 0} where
       one (effect.Promoted t) e = absurd (cc e)
       one _ e = refl
 
-  ends_take : (acted : Option ℕ) (Q : Table → Type 0) (effects : List Effect) (m : Moment K V) → list_all is_ending effects ≡ true → LinkedAre Q m.tables
+  ends_take : (acted : Option ℕ) (Q : TableId → Type 0) (effects : List Effect) (m : Moment K V) → list_all is_ending effects ≡ true → LinkedAre Q m.tables
       → LinkedAre (λ t. Q t × (is_one (flat_map tables_taken effects) t ≡ false)) (with_effects None acted effects m).tables
   ends_take acted Q [] m all linked = all_so (λ u. is_linked u.stage ≡ true → Q u.table) (λ u. is_linked u.stage ≡ true → Q u.table × (false ≡ false)) (λ u its e. (its e, refl)) m.tables linked
   ends_take acted Q (effect.Ended n ∷ effects) m all linked = ends_take acted Q effects (with_effect None acted (effect.Ended n) m) all linked
@@ -195,10 +195,10 @@ module _ {K V : Type 0} where
         subst (λ (o : Option ℕ). EndsNamed o effects m w) number whole
 
     -- a table from its root on is taken
-    taken : (f : MapThere) → Stands f → is_same f.name name ≡ true → (t : Table) → ((f.number == t.map) && nat_le f.first t.turn) ≡ true → list_any (λ v. same_table t v.table) m.tables ≡ true
+    taken : (f : MapThere) → Stands f → is_same f.name name ≡ true → (t : TableId) → ((f.number == t.map) && nat_le f.first t.turn) ≡ true → list_any (λ v. same_table t v.table) m.tables ≡ true
         → is_one (flat_map tables_taken effects) t ≡ true
     taken f its same t rooted there =
-        ap (λ (l : List Table). is_one l t) (ends f its same).tables
+        ap (λ (l : List TableId). is_one l t) (ends f its same).tables
         ∙ any_under (λ (v : TableThere). v.table) (λ v. same_table t v.table) (same_table t) (λ v e. e) (chain_of f.number m) in_chain
       where
         two : ((f.number == t.map) ≡ true) × (nat_le f.first t.turn ≡ true)
@@ -275,7 +275,7 @@ module _ {K V : Type 0} where
       w : Moment K V
       w = with_effects None (number_of name m) effects m
 
-      Its : Table → Type 0
+      Its : TableId → Type 0
       Its t = list_any (λ v. same_table t v.table) m.tables ≡ true
   roots_go event outcome steps effects m named found may whole =
       each_is (λ u. is_kept (worked (entry event outcome steps effects) m) u ≡ true → is_kept (after (entry event outcome steps effects) m) u ≡ true) (λ u e. e)

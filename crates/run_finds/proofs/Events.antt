@@ -10,7 +10,7 @@ use Rattle.run_executor.specs.Given.RunsDeclared.event.Event.{Event}
 use Rattle.run_executor.specs.Given.RunsDeclared.event.Event.TheVariants.{Replied, Stop}
 use Rattle.run_executor.specs.Given.RunsDeclared.outcome.Outcome.{Outcome}
 use Rattle.run_executor.specs.Given.RunsDeclared.outcome.Outcome.TheVariants.{Done, Goes, Asks, Waits, Ready, Shows}
-use Rattle.run_executor.specs.Given.RunsDeclared.effect.Table.{Table}
+use Rattle.run_executor.specs.Given.RunsDeclared.effect.TableId.{TableId}
 use Rattle.run_executor.specs.Given.RunsDeclared.effect.Thing.TheVariants.{ATable}
 use Rattle.run_executor.specs.Given.SchedulesAfter.{asks_on, comes_to, replied, without_call, stepped, calls_on, after}
 use Rattle.run_executor.specs.Given.SchedulesBeginning.{with_call, with_map}
@@ -88,7 +88,7 @@ module _ {K V : Type 0} where
     over_so event outcome steps owes = stepped_so (caller_of event) outcome steps owes
 
   -- a table that is owed is owed still
-  module _ (t : Table) where
+  module _ (t : TableId) where
     abbrev owes_it : UnderWay K V → Bool
     owes_it c = is_in same_thing (ATable t) c.owes
 

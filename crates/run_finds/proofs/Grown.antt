@@ -8,7 +8,7 @@ use Rattle.run_executor.specs.Given.RunsDeclared.shapes.TableShape.{TableShape}
 use Rattle.run_executor.specs.Given.RunsDeclared.effect.Effect.{Effect}
 use Rattle.run_executor.specs.Given.RunsDeclared.effect.Effect.TheVariants as effect
 use Rattle.run_executor.specs.Given.RunsDeclared.effect.Spot.{Spot}
-use Rattle.run_executor.specs.Given.RunsDeclared.effect.Table.{Table}
+use Rattle.run_executor.specs.Given.RunsDeclared.effect.TableId.{TableId}
 use Rattle.run_executor.specs.Given.RunsDeclared.effect.Thing.TheVariants.{APair, ATable}
 use Rattle.run_executor.specs.Given.SchedulesEffects.{born_by, spot_by, at_stage, with_effect}
 use Rattle.run_executor.specs.Given.SchedulesGrowing.{ComesNext}
@@ -72,7 +72,7 @@ only_one {K} {V} own (d ∷ calls) c apart is = by (is_same d.caller own) refl i
 -- tables of a map
 
 -- a table is none of another one, and keeps its name at another stage
-pub stage_same : (t : Table) (to : Stage) (u : TableThere) → (at_stage t to u).table ≡ u.table
+pub stage_same : (t : TableId) (to : Stage) (u : TableThere) → (at_stage t to u).table ≡ u.table
 stage_same t to u = by (same_table u.table t)
   where
     by : (q : Bool) → (if q then record u { stage = to } else u).table ≡ u.table
@@ -80,7 +80,7 @@ stage_same t to u = by (same_table u.table t)
     by false = refl
 
 -- pairs stored are born where they were
-pub born_same : (acted : Option ℕ) (f : Effect) (born : ℕ → Table) → is_storing f ≡ false → born_by acted f born ≡ born
+pub born_same : (acted : Option ℕ) (f : Effect) (born : ℕ → TableId) → is_storing f ≡ false → born_by acted f born ≡ born
 born_same None f born e = refl
 born_same (Some of) (effect.Stored n s) born e = absurd (cc e)
 born_same (Some of) _ born e = refl
@@ -101,7 +101,7 @@ module _ {K V : Type 0} where
   many_grow caller acted m _ of = omega arith
 
 -- a table that has just been linked
-abbrev pub linked_as : Table → TableShape → TableThere
+abbrev pub linked_as : TableId → TableShape → TableThere
 linked_as t shape = record { table = t; shape = shape; stage = IsLinked }
 
 -- the root comes to no earlier table

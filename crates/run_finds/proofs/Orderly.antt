@@ -4,7 +4,7 @@ use Rattle.std.specs.List.{AllByRecursion, list_any}
 use Rattle.std.proofs.Common.{refl, ap, sym, subst, ◌∙◌, arith, inl, inr, lt-ltb, le-leb}
 use Rattle.std.proofs.lemmas.Bool.{and_from, and_parts, or_left, or_right, eq-eqb, leb-true}
 use Rattle.std.proofs.lemmas.List.Elements.{recursion_from_All}
-use Rattle.run_executor.specs.Given.RunsDeclared.effect.Table.{Table}
+use Rattle.run_executor.specs.Given.RunsDeclared.effect.TableId.{TableId}
 use Rattle.run_executor.specs.Given.RunsDeclared.effect.Thing.TheVariants.{ATable}
 use Rattle.run_executor.specs.Given.SchedulesLists.{is_in}
 use Rattle.run_executor.specs.Given.SchedulesMoment.{Place, Unborn, InMap, Out, Handed, Behind, Left, GivenBack, UnderWay, MapThere, Stage, IsLinked, IsRetired, IsReclaimed, IsTaken, TableThere, Deferral, Moment}
@@ -28,7 +28,7 @@ le_from : (a b : ℕ) → nat_le a b ≡ true → a ≤ b
 le_from a b e = leb-true a b e
 
 -- a pair that is behind some table, each of which passes, is behind one that does
-behind_one : (test : Table → Bool) (n q : ℕ) (deferred : List Deferral) → AllByRecursion (λ d. test d.behind ≡ true) deferred → put_in n deferred ≡ 1 + q
+behind_one : (test : TableId → Bool) (n q : ℕ) (deferred : List Deferral) → AllByRecursion (λ d. test d.behind ≡ true) deferred → put_in n deferred ≡ 1 + q
     → list_any (λ d. (d.pair == n) && test d.behind) deferred ≡ true
 behind_one test n q [] all there = absurd (omega (arith, there))
 behind_one test n q (d ∷ deferred) all there = by (n == d.pair) refl (behind_one test n q deferred all.1)
@@ -63,7 +63,7 @@ module _ {K V : Type 0} (m : Moment K V) (h : WaitsInOrder m) (none : m.calls �
   at_stage IsTaken e = absurd (cc e)
 
   -- one that is linked is from the root of a map on
-  module _ (t : Table) (next : t.turn + 1 < length (tables_of t.map m)) (there : is_stage is_there t m ≡ true) where
+  module _ (t : TableId) (next : t.turn + 1 < length (tables_of t.map m)) (there : is_stage is_there t m ≡ true) where
     abbrev IsThat : TableThere → Bool
     IsThat u = same_table u.table t
 
@@ -129,7 +129,7 @@ module _ {K V : Type 0} (m : Moment K V) (h : WaitsInOrder m) (none : m.calls �
             let two = and_parts (same_table it.0.table t) (is_there it.0.stage) it.1 in
             or_right (is_stage is_retired t m) (has_next m t) (from_root it.0 two.0 (linked it.0 two.0 it.2.1 (at_stage it.0.stage two.1)) it.2.0)
 
-  abbrev is_reason : Table → Bool
+  abbrev is_reason : TableId → Bool
   is_reason t = is_stage is_retired t m || has_next m t
 
   reasons : AllByRecursion (λ d. is_reason d.behind ≡ true) m.deferred
@@ -169,7 +169,7 @@ module _ {K V : Type 0} (m : Moment K V) (h : WaitsInOrder m) (none : m.calls �
 
   module _ (nothing : NothingIsRetired m) where
     -- no table is retired, so what waits behind one waits behind one with a next one
-    none_retired : (t : Table) → is_stage is_retired t m ≡ false
+    none_retired : (t : TableId) → is_stage is_retired t m ≡ false
     none_retired t = by (is_stage is_retired t m) refl
       where
         by : (q : Bool) → is_stage is_retired t m ≡ q → is_stage is_retired t m ≡ false

@@ -7,7 +7,7 @@ use Rattle.std.proofs.lemmas.Bool.{or_parts, or_from}
 use Rattle.run_executor.specs.Given.RunsSame.{is_same}
 use Rattle.run_executor.specs.Given.RunsDeclared.call.Call.{Call}
 use Rattle.run_executor.specs.Given.RunsDeclared.call.Call.TheVariants as call
-use Rattle.run_executor.specs.Given.RunsDeclared.effect.Table.{Table}
+use Rattle.run_executor.specs.Given.RunsDeclared.effect.TableId.{TableId}
 use Rattle.run_executor.specs.Given.RunsDeclared.effect.Thing.{Thing}
 use Rattle.run_executor.specs.Given.RunsDeclared.effect.Thing.TheVariants.{APair, ATable}
 use Rattle.run_executor.specs.Given.SchedulesAfter.{without_call}
@@ -49,7 +49,7 @@ owed_without n k (x ∷ things) there = by (same_thing (APair n) x) refl there (
     by false is e rest = subst Goal (sym is) (let it = rest e in omega (arith, it))
 
 -- a table that goes leaves pairs
-pub table_without : (k : ℕ) (t : Table) (things : List Thing) → owed_in k (without_one same_thing (ATable t) things) ≡ owed_in k things
+pub table_without : (k : ℕ) (t : TableId) (things : List Thing) → owed_in k (without_one same_thing (ATable t) things) ≡ owed_in k things
 table_without k t [] = refl
 table_without k t (x ∷ things) = by (same_thing (ATable t) x) refl (table_without k t things)
   where

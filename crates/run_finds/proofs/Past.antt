@@ -5,7 +5,7 @@ use Rattle.std.proofs.lemmas.Bool.{cases_eq}
 use Rattle.run_executor.specs.Given.RunsDeclared.effect.Effect.{Effect}
 use Rattle.run_executor.specs.Given.RunsDeclared.effect.Effect.TheVariants.{Stored, Copied, Promoted}
 use Rattle.run_executor.specs.Given.RunsDeclared.effect.Spot.{Spot}
-use Rattle.run_executor.specs.Given.RunsDeclared.effect.Table.{Table}
+use Rattle.run_executor.specs.Given.RunsDeclared.effect.TableId.{TableId}
 use Rattle.run_executor.specs.Given.SchedulesEffects.{promoted, born_by, spot_by, is_chunked, call_by, with_effect, AtEachEffect}
 use Rattle.run_executor.specs.Given.SchedulesEntry.{ByCall}
 use Rattle.run_executor.specs.Given.SchedulesLives.{IsPast, MayCopy}
@@ -39,7 +39,7 @@ past_on born lies first first2 less h = by (nat_lt born lies) h
     by false l = tt
 
 -- as the root of a map comes to a table that is no earlier one, no root goes back
-roots_go_on : (t : Table) (fs : List MapThere) → first_or (find (λ f. f.number == t.map) fs) ≤ t.turn → (map : ℕ)
+roots_go_on : (t : TableId) (fs : List MapThere) → first_or (find (λ f. f.number == t.map) fs) ≤ t.turn → (map : ℕ)
     → first_or (find (λ f. f.number == map) fs) ≤ first_or (find (λ f. f.number == map) (list_map (promoted t) fs))
 roots_go_on t fs later map = elim (cases_eq t.map map) as (λ _. first_or (find (λ f. f.number == map) fs) ≤ first_or (find (λ f. f.number == map) (list_map (promoted t) fs))) [
   | inl e ↦ subst (λ (x : ℕ). first_or (find (λ f. f.number == x) fs) ≤ first_or (find (λ f. f.number == x) (list_map (promoted t) fs))) e (by (find (λ f. f.number == t.map) fs) refl)
@@ -55,15 +55,15 @@ roots_go_on t fs later map = elim (cases_eq t.map map) as (λ _. first_or (find 
         let there : first_or (find (λ f. f.number == t.map) (list_map (promoted t) fs)) ≡ t.turn = ap first_or (own_found t fs was is) in
         subst (λ (x : ℕ). first_or (find (λ f. f.number == t.map) fs) ≤ x) (sym there) later
 
-born_elsewhere : (acted : Option ℕ) (k : ℕ) (s : Spot) (born : ℕ → Table) (n : ℕ) → n ≢ k → born_by acted (Stored k s) born n ≡ born n
+born_elsewhere : (acted : Option ℕ) (k : ℕ) (s : Spot) (born : ℕ → TableId) (n : ℕ) → n ≢ k → born_by acted (Stored k s) born n ≡ born n
 born_elsewhere None k s born n ne = refl
 born_elsewhere (Some map) k s born n ne = put_elsewhere k (record { map = map; turn = s.turn }) born n ne
 
-born_copied : (acted : Option ℕ) (k : ℕ) (s : Spot) (born : ℕ → Table) (n : ℕ) → born_by acted (Copied k s) born n ≡ born n
+born_copied : (acted : Option ℕ) (k : ℕ) (s : Spot) (born : ℕ → TableId) (n : ℕ) → born_by acted (Copied k s) born n ≡ born n
 born_copied None k s born n = refl
 born_copied (Some map) k s born n = refl
 
-born_promoted : (acted : Option ℕ) (t : Table) (born : ℕ → Table) (n : ℕ) → born_by acted (Promoted t) born n ≡ born n
+born_promoted : (acted : Option ℕ) (t : TableId) (born : ℕ → TableId) (n : ℕ) → born_by acted (Promoted t) born n ≡ born n
 born_promoted None t born n = refl
 born_promoted (Some map) t born n = refl
 
@@ -83,7 +83,7 @@ module _ {K V : Type 0} (who : Option (List ℕ)) (acted : Option ℕ) where
   )
   kept (Promoted t) m finds on n left = (born_promoted acted t m.born n, spot_promoted_other (is_chunked acted m) m.place m.copy t m.spot n (not_in t.map (m.place n) left.1))
   kept f m finds on n left =
-      let aside = aside_all who acted (f ∷ []) m (refl, tt) in (ap (λ (g : ℕ → Table). g n) aside.born, ap (λ (g : ℕ → Spot). g n) aside.spot)
+      let aside = aside_all who acted (f ∷ []) m (refl, tt) in (ap (λ (g : ℕ → TableId). g n) aside.born, ap (λ (g : ℕ → Spot). g n) aside.spot)
 
   pub goes_on : (f : Effect) (m : Moment K V) → FindsOnward acted m f → (map : ℕ) → first_of map m ≤ first_of map (with_effect who acted f m)
   goes_on (Promoted t) m on map = roots_go_on t m.maps on map

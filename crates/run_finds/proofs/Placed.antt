@@ -6,7 +6,7 @@ use Rattle.run_executor.specs.Given.RunsLifeCycle.{times}
 use Rattle.run_executor.specs.Given.RunsDeclared.effect.Effect.{Effect}
 use Rattle.run_executor.specs.Given.RunsDeclared.effect.Effect.TheVariants as effect
 use Rattle.run_executor.specs.Given.RunsDeclared.effect.Spot.{Spot}
-use Rattle.run_executor.specs.Given.RunsDeclared.effect.Table.{Table}
+use Rattle.run_executor.specs.Given.RunsDeclared.effect.TableId.{TableId}
 use Rattle.run_executor.specs.Given.RunsDeclared.effect.Thing.TheVariants.{APair, ATable}
 use Rattle.run_executor.specs.Given.SchedulesEffects.{in_map, place_by, deferred_by, pairs_back, passed, call_by, calls_by, with_effect}
 use Rattle.run_executor.specs.Given.SchedulesEntry.{ByCall}
@@ -155,7 +155,7 @@ module _ {K V : Type 0} where
     back_more : (n k : ℕ) → times k (m.given_back ++ n ∷ []) ≡ times k m.given_back + once_if (k == n)
     back_more n k = one_last k n m.given_back
 
-    put_more : (n : ℕ) (t : Table) (k : ℕ) → put_in k (record { pair = n; behind = t } ∷ m.deferred) ≡ put_in k m.deferred + once_if (k == n)
+    put_more : (n : ℕ) (t : TableId) (k : ℕ) → put_in k (record { pair = n; behind = t } ∷ m.deferred) ≡ put_in k m.deferred + once_if (k == n)
     put_more n t k = other_way (once_if (k == n)) (put_in k m.deferred)
 
     more_stored : (caller : Option (List ℕ)) (f : Effect) (k : ℕ) → k ≤ length m.stored → k ≤ length (with_effect caller acted f m).stored
@@ -265,7 +265,7 @@ module _ {K V : Type 0} where
             record { owed = all.0; put = all.1; back = all.2; stored = λ k e. more_stored (Some own) f k (all.3 k e); apart = apart_after (Some own) f }
 
     -- a call puts a pair behind a table
-    defers : (caller : Option (List ℕ)) (n : ℕ) (t : Table) → OwesPair caller m n → PairsArePlaced (with_effect caller acted (effect.Deferred n t) m)
+    defers : (caller : Option (List ℕ)) (n : ℕ) (t : TableId) → OwesPair caller m n → PairsArePlaced (with_effect caller acted (effect.Deferred n t) m)
     defers None n t finds = absurd finds
     defers (Some own) n t finds = by (call_of own m) refl finds
       where
@@ -319,7 +319,7 @@ module _ {K V : Type 0} where
             × Counts is_back p (λ k. times k (m.given_back ++ pairs_back f)) × ((k : ℕ) → is_unborn (p k) ≡ false → k ≤ length m.stored)
 
     -- a table is reclaimed, and what is behind it retired
-    reclaims : (caller : Option (List ℕ)) (t : Table) → PairsArePlaced (with_effect caller acted (effect.Reclaimed (ATable t)) m)
+    reclaims : (caller : Option (List ℕ)) (t : TableId) → PairsArePlaced (with_effect caller acted (effect.Reclaimed (ATable t)) m)
     reclaims caller t = record {
       owed = λ k. owed_same caller f k refl ∙ others_stay t Handed m.place m.deferred h.put is_out refl refl is_the_one (λ n. owed_by n m.calls) h.owed k;
       put = lets_go t Handed m.place m.deferred h.put refl;
@@ -332,7 +332,7 @@ module _ {K V : Type 0} where
         f = effect.Reclaimed (ATable t)
 
     -- or it ends with its map, and what is behind it is left over
-    ends : (caller : Option (List ℕ)) (t : Table) → PairsArePlaced (with_effect caller acted (effect.Taken t) m)
+    ends : (caller : Option (List ℕ)) (t : TableId) → PairsArePlaced (with_effect caller acted (effect.Taken t) m)
     ends caller t = record {
       owed = λ k. owed_same caller f k refl ∙ others_stay t Left m.place m.deferred h.put is_out refl refl is_the_one (λ n. owed_by n m.calls) h.owed k;
       put = lets_go t Left m.place m.deferred h.put refl;

@@ -4,8 +4,8 @@ use Rattle.std.proofs.Common.{refl, ap, sym, subst, ◌∙◌, inl, inr, arith}
 use Rattle.std.proofs.lemmas.Bool.{ltb-false, leb-true}
 use Rattle.run_executor.specs.Given.SeizeWordsMem.{Mem}
 use Rattle.run_executor.specs.Given.SeizeWordsOp.{Out, Found}
-use Rattle.run_executor.specs.Given.SeizeDeclared.progress.Progress.{Progress}
-use Rattle.run_executor.specs.Given.SeizeDeclared.progress.Progress.TheVariants as progress
+use Rattle.run_executor.specs.Given.SeizeDeclared.advance.Advance.{Advance}
+use Rattle.run_executor.specs.Given.SeizeDeclared.advance.Advance.TheVariants as progress
 use Rattle.run_executor.specs.Given.SeizeWordsDeclared.fault.Fault.TheVariants.{Capacity}
 use Rattle.run_blocks.specs.Given.TablesLengths.{places_for}
 use Rattle.run_blocks.specs.Given.TablesPowers.{next_power}
@@ -16,8 +16,8 @@ use Rattle.run_blocks.specs.Given.ResizeNewTable.{new_table_plan}
 use Rattle.run_blocks.specs.Given.ResizeSum.{sum_plan}
 use Rattle.run_blocks.specs.Given.ResizeDeclared.copier.Copier.{Copier}
 use Rattle.run_blocks.specs.Given.ResizeDeclared.new_table.NewTable.{NewTable}
-use Rattle.run_blocks.specs.Given.ResizeDeclared.outcome.Outcome.{Outcome}
-use Rattle.run_blocks.specs.Given.ResizeDeclared.outcome.Outcome.TheVariants as outcome
+use Rattle.run_blocks.specs.Given.ResizeDeclared.yielding.Yielding.{Yielding}
+use Rattle.run_blocks.specs.Given.ResizeDeclared.yielding.Yielding.TheVariants as outcome
 use Rattle.run_blocks.specs.Given.ResizeDeclared.sum.Sum.{Sum}
 use Rattle.run_executor.specs.Given.ReservesReserve as reserves
 use Rattle.run_executor.specs.Given.ReservesDeclared.reserve.Reserve.{Reserve}
@@ -79,7 +79,7 @@ module _ {K V : Type 0} (of : ℕ) (moments : List (Moment K V)) (p : Reserve) w
   abbrev Fits : Type 0
   Fits = FitsAt of moments p
 
-  abbrev So : Reserve × Outcome (Node K V) Unit → Type 0
+  abbrev So : Reserve × Yielding (Node K V) Unit → Type 0
   So e = ReservesAt of moments e.0 e.0.stands
 
   enough_so : (table : Table) (count : ℕ) → Counts (suc p.setting.mask) of moments count → So (reserves.enough p table (reserves.needed p.additional count))
@@ -91,19 +91,19 @@ module _ {K V : Type 0} (of : ℕ) (moments : List (Moment K V)) (p : Reserve) w
       by false e true = (count, counts, few_enough p.additional count e)
       by false e false = tt
 
-  made_so : (e : NewTable × Progress Table) → So (reserves.made p e)
+  made_so : (e : NewTable × Advance Table) → So (reserves.made p e)
   made_so (making, progress.Goes) = tt
   made_so (making, progress.Waits) = tt
   made_so (making, progress.Done table) = tt
   made_so (making, progress.Refused fault) = tt
 
-  grown_so : Fits → (table : Table) (e : NewTable × Progress Table) → So (reserves.grown p table e)
+  grown_so : Fits → (table : Table) (e : NewTable × Advance Table) → So (reserves.grown p table e)
   grown_so fits table (making, progress.Goes) = fits
   grown_so fits table (making, progress.Waits) = fits
   grown_so fits table (making, progress.Done next) = fits
   grown_so fits table (making, progress.Refused fault) = tt
 
-  copied_so : Fits → (e : Copier × Outcome (Node K V) Table) → So (reserves.copied p e)
+  copied_so : Fits → (e : Copier × Yielding (Node K V) Table) → So (reserves.copied p e)
   copied_so fits (copier, outcome.Goes) = fits
   copied_so fits (copier, outcome.Waits) = fits
   copied_so fits (copier, outcome.Gave value) = fits
@@ -119,14 +119,14 @@ module _ {K V : Type 0} (of : ℕ) (moments : List (Moment K V)) (p : Reserve) w
     next_so fits table need (Found link) = always_if So (link == 0) _ _ fits (λ value. fits)
     next_so fits table need _ = stays
 
-    module _ (hash : K → ℕ) (m m2 : Mem (Node K V)) (told : Changed) (end : Reserve × Outcome (Node K V) Unit) (sums : SumTells of moments p m m2 told) where
+    module _ (hash : K → ℕ) (m m2 : Mem (Node K V)) (told : Changed) (end : Reserve × Yielding (Node K V) Unit) (sums : SumTells of moments p m m2 told) where
       abbrev StepAt : Reserving → Type 0
-      StepAt q = StepsTold K V (Reserve × Outcome (Node K V) Unit) m changed.Nothing (reserves.plan_at hash p q) m2 told end
+      StepAt q = StepsTold K V (Reserve × Yielding (Node K V) Unit) m changed.Nothing (reserves.plan_at hash p q) m2 told end
 
       always : (q : Reserving) → AlwaysOf So (reserves.plan_at hash p q) → StepAt q → So end
       always q all s = always_steps So m m2 (reserves.plan_at hash p q) end all (as_step m changed.Nothing (reserves.plan_at hash p q) m2 told end s)
 
-      summed_so : (table : Table) (sum : Sum) → p.stands ≡ at.Sums table sum → (e : Sum × Progress ℕ) → StepsTold K V (Sum × Progress ℕ) m changed.Nothing (sum_plan sum) m2 told e → So (reserves.summed p table e)
+      summed_so : (table : Table) (sum : Sum) → p.stands ≡ at.Sums table sum → (e : Sum × Advance ℕ) → StepsTold K V (Sum × Advance ℕ) m changed.Nothing (sum_plan sum) m2 told e → So (reserves.summed p table e)
       summed_so table sum is (sum2, progress.Goes) s = tt
       summed_so table sum is (sum2, progress.Waits) s = tt
       summed_so table sum is (sum2, progress.Done count) s = enough_so table count (sums table sum sum2 count is s)

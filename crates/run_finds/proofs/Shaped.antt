@@ -5,7 +5,7 @@ use Rattle.run_executor.specs.Given.RunsDeclared.effect.Effect.{Effect}
 use Rattle.run_executor.specs.Given.RunsDeclared.effect.Effect.TheVariants as effect
 use Rattle.run_executor.specs.Given.RunsDeclared.effect.Growth.TheVariants.{ABlock}
 use Rattle.run_executor.specs.Given.RunsDeclared.effect.Spot.{Spot}
-use Rattle.run_executor.specs.Given.RunsDeclared.effect.Table.{Table}
+use Rattle.run_executor.specs.Given.RunsDeclared.effect.TableId.{TableId}
 use Rattle.run_executor.specs.Given.SchedulesEffects.{call_by, with_effect}
 use Rattle.run_executor.specs.Given.SchedulesEntry.{ByCall}
 use Rattle.run_executor.specs.Given.SchedulesGrowing.{none_before}
@@ -39,7 +39,7 @@ module _ {K V : Type 0} (own : List ℕ) (map : ℕ) (m : Moment K V) (c : CallT
   one_placed (effect.Stored n s) none finds = subst (λ (o : Option ℕ). IsFreeFor o map s m) (sym (none n s refl)) finds
   one_placed _ none finds = tt
 
-  one_ahead : (f : Effect) → ((t : Table) → f ≡ effect.Promoted t → none_before map t.turn m ≡ true) → FindsAhead map m f
+  one_ahead : (f : Effect) → ((t : TableId) → f ≡ effect.Promoted t → none_before map t.turn m ≡ true) → FindsAhead map m f
   one_ahead (effect.Promoted t) none = none t refl
   one_ahead _ none = tt
 
@@ -69,7 +69,7 @@ module _ {K V : Type 0} (own : List ℕ) (map : ℕ) (m : Moment K V) (c : CallT
     ),
   )
 
-  pub ahead_all : (effects : List Effect) → Shaped effects → ((t : Table) → effects ≡ effect.Promoted t ∷ [] → none_before map t.turn m ≡ true) → FindAhead own map effects m
+  pub ahead_all : (effects : List Effect) → Shaped effects → ((t : TableId) → effects ≡ effect.Promoted t ∷ [] → none_before map t.turn m ≡ true) → FindAhead own map effects m
   ahead_all _ TellsNothing none = tt
   ahead_all _ (TellsOne f of_call) none = (one_ahead f (λ t e. none t (ap (λ (x : Effect). x ∷ []) e)), tt)
   ahead_all _ (TellsOver p n s) none = (tt, (tt, tt))
@@ -81,7 +81,7 @@ rows_store_none _ (IsStill effects calm) n s e = let one = subst AllCalm e calm 
 rows_store_none _ (Puts k t) n s e = cc e
 rows_store_none _ (Retires x) n s e = cc e
 
-pub rows_promote_none : (effects : List Effect) → HandsOn effects → (t : Table) → effects ≡ effect.Promoted t ∷ [] → ⊥
+pub rows_promote_none : (effects : List Effect) → HandsOn effects → (t : TableId) → effects ≡ effect.Promoted t ∷ [] → ⊥
 rows_promote_none _ (IsStill effects calm) t e = let one = subst AllCalm e calm in cc (one.0)
 rows_promote_none _ (Puts k u) t e = cc e
 rows_promote_none _ (Retires x) t e = cc e

@@ -7,8 +7,8 @@ use Rattle.run_executor.specs.Given.SeizeWordsDeclared.at.At.{At}
 use Rattle.run_executor.specs.Given.SeizeWordsDeclared.at.At.TheVariants as places
 use Rattle.run_executor.specs.Given.SeizeWordsDeclared.fault.Fault.{Fault}
 use Rattle.run_executor.specs.Given.SeizeWordsDeclared.fault.Fault.TheVariants.{Capacity}
-use Rattle.run_executor.specs.Given.SeizeDeclared.progress.Progress.{Progress}
-use Rattle.run_executor.specs.Given.SeizeDeclared.progress.Progress.TheVariants as progress
+use Rattle.run_executor.specs.Given.SeizeDeclared.advance.Advance.{Advance}
+use Rattle.run_executor.specs.Given.SeizeDeclared.advance.Advance.TheVariants as progress
 use Rattle.run_blocks.specs.Given.TablesLengths.{by_count, if_few, next_len, next_limit, next_turn}
 use Rattle.run_blocks.specs.Given.TablesDeclared.lengths.Reason.{Reason}
 use Rattle.run_blocks.specs.Given.TablesDeclared.lengths.Reason.TheVariants.{Full}
@@ -48,10 +48,10 @@ module _ (Sums : Table → Reason → Type 0) (Is : Table → Type 0) (kept : (t
 
   module _ (n : NewTable) (counts : (before : Table) (reason : Reason) (count : ℕ) → Sums before reason → ShapedAt Sums Is (making_of reason before (next_len reason before.len count n.setting.initial))) where
     -- it is for the same map, and makes such a table still
-    abbrev So : NewTable × Progress Table → Type 0
+    abbrev So : NewTable × Advance Table → Type 0
     So e = (e.0.setting ≡ n.setting) × ShapedAt Sums Is e.0.stands
 
-    counted_so : (before : Table) (reason : Reason) → Sums before reason → (e : Sum × Progress ℕ) → So (counted n before reason e)
+    counted_so : (before : Table) (reason : Reason) → Sums before reason → (e : Sum × Advance ℕ) → So (counted n before reason e)
     counted_so before reason sums (sum, progress.Goes) = (refl, sums)
     counted_so before reason sums (sum, progress.Waits) = (refl, sums)
     counted_so before reason sums (sum, progress.Done count) = (refl, counts before reason count sums)
@@ -82,7 +82,7 @@ module _ (Sums : Table → Reason → Type 0) (Is : Table → Type 0) (kept : (t
 
 -- The first table.
 
-abbrev pub FirstGoes : NewTable → NewTable × Progress Table → Type 0
+abbrev pub FirstGoes : NewTable → NewTable × Advance Table → Type 0
 FirstGoes n e = (e.0.setting ≡ n.setting) × IsFirstMaking e.0
 
 module _ (K V : Type 0) where
@@ -131,7 +131,7 @@ module _ (setting : Setting) (before : Table) (met : ℕ) where
       (subst (λ (x : Setting). Follows' (making_of (Full met most) before (next_len (Full met most) before.len count x.initial))) (sym setting_is)
       (next_counted most count (next_len (Full met most) before.len count setting.initial) refl)))
 
-  abbrev pub NextGoes : NewTable → NewTable × Progress Table → Type 0
+  abbrev pub NextGoes : NewTable → NewTable × Advance Table → Type 0
   NextGoes n e = (e.0.setting ≡ n.setting) × Follows' e.0.stands
 
   module _ (K V : Type 0) where

@@ -6,7 +6,7 @@ use Rattle.std.proofs.lemmas.Bool.{cases_eq}
 use Rattle.run_executor.specs.Given.RunsDeclared.effect.Effect.{Effect}
 use Rattle.run_executor.specs.Given.RunsDeclared.effect.Effect.TheVariants as effect
 use Rattle.run_executor.specs.Given.RunsDeclared.effect.Spot.{Spot}
-use Rattle.run_executor.specs.Given.RunsDeclared.effect.Table.{Table}
+use Rattle.run_executor.specs.Given.RunsDeclared.effect.TableId.{TableId}
 use Rattle.run_executor.specs.Given.RunsDeclared.effect.Thing.TheVariants.{APair, ATable}
 use Rattle.run_executor.specs.Given.SchedulesEffects.{all_at, place_by, stored_by, promoted, maps_by, with_effect}
 use Rattle.run_executor.specs.Given.SchedulesEntry.{acting}
@@ -69,7 +69,7 @@ all_lead to numbers place is = record { in_map = λ k map. into k map (is_among 
     some k false e = e
 
 -- maps keep their numbers
-numbered : (map : ℕ) (t : Table) (fs : List MapThere) → list_any (λ (f : MapThere). f.number == map) (each (promoted t) fs) ≡ list_any (λ (f : MapThere). f.number == map) fs
+numbered : (map : ℕ) (t : TableId) (fs : List MapThere) → list_any (λ (f : MapThere). f.number == map) (each (promoted t) fs) ≡ list_any (λ (f : MapThere). f.number == map) fs
 numbered map t [] = refl
 numbered map t (f ∷ fs) = by (f.number == t.map) (numbered map t fs)
   where

@@ -9,7 +9,7 @@ use Rattle.run_executor.specs.Given.RawDeclared.machines.progress.Progress.{Prog
 use Rattle.run_executor.specs.Given.RunsDeclared.effect.Effect.{Effect}
 use Rattle.run_executor.specs.Given.RunsDeclared.effect.Effect.TheVariants as effect
 use Rattle.run_executor.specs.Given.RunsDeclared.effect.Spot.{Spot}
-use Rattle.run_executor.specs.Given.RunsDeclared.effect.Table.{Table}
+use Rattle.run_executor.specs.Given.RunsDeclared.effect.TableId.{TableId}
 use Rattle.run_executor.specs.Given.SchedulesEffects.{new_pair, stored_by, with_effect, with_effects, AtEachEffect}
 use Rattle.run_executor.specs.Given.SchedulesEntry.{acting}
 use Rattle.run_executor.specs.Given.SchedulesGrowing.{none_before}
@@ -126,7 +126,7 @@ module _ {K V : Type 0} (same : K → K → Bool) (hash : ℕ → K → ℕ) (na
   record Single : Type 0 where
     pub on_map : AtEachEffect (FindsMap map) (Some (name i)) (Some map) effects m
     pub stores : (n : ℕ) (sp : Spot) → effects ≡ effect.Stored n sp ∷ [] → c.replacing ≡ None
-    pub promotes : (t : Table) → effects ≡ effect.Promoted t ∷ [] → none_before map t.turn m ≡ true
+    pub promotes : (t : TableId) → effects ≡ effect.Promoted t ∷ [] → none_before map t.turn m ≡ true
     pub takes : (b : ℕ) → new.changed ≡ changed.Took b → IsOfMap (known.roles b) → ⊥
     pub one : AtEachEffect (StoresOne (Some (name i))) (Some (name i)) (Some map) effects m
 
@@ -151,7 +151,7 @@ module _ {K V : Type 0} (same : K → K → Bool) (hash : ℕ → K → ℕ) (na
         subst (λ (o : Option (CallThere K V)). HasToStore s.world.memory (named_now new.changed) o n) its_call.1 first in
         replaces_none same (whole.all.shown.number map) to.0.chart.stored known u c.call c refl its_call.3 (whole.all.asked.each map i u here to.0 to.2 c its_call.1) has.0 has.1 n has.2
 
-    own_promotes : (t : Table) → effects ≡ effect.Promoted t ∷ [] → none_before map t.turn m ≡ true
+    own_promotes : (t : TableId) → effects ≡ effect.Promoted t ∷ [] → none_before map t.turn m ≡ true
     own_promotes t is =
         let on = (subst (λ (l : List Effect). AtEachEffect (FindsMap map) (Some (name i)) (Some map) l m) is finds_map).0.0 in
         let shown_then = subst (λ (l : List Effect). Shows same name (with_effects (Some (name i)) (Some map) l m) known2 then_at) is after.all.shown in

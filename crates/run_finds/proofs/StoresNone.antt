@@ -3,7 +3,7 @@ use Rattle.std.specs.Prelude.{◌≡◌, ◌≢◌, ℕ, ◌<◌, true, List, Op
 use Rattle.std.proofs.Common.{refl, ap, sym, ◌∙◌, inl, inr}
 use Rattle.run_blocks.specs.Given.TablesDeclared.node.Node.{Node}
 use Rattle.run_executor.specs.Given.RawDeclared.machines.answer.Missing.TheVariants as missing
-use Rattle.run_executor.specs.Given.RawDeclared.machines.asking.Reply.TheVariants as reply
+use Rattle.run_executor.specs.Given.RawDeclared.machines.asking.MachineReply.TheVariants as reply
 use Rattle.run_executor.specs.Given.RunsDeclared.call.OneKey.{OneKey}
 use Rattle.run_executor.specs.Given.RunsDeclared.call.OneKey.TheVariants.{Get, GetKeyValue, ContainsKey, Insert, TryInsert, TryInsertWith, GetOrInsert, GetOrInsertWith, Update, UpdateOrInsert, UpdateOrInsertWith, Compute, Remove, RemoveEntry, RemoveIf}
 use Rattle.run_executor.specs.Given.RunsDeclared.call.Reply.{Reply}

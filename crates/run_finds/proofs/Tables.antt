@@ -8,7 +8,7 @@ use Rattle.std.proofs.lemmas.List.Folds.{list_any-append}
 use Rattle.run_executor.specs.Given.RunsDeclared.shapes.TableShape.{TableShape}
 use Rattle.run_executor.specs.Given.RunsDeclared.effect.Effect.{Effect}
 use Rattle.run_executor.specs.Given.RunsDeclared.effect.Effect.TheVariants as effect
-use Rattle.run_executor.specs.Given.RunsDeclared.effect.Table.{Table}
+use Rattle.run_executor.specs.Given.RunsDeclared.effect.TableId.{TableId}
 use Rattle.run_executor.specs.Given.RunsDeclared.effect.Thing.TheVariants.{APair, ATable}
 use Rattle.run_executor.specs.Given.SchedulesEffects.{at_stage, promoted, passed, call_by, with_effect}
 use Rattle.run_executor.specs.Given.SchedulesEntry.{ByCall}
@@ -67,7 +67,7 @@ each_same P all (u ∷ tables) = (all u, each_same P all tables)
 
 -- tables at another stage
 
-module _ (t : Table) (to : Stage) where
+module _ (t : TableId) (to : Stage) where
   pub same_length : (k : ℕ) (tables : List TableThere) → length (filter (λ u. u.table.map == k) (map (at_stage t to) tables)) ≡ length (filter (λ u. u.table.map == k) tables)
   same_length k [] = refl
   same_length k (u ∷ tables) = by (same_table u.table t) (same_length k tables)
@@ -91,7 +91,7 @@ module _ (t : Table) (to : Stage) where
           one false e = e
 
   -- a table is there still, if those at that stage are, or it is another one
-  still_there : (b : Table) → (is_there to ≡ true) ⊎ (same_table b t ≡ false) → (tables : List TableThere) → list_any (λ u. same_table u.table b && is_there u.stage) tables ≡ true
+  still_there : (b : TableId) → (is_there to ≡ true) ⊎ (same_table b t ≡ false) → (tables : List TableThere) → list_any (λ u. same_table u.table b && is_there u.stage) tables ≡ true
       → list_any (λ u. same_table u.table b && is_there u.stage) (map (at_stage t to) tables) ≡ true
   still_there b or tables there = any_under (at_stage t to) (λ u. same_table u.table b && is_there u.stage) (λ u. same_table u.table b && is_there u.stage) stays tables there
     where
@@ -106,15 +106,15 @@ module _ (t : Table) (to : Stage) where
 
           by : (q : Bool) → same_table u.table t ≡ q → (is_there to ≡ true) ⊎ (same_table b t ≡ false) → Goal (same_table u.table t)
           by true is (inl there) = subst Goal (sym is) (and_from (same_table u.table b) (is_there to) two.0 there)
-          by true is (inr apart) = absurd (let it : same_table b t ≡ true = subst (λ (x : Table). same_table x t ≡ true) (table_is u.table b two.0) is in cc (it, apart))
+          by true is (inr apart) = absurd (let it : same_table b t ≡ true = subst (λ (x : TableId). same_table x t ≡ true) (table_is u.table b two.0) is in cc (it, apart))
           by false is other = subst Goal (sym is) e
 
 module _ {K V : Type 0} where
-  abbrev owes : Table → UnderWay K V → Bool
+  abbrev owes : TableId → UnderWay K V → Bool
   owes t c = is_in same_thing (ATable t) c.owes
 
   -- a call owes what it owed, but for what it retires
-  keeps : (m : Moment K V) (f : Effect) (t : Table) (c : UnderWay K V) → (f ≡ effect.Retired (ATable t) → ⊥) → owes t c ≡ true → owes t (call_by m f c) ≡ true
+  keeps : (m : Moment K V) (f : Effect) (t : TableId) (c : UnderWay K V) → (f ≡ effect.Retired (ATable t) → ⊥) → owes t c ≡ true → owes t (call_by m f c) ≡ true
   keeps m (effect.Promoted u) t c apart e = still_in t c.owes (passed u.map (first_of u.map m) u.turn) e
   keeps m (effect.Replaced n) t c apart e = still_in t c.owes (APair n ∷ []) e
   keeps m (effect.Removed n) t c apart e = still_in t c.owes (APair n ∷ []) e
@@ -133,13 +133,13 @@ module _ {K V : Type 0} where
   keeps m (effect.Ended n) t c apart e = e
   keeps m (effect.Taken u) t c apart e = e
 
-  owed_on : (caller : Option (List ℕ)) (acted : Option ℕ) (m : Moment K V) (f : Effect) (t : Table) → (f ≡ effect.Retired (ATable t) → ⊥) → is_owed_table m t ≡ true → is_owed_table (with_effect caller acted f m) t ≡ true
+  owed_on : (caller : Option (List ℕ)) (acted : Option ℕ) (m : Moment K V) (f : Effect) (t : TableId) → (f ≡ effect.Retired (ATable t) → ⊥) → is_owed_table m t ≡ true → is_owed_table (with_effect caller acted f m) t ≡ true
   owed_on None acted m f t apart e = e
   owed_on (Some own) acted m f t apart e = owed_still own (call_by m f) (changed_same m f) t (λ c. keeps m f t c apart) m.calls e
 
   -- where tables, and what waits behind them, are the same, with a root before each that had one
   others_order : (m v : Moment K V) → TablesAreInOrder m → v.tables ≡ m.tables → v.deferred ≡ m.deferred → AllByRecursion (λ u. is_kept m u ≡ true → is_kept v u ≡ true) m.tables
-      → ((t : Table) → is_owed_table m t ≡ true → is_owed_table v t ≡ true) → TablesAreInOrder v
+      → ((t : TableId) → is_owed_table m t ≡ true → is_owed_table v t ≡ true) → TablesAreInOrder v
   others_order m v h tables deferred kept owed = record {
     passed = subst (λ (ts : List TableThere). AllByRecursion (PassedIsOwed v) ts) (sym tables)
         (all_so (λ u. PassedIsOwed m u × (is_kept m u ≡ true → is_kept v u ≡ true)) (PassedIsOwed v)
@@ -157,7 +157,7 @@ module _ {K V : Type 0} where
 
   module _ (caller : Option (List ℕ)) (acted : Option ℕ) (m : Moment K V) (h : TablesAreInOrder m) where
     quiet : (f : Effect) → (with_effect caller acted f m).maps ≡ m.maps → (with_effect caller acted f m).tables ≡ m.tables → (with_effect caller acted f m).deferred ≡ m.deferred
-        → ((t : Table) → f ≡ effect.Retired (ATable t) → ⊥) → TablesAreInOrder (with_effect caller acted f m)
+        → ((t : TableId) → f ≡ effect.Retired (ATable t) → ⊥) → TablesAreInOrder (with_effect caller acted f m)
     quiet f maps tables deferred apart =
         others_order m v h tables deferred (each_same (λ u. is_kept m u ≡ true → is_kept v u ≡ true) still m.tables) (λ t. owed_on caller acted m f t (apart t))
       where
@@ -167,7 +167,7 @@ module _ {K V : Type 0} where
         still : (u : TableThere) → is_kept m u ≡ true → is_kept v u ≡ true
         still u e = ap (λ (fs : List MapThere). not (is_linked u.stage) || list_any (λ (g : MapThere). (g.number == u.table.map) && nat_le g.first u.table.turn) fs) maps ∙ e
 
-    defers : (n : ℕ) (t : Table) → FindsTables caller m (effect.Deferred n t) → TablesAreInOrder (with_effect caller acted (effect.Deferred n t) m)
+    defers : (n : ℕ) (t : TableId) → FindsTables caller m (effect.Deferred n t) → TablesAreInOrder (with_effect caller acted (effect.Deferred n t) m)
     defers n t finds = record {
       passed = all_so (PassedIsOwed m) (λ u. is_kept m u ≡ false → is_owed_table (with_effect caller acted (effect.Deferred n t) m) u.table ≡ true)
           (λ u was e. owed_on caller acted m (effect.Deferred n t) u.table (λ is. cc is) (was e)) m.tables h.passed;
@@ -175,7 +175,7 @@ module _ {K V : Type 0} where
     }
 
     -- a table comes to another stage, at which none is linked
-    module _ (f : Effect) (t : Table) (to : Stage) (not_linked : is_linked to ≡ false) (apart : (u : Table) → same_table u t ≡ false → f ≡ effect.Retired (ATable u) → ⊥) where
+    module _ (f : Effect) (t : TableId) (to : Stage) (not_linked : is_linked to ≡ false) (apart : (u : TableId) → same_table u t ≡ false → f ≡ effect.Retired (ATable u) → ⊥) where
       staged_passed : AllByRecursion (λ u. is_kept m u ≡ false → is_owed_table (with_effect caller acted f m) u.table ≡ true) (map (at_stage t to) m.tables)
       staged_passed = all_under (at_stage t to) (PassedIsOwed m) Q each m.tables h.passed
         where
@@ -201,16 +201,16 @@ module _ {K V : Type 0} where
       )
 
     -- a table is retired
-    retires : (t : Table) → TablesAreInOrder (with_effect caller acted (effect.Retired (ATable t)) m)
+    retires : (t : TableId) → TablesAreInOrder (with_effect caller acted (effect.Retired (ATable t)) m)
     retires t = record {
-      passed = staged_passed (effect.Retired (ATable t)) t IsRetired refl (λ u other is. absurd (let one : t ≡ u = cc is in let same : same_table u t ≡ true = subst (λ (x : Table). same_table x t ≡ true) one (same_itself t) in cc (same, other)));
-      behind = staged_behind (effect.Retired (ATable t)) t IsRetired refl (λ u other is. absurd (let one : t ≡ u = cc is in let same : same_table u t ≡ true = subst (λ (x : Table). same_table x t ≡ true) one (same_itself t) in cc (same, other))) m.deferred
+      passed = staged_passed (effect.Retired (ATable t)) t IsRetired refl (λ u other is. absurd (let one : t ≡ u = cc is in let same : same_table u t ≡ true = subst (λ (x : TableId). same_table x t ≡ true) one (same_itself t) in cc (same, other)));
+      behind = staged_behind (effect.Retired (ATable t)) t IsRetired refl (λ u other is. absurd (let one : t ≡ u = cc is in let same : same_table u t ≡ true = subst (λ (x : TableId). same_table x t ≡ true) one (same_itself t) in cc (same, other))) m.deferred
           (all_so (WaitsBehindOne m)
           (λ d. WaitsBehindOne m d × ((is_there IsRetired ≡ true) ⊎ (same_table d.behind t ≡ false))) (λ d its. (its, inl refl)) m.deferred h.behind);
     }
 
     -- or goes, and what is behind it with it
-    others_behind : (t : Table) (to : Stage) → AllByRecursion (λ d. WaitsBehindOne m d × ((is_there to ≡ true) ⊎ (same_table d.behind t ≡ false))) (filter (λ d. not (same_table d.behind t)) m.deferred)
+    others_behind : (t : TableId) (to : Stage) → AllByRecursion (λ d. WaitsBehindOne m d × ((is_there to ≡ true) ⊎ (same_table d.behind t ≡ false))) (filter (λ d. not (same_table d.behind t)) m.deferred)
     others_behind t to = all_so (λ d. WaitsBehindOne m d × (not (same_table d.behind t) ≡ true))
         (λ d. WaitsBehindOne m d × ((is_there to ≡ true) ⊎ (same_table d.behind t ≡ false)))
         (λ d its. (its.0, inr (is_not (same_table d.behind t) its.1))) (filter (λ d. not (same_table d.behind t)) m.deferred)
@@ -220,20 +220,20 @@ module _ {K V : Type 0} where
         is_not true e = absurd (cc e)
         is_not false e = refl
 
-    reclaims : (t : Table) → TablesAreInOrder (with_effect caller acted (effect.Reclaimed (ATable t)) m)
+    reclaims : (t : TableId) → TablesAreInOrder (with_effect caller acted (effect.Reclaimed (ATable t)) m)
     reclaims t = record {
       passed = staged_passed (effect.Reclaimed (ATable t)) t IsReclaimed refl (λ u other is. cc is);
       behind = staged_behind (effect.Reclaimed (ATable t)) t IsReclaimed refl (λ u other is. cc is) (filter (λ d. not (same_table d.behind t)) m.deferred) (others_behind t IsReclaimed);
     }
 
-    ends : (t : Table) → TablesAreInOrder (with_effect caller acted (effect.Taken t) m)
+    ends : (t : TableId) → TablesAreInOrder (with_effect caller acted (effect.Taken t) m)
     ends t = record {
       passed = staged_passed (effect.Taken t) t IsTaken refl (λ u other is. cc is);
       behind = staged_behind (effect.Taken t) t IsTaken refl (λ u other is. cc is) (filter (λ d. not (same_table d.behind t)) m.deferred) (others_behind t IsTaken);
     }
 
     -- a table is linked behind the root
-    links : (t : Table) (shape : TableShape) → FindsTables caller m (effect.Linked t shape) → TablesAreInOrder (with_effect caller acted (effect.Linked t shape) m)
+    links : (t : TableId) (shape : TableShape) → FindsTables caller m (effect.Linked t shape) → TablesAreInOrder (with_effect caller acted (effect.Linked t shape) m)
     links t shape rooted = record {
       passed = all_append (λ u. is_kept m u ≡ false → is_owed_table v u.table ≡ true) m.tables new
           (all_so (PassedIsOwed m) (λ u. is_kept m u ≡ false → is_owed_table v u.table ≡ true) (λ u was e. owed_on caller acted m f u.table (λ is. cc is) (was e)) m.tables h.passed)
@@ -251,18 +251,18 @@ module _ {K V : Type 0} where
         new : TableThere
         new = record { table = t; shape = shape; stage = IsLinked }
 
-        there : (b : Table) → is_stage is_there b m ≡ true → is_stage is_there b v ≡ true
+        there : (b : TableId) → is_stage is_there b m ≡ true → is_stage is_there b v ≡ true
         there b e = list_any-append (λ u. same_table u.table b && is_there u.stage) m.tables (new ∷ [])
             ∙ or_left (is_stage is_there b m) (list_any (λ u. same_table u.table b && is_there u.stage) (new ∷ [])) e
 
-        more : (b : Table) → b.turn + 1 < length (tables_of b.map m) → b.turn + 1 < length (tables_of b.map v)
+        more : (b : TableId) → b.turn + 1 < length (tables_of b.map m) → b.turn + 1 < length (tables_of b.map v)
         more b l =
             let parts : length (tables_of b.map v) ≡ length (tables_of b.map m ++ filter (λ u. u.table.map == b.map) (new ∷ [])) = ap length (filter-append (λ (u : TableThere). u.table.map == b.map) m.tables (new ∷ [])) in
             let sum = length-append (tables_of b.map m) (filter (λ u. u.table.map == b.map) (new ∷ [])) in
             omega (arith, l, parts, sum)
 
   -- a root comes to a later table: those that it passes its call owes
-  module _ (acted : Option ℕ) (m : Moment K V) (h : TablesAreInOrder m) (own : List ℕ) (t : Table) (c : UnderWay K V) (c_is : call_of own m ≡ Some c) (found : AllByRecursion (λ (g : MapThere). map_at g.number m ≡ Some g) m.maps) where
+  module _ (acted : Option ℕ) (m : Moment K V) (h : TablesAreInOrder m) (own : List ℕ) (t : TableId) (c : UnderWay K V) (c_is : call_of own m ≡ Some c) (found : AllByRecursion (λ (g : MapThere). map_at g.number m ≡ Some g) m.maps) where
     abbrev f : Effect
     f = effect.Promoted t
 
@@ -320,7 +320,7 @@ module _ {K V : Type 0} where
       behind = h.behind;
     }
 
-  comes_to : (caller : Option (List ℕ)) (acted : Option ℕ) (m : Moment K V) → TablesAreInOrder m → (t : Table) → FindsTables caller m (effect.Promoted t) → TablesAreInOrder (with_effect caller acted (effect.Promoted t) m)
+  comes_to : (caller : Option (List ℕ)) (acted : Option ℕ) (m : Moment K V) → TablesAreInOrder m → (t : TableId) → FindsTables caller m (effect.Promoted t) → TablesAreInOrder (with_effect caller acted (effect.Promoted t) m)
   comes_to None acted m h t finds = absurd finds.0
   comes_to (Some own) acted m h t finds = by (call_of own m) refl finds.0
     where

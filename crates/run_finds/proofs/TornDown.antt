@@ -4,7 +4,7 @@ use Rattle.std.specs.List.{list_any}
 use Rattle.std.proofs.Common.{refl, ap, ◌∙◌, arith}
 use Rattle.std.proofs.lemmas.Bool.{eq-eqb}
 use Rattle.run_executor.specs.Given.RunsLifeCycle.{times}
-use Rattle.run_executor.specs.Given.RunsDeclared.effect.Table.{Table}
+use Rattle.run_executor.specs.Given.RunsDeclared.effect.TableId.{TableId}
 use Rattle.run_executor.specs.Given.SchedulesMoment.{Place, Unborn, InMap, Out, Handed, Behind, Left, GivenBack, MapThere, Deferral, Moment}
 use Rattle.run_executor.specs.Given.SchedulesReclaims.{has_next, has_last_reason, IsEmptied}
 use Rattle.run_executor.specs.Given.SchedulesThings.{same_table}
@@ -18,7 +18,7 @@ somewhere_at_first K V = record { born = λ n l u. absurd (omega (arith, l, u));
 
 module _ {K V : Type 0} (m : Moment K V) (placed : PairsArePlaced m) (somewhere : StoredAreSomewhere m) (none : m.maps ≡ []) (emptied : IsEmptied m) where
   -- no table has a next one in a map that is there
-  none_next : (t : Table) → has_next m t ≡ false
+  none_next : (t : TableId) → has_next m t ≡ false
   none_next t = ap (λ (l : List MapThere). list_any (λ (f : MapThere). f.number == t.map) l && list_any (λ u. same_table u.table t) (chain_of t.map m) && nat_lt (t.turn + 1) (length (tables_of t.map m))) none
 
   none_behind : (n : ℕ) (deferred : List Deferral) → list_any (λ d. (d.pair == n) && has_next m d.behind) deferred ≡ false

@@ -9,7 +9,7 @@ use Rattle.run_executor.specs.Given.RunsDeclared.shapes.TableShape.{TableShape}
 use Rattle.run_executor.specs.Given.RunsDeclared.effect.Effect.{Effect}
 use Rattle.run_executor.specs.Given.RunsDeclared.effect.Effect.TheVariants as effect
 use Rattle.run_executor.specs.Given.RunsDeclared.effect.Spot.{Spot}
-use Rattle.run_executor.specs.Given.RunsDeclared.effect.Table.{Table}
+use Rattle.run_executor.specs.Given.RunsDeclared.effect.TableId.{TableId}
 use Rattle.run_executor.specs.Given.RunsDeclared.effect.Thing.TheVariants.{APair, ATable}
 use Rattle.run_executor.specs.Given.SchedulesEffects.{in_map, calls_by, born_by, later, spot_by, is_chunked, at_stage, promoted, call_by, with_effect}
 use Rattle.run_executor.specs.Given.SchedulesEntry.{ByCall, acting}
@@ -81,7 +81,7 @@ module _ {K V : Type 0} (terms : Terms) (everything : Bool) (moments : List (Mom
           })
 
   -- tables that are there have turns that their maps have had
-  below_many : (test : Stage → Bool) (t : Table) → is_stage test t m ≡ true → t.turn < many t.map
+  below_many : (test : Stage → Bool) (t : TableId) → is_stage test t m ≡ true → t.turn < many t.map
   below_many test t any =
       let it = one_of_them (λ u. same_table u.table t && test u.stage) (λ u. u.table.turn < many u.table.map) m.tables any h.within.tables in
       let parts = same_parts it.0.table t (and_parts (same_table it.0.table t) (test it.0.stage) it.1).0 in
@@ -89,17 +89,17 @@ module _ {K V : Type 0} (terms : Terms) (everything : Bool) (moments : List (Mom
 
   pub place_below : (test : Stage → Bool) (of : ℕ) (s : Spot) → is_place test of s m ≡ true → s.turn < many of
   place_below test of s any =
-      let t : Table = record { map = of; turn = s.turn } in
+      let t : TableId = record { map = of; turn = s.turn } in
       let it = one_of_them (λ u. same_table u.table t && test u.stage && nat_lt s.place u.shape.len) (λ u. u.table.turn < many u.table.map) m.tables any h.within.tables in
       let parts = same_parts it.0.table t (and_parts (same_table it.0.table t) (test it.0.stage) (and_parts (same_table it.0.table t && test it.0.stage) (nat_lt s.place it.0.shape.len) it.1).0).0 in
       subst (λ (q : ℕ). s.turn < many q) parts.0 (subst (λ (q : ℕ). q < many it.0.table.map) parts.1 it.2)
 
   -- a table that is linked is the next one of a map that is there
-  record LinksNext (t : Table) : Type 0 where
+  record LinksNext (t : TableId) : Type 0 where
     pub there : list_any (λ (f : MapThere). f.number == t.map) m.maps ≡ true
     pub turn : t.turn ≡ many t.map
 
-  links_next : (t : Table) (shape : TableShape) → Whose (effect.Linked t shape) → LinksNext t
+  links_next : (t : TableId) (shape : TableShape) → Whose (effect.Linked t shape) → LinksNext t
   links_next t shape (ACalls b) =
       let map_is = b.its.table t b.finds.0 in
       record { there = subst (λ (q : ℕ). list_any (λ (f : MapThere). f.number == q) m.maps ≡ true) (sym map_is) b.its.there; turn = b.finds.1 ∙ ap many (sym map_is) }
@@ -165,10 +165,10 @@ module _ {K V : Type 0} (terms : Terms) (everything : Bool) (moments : List (Mom
   grown_tables f = all_so (λ u. u.table.turn < many u.table.map) (λ u. u.table.turn < many_of u.table.map (then_at f))
       (λ u l. (let more = many_grow caller acted m f u.table.map in omega (arith, l, more))) m.tables h.within.tables
 
-  staged_tables : (f : Effect) (t : Table) (to : Stage) → AllByRecursion (λ u. u.table.turn < many_of u.table.map (then_at f)) (map (at_stage t to) m.tables)
+  staged_tables : (f : Effect) (t : TableId) (to : Stage) → AllByRecursion (λ u. u.table.turn < many_of u.table.map (then_at f)) (map (at_stage t to) m.tables)
   staged_tables f t to =
       all_under (at_stage t to) (λ u. u.table.turn < many_of u.table.map (then_at f)) (λ u. u.table.turn < many_of u.table.map (then_at f))
-      (λ u l. subst (λ (x : Table). x.turn < many_of x.map (then_at f)) (sym (stage_same t to u)) l) m.tables (grown_tables f)
+      (λ u l. subst (λ (x : TableId). x.turn < many_of x.map (then_at f)) (sym (stage_same t to u)) l) m.tables (grown_tables f)
 
   tables_within : (f : Effect) → Whose f → AllByRecursion (λ u. u.table.turn < many_of u.table.map (then_at f)) (then_at f).tables
   tables_within (effect.Linked t shape) b =
@@ -243,10 +243,10 @@ module _ {K V : Type 0} (terms : Terms) (everything : Bool) (moments : List (Mom
 
       by : (o : Option ℕ) → (born_by o (effect.Stored n s) m.born k).map ≡ (m.born k).map
       by None = refl
-      by (Some of) = ap (λ (t : Table). t.map) (put_elsewhere n (record { map = of; turn = s.turn }) m.born k apart)
-  stored_born k l (effect.Retired x) placed = ap (λ (g : ℕ → Table). (g k).map) (born_same acted (effect.Retired x) m.born refl)
-  stored_born k l (effect.Reclaimed x) placed = ap (λ (g : ℕ → Table). (g k).map) (born_same acted (effect.Reclaimed x) m.born refl)
-  stored_born k l f placed = ap (λ (g : ℕ → Table). (g k).map) (born_same acted f m.born refl)
+      by (Some of) = ap (λ (t : TableId). t.map) (put_elsewhere n (record { map = of; turn = s.turn }) m.born k apart)
+  stored_born k l (effect.Retired x) placed = ap (λ (g : ℕ → TableId). (g k).map) (born_same acted (effect.Retired x) m.born refl)
+  stored_born k l (effect.Reclaimed x) placed = ap (λ (g : ℕ → TableId). (g k).map) (born_same acted (effect.Reclaimed x) m.born refl)
+  stored_born k l f placed = ap (λ (g : ℕ → TableId). (g k).map) (born_same acted f m.born refl)
 
   -- one that stays where it lies
   lies_within : (f : Effect) (k : ℕ) → 1 ≤ k → k ≤ length m.stored → FindsPlaced caller m f → (then_at f).spot k ≡ m.spot k → ((then_at f).spot k).turn < many_of ((then_at f).born k).map (then_at f)
@@ -266,7 +266,7 @@ module _ {K V : Type 0} (terms : Terms) (everything : Bool) (moments : List (Mom
   spots_within (effect.Stored n s) (ACalls b) placed k l u = elim (cases_eq k n) as (λ _. (put n s m.spot k).turn < many_of ((then_at (effect.Stored n s)).born k).map m) [
     | inl e ↦ subst (λ (o : Option ℕ). (put n s m.spot k).turn < many (born_by o (effect.Stored n s) m.born k).map) (sym b.acts)
         (subst (λ (x : Spot). x.turn < many (put n (record { map = b.c.map; turn = s.turn }) m.born k).map) (sym (put_here n s m.spot k e))
-        (subst (λ (t : Table). s.turn < many t.map) (sym (put_here n (record { map = b.c.map; turn = s.turn }) m.born k e)) (place_below is_linked b.c.map s b.finds.2)))
+        (subst (λ (t : TableId). s.turn < many t.map) (sym (put_here n (record { map = b.c.map; turn = s.turn }) m.born k e)) (place_below is_linked b.c.map s b.finds.2)))
     | inr ne ↦ lies_within (effect.Stored n s) k l (let next = placed.0 in let last = placed.1 in omega (arith, u, ne, next, last)) placed (put_elsewhere n s m.spot k ne)
   ]
   spots_within (effect.Copied n s) (NoCalls none finds) placed k l u = absurd (none_copies everything m n s acted finds)
@@ -335,7 +335,7 @@ module _ {K V : Type 0} (terms : Terms) (everything : Bool) (moments : List (Mom
 
   maps_stay : (f : Effect) → is_storing f ≡ false → (k of : ℕ) → (then_at f).place k ≡ InMap of → (1 ≤ k) × (((then_at f).born k).map ≡ of)
   maps_stay f stores k of is =
-      let was = h.within.maps k of ((leads acted m f stores).in_map k of is) in (was.0, ap (λ (g : ℕ → Table). (g k).map) (born_same acted f m.born stores) ∙ was.1)
+      let was = h.within.maps k of ((leads acted m f stores).in_map k of is) in (was.0, ap (λ (g : ℕ → TableId). (g k).map) (born_same acted f m.born stores) ∙ was.1)
 
   maps_within : (f : Effect) → Whose f → FindsPlaced caller m f → (k of : ℕ) → (then_at f).place k ≡ InMap of → (1 ≤ k) × (((then_at f).born k).map ≡ of)
   maps_within (effect.Stored n s) (NoCalls none finds) placed k of is = absurd (none_links everything m n s acted finds)
@@ -346,12 +346,12 @@ module _ {K V : Type 0} (terms : Terms) (everything : Bool) (moments : List (Mom
       its at = elim (cases_eq k n) as (λ _. (1 ≤ k) × ((put n (record { map = b.c.map; turn = s.turn }) m.born k).map ≡ of)) [
         | inl e ↦ (
           (let next = placed.0 in omega (arith, e, next)),
-          ap (λ (t : Table). t.map) (put_here n (record { map = b.c.map; turn = s.turn }) m.born k e)
+          ap (λ (t : TableId). t.map) (put_here n (record { map = b.c.map; turn = s.turn }) m.born k e)
               ∙ (let two : InMap b.c.map ≡ InMap of = sym (put_here n (InMap b.c.map) m.place k e) ∙ at in let one : b.c.map ≡ of = cc two in one),
         )
         | inr ne ↦
             (let was = h.within.maps k of (sym (put_elsewhere n (InMap b.c.map) m.place k ne) ∙ at) in
-            (was.0, ap (λ (t : Table). t.map) (put_elsewhere n (record { map = b.c.map; turn = s.turn }) m.born k ne) ∙ was.1))
+            (was.0, ap (λ (t : TableId). t.map) (put_elsewhere n (record { map = b.c.map; turn = s.turn }) m.born k ne) ∙ was.1))
       ]
   maps_within (effect.Retired x) b placed k of is = maps_stay (effect.Retired x) refl k of is
   maps_within (effect.Reclaimed x) b placed k of is = maps_stay (effect.Reclaimed x) refl k of is
@@ -369,8 +369,8 @@ module _ {K V : Type 0} (terms : Terms) (everything : Bool) (moments : List (Mom
     owes = λ n k e. (let it = its.owes n k e in (it.0, more_stored f n it.1, stored_born n it.1 f placed ∙ it.2));
   }
 
-  table_within : (f : Effect) (c : UnderWay K V) → HasItsMap m c → CallFinds terms moments m f c → (t : Table) → (call_by m f c).table ≡ Some t → t.map ≡ c.map
-  table_within (effect.TableMade u) c its finds t is = let one : u ≡ t = cc is in ap (λ (x : Table). x.map) (sym one) ∙ finds.2
+  table_within : (f : Effect) (c : UnderWay K V) → HasItsMap m c → CallFinds terms moments m f c → (t : TableId) → (call_by m f c).table ≡ Some t → t.map ≡ c.map
+  table_within (effect.TableMade u) c its finds t is = let one : u ≡ t = cc is in ap (λ (x : TableId). x.map) (sym one) ∙ finds.2
   table_within (effect.TableGivenUp u) c its finds t is = absurd (cc is)
   table_within (effect.Linked u shape) c its finds t is = absurd (cc is)
   table_within (effect.Stored n s) c its finds t is = its.table t (sym (due_keeps c.call c c.replacing n).1 ∙ is)

@@ -1,6 +1,6 @@
 -- Each map that stands was made for the capacity that the moment says: so it stays, whatever is done, once a map has come so.
 use Rattle.std.specs.Prelude.{◌≡◌, ℕ, Bool, List, max, Option, Some, None}
-use Rattle.run_executor.specs.Given.SeizeDeclared.progress.Progress.{Progress as Making}
+use Rattle.run_executor.specs.Given.SeizeDeclared.advance.Advance.{Advance as Making}
 use Rattle.run_blocks.specs.Given.TablesDeclared.node.Node.{Node}
 use Rattle.run_blocks.specs.Given.TablesDeclared.setting.Setting.{Setting}
 use Rattle.run_executor.specs.Given.RawDeclared.machines.progress.Progress.{Progress}

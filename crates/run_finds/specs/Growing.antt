@@ -5,7 +5,7 @@ use Rattle.run_blocks.specs.Given.TablesDeclared.node.Node.{Node}
 use Rattle.run_executor.specs.Given.RawMachine.{machine_asked, machine_replied}
 use Rattle.run_executor.specs.Given.RawDeclared.machines.answer.Missing.TheVariants as missing
 use Rattle.run_executor.specs.Given.RawDeclared.machines.asking.Asking.TheVariants as asking
-use Rattle.run_executor.specs.Given.RawDeclared.machines.asking.Reply.{Reply as MachineReply}
+use Rattle.run_executor.specs.Given.RawDeclared.machines.asking.MachineReply.{MachineReply}
 use Rattle.run_executor.specs.Given.RawDeclared.machines.asking.Told.TheVariants as tells
 use Rattle.run_executor.specs.Given.RawDeclared.machines.call.Calling.{Calling}
 use Rattle.run_executor.specs.Given.RawDeclared.machines.call.Calling.TheVariants as at

@@ -1,12 +1,12 @@
 -- What a reservation knows once it has counted: with so many further pairs a table can be had. So it may ask for the blocks of a table that follows another one.
 use Rattle.std.specs.Prelude.{◌≡◌, ℕ, suc, ◌+◌, Bool, false, List, ◌∷◌, ◌++◌, Some}
 use Rattle.run_executor.specs.Given.SeizeWordsMem.{Mem}
-use Rattle.run_executor.specs.Given.SeizeDeclared.progress.Progress.{Progress}
-use Rattle.run_executor.specs.Given.SeizeDeclared.progress.Progress.TheVariants as progress
+use Rattle.run_executor.specs.Given.SeizeDeclared.advance.Advance.{Advance}
+use Rattle.run_executor.specs.Given.SeizeDeclared.advance.Advance.TheVariants as progress
 use Rattle.run_blocks.specs.Given.TablesDeclared.node.Node.{Node}
 use Rattle.run_blocks.specs.Given.TablesDeclared.table.Table.{Table}
 use Rattle.run_blocks.specs.Given.ResizeSum.{sum_plan}
-use Rattle.run_blocks.specs.Given.ResizeDeclared.outcome.Outcome.{Outcome}
+use Rattle.run_blocks.specs.Given.ResizeDeclared.yielding.Yielding.{Yielding}
 use Rattle.run_blocks.specs.Given.ResizeDeclared.sum.Sum.{Sum}
 use Rattle.run_executor.specs.Given.ReservesReserve.{reserve_plan}
 use Rattle.run_executor.specs.Given.ReservesDeclared.reserve.Reserve.{Reserve}
@@ -48,7 +48,7 @@ module _ {K V : Type 0} (of : ℕ) (moments : List (Moment K V)) where
   -- a counting that is done by a step has counted so many
   abbrev pub SumTells : Reserve → Mem (Node K V) → Mem (Node K V) → Changed → Type 0
   SumTells p m m2 told =
-      (table : Table) (sum sum2 : Sum) (count : ℕ) → p.stands ≡ reserving.Sums table sum → StepsTold K V (Sum × Progress ℕ) m changed.Nothing (sum_plan sum) m2 told (sum2, progress.Done count)
+      (table : Table) (sum sum2 : Sum) (count : ℕ) → p.stands ≡ reserving.Sums table sum → StepsTold K V (Sum × Advance ℕ) m changed.Nothing (sum_plan sum) m2 told (sum2, progress.Done count)
       → Counts (suc p.setting.mask) of moments count
 
 -- it makes the first table of its map
@@ -60,8 +60,8 @@ module _ (K V : Type 0) where
   -- The promises: so it is after each step of a reservation, if one that is done with counting has counted so many.
   abbrev pub RoomsKeepCount : Type 0
   RoomsKeepCount =
-      (hash : K → ℕ) (of : ℕ) (moments : List (Moment K V)) (p : Reserve) (m m2 : Mem (Node K V)) (told : Changed) (end : Reserve × Outcome (Node K V) Unit)
-      → ReservesAt of moments p p.stands → SumTells of moments p m m2 told → StepsTold K V (Reserve × Outcome (Node K V) Unit) m changed.Nothing (reserve_plan hash p) m2 told end
+      (hash : K → ℕ) (of : ℕ) (moments : List (Moment K V)) (p : Reserve) (m m2 : Mem (Node K V)) (told : Changed) (end : Reserve × Yielding (Node K V) Unit)
+      → ReservesAt of moments p p.stands → SumTells of moments p m m2 told → StepsTold K V (Reserve × Yielding (Node K V) Unit) m changed.Nothing (reserve_plan hash p) m2 told end
       → ReservesAt of moments end.0 end.0.stands
 
 module _ (K V : Type 0) (same : K → K → Bool) (hash : ℕ → K → ℕ) where

@@ -3,7 +3,7 @@ use Rattle.std.specs.Prelude.{◌≡◌, ℕ, ◌+◌, ◌<◌, ◌≤◌, ◌==
 use Rattle.std.specs.List.{AllByRecursion, list_any}
 use Rattle.run_executor.specs.Given.RunsDeclared.effect.Effect.{Effect}
 use Rattle.run_executor.specs.Given.RunsDeclared.effect.Effect.TheVariants.{Linked, Promoted, Deferred}
-use Rattle.run_executor.specs.Given.RunsDeclared.effect.Table.{Table}
+use Rattle.run_executor.specs.Given.RunsDeclared.effect.TableId.{TableId}
 use Rattle.run_executor.specs.Given.RunsDeclared.effect.Thing.TheVariants.{ATable}
 use Rattle.run_executor.specs.Given.SchedulesEffects.{with_effects, AtEachEffect}
 use Rattle.run_executor.specs.Given.SchedulesEntry.{acting, ByCall}
@@ -16,7 +16,7 @@ use Rattle.run_executor.specs.Given.MomentsNumbers.{AreFound}
 
 module _ {K V : Type 0} where
   -- a call under way owes the table
-  abbrev pub is_owed_table : Moment K V → Table → Bool
+  abbrev pub is_owed_table : Moment K V → TableId → Bool
   is_owed_table m t = list_any (λ c. is_in same_thing (ATable t) c.owes) m.calls
 
   -- a table that is linked, though the root of its map has left it, is owed by a call under way
@@ -32,7 +32,7 @@ module _ {K V : Type 0} where
     pub behind : AllByRecursion (WaitsBehindOne m) m.deferred
 
   -- a map is there whose root is this table, or an earlier one
-  abbrev pub is_rooted : Moment K V → Table → Bool
+  abbrev pub is_rooted : Moment K V → TableId → Bool
   is_rooted m t = list_any (λ (f : MapThere). (f.number == t.map) && nat_le f.first t.turn) m.maps
 
   -- What an effect finds of that: a table that is linked is from the root of a map on; a root is passed by a call, and comes to no earlier table; and what is put
@@ -54,4 +54,4 @@ EffectsKeepTables K V =
 abbrev pub OthersKeepTables : Type 0 → Type 0 → Type 0
 OthersKeepTables K V =
     (m v : Moment K V) → TablesAreInOrder m → v.tables ≡ m.tables → v.deferred ≡ m.deferred → AllByRecursion (λ u. is_kept m u ≡ true → is_kept v u ≡ true) m.tables
-    → ((t : Table) → is_owed_table m t ≡ true → is_owed_table v t ≡ true) → TablesAreInOrder v
+    → ((t : TableId) → is_owed_table m t ≡ true → is_owed_table v t ≡ true) → TablesAreInOrder v

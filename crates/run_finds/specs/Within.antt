@@ -3,7 +3,7 @@
 use Rattle.std.specs.Prelude.{◌≡◌, ℕ, ◌+◌, ◌<◌, ◌≤◌, ◌==◌, Bool, true, List, [], length, Option, Some}
 use Rattle.std.specs.List.{AllByRecursion, list_any}
 use Rattle.run_executor.specs.Given.RunsDeclared.effect.Effect.{Effect}
-use Rattle.run_executor.specs.Given.RunsDeclared.effect.Table.{Table}
+use Rattle.run_executor.specs.Given.RunsDeclared.effect.TableId.{TableId}
 use Rattle.run_executor.specs.Given.RunsDeclared.event.Event.{Event}
 use Rattle.run_executor.specs.Given.RunsDeclared.event.Event.TheVariants.{Stop}
 use Rattle.run_executor.specs.Given.RunsDeclared.outcome.Outcome.{Outcome}
@@ -35,7 +35,7 @@ module _ {K V : Type 0} where
   -- The map of a call is there, a table that it has made is for that map, and the pairs that it owes were stored there.
   pub record HasItsMap (m : Moment K V) (c : UnderWay K V) : Type 0 where
     pub there : list_any (λ (f : MapThere). f.number == c.map) m.maps ≡ true
-    pub table : (t : Table) → c.table ≡ Some t → t.map ≡ c.map
+    pub table : (t : TableId) → c.table ≡ Some t → t.map ≡ c.map
     pub owes : (n k : ℕ) → owed_in n c.owes ≡ 1 + k → (1 ≤ n) × (n ≤ length m.stored) × ((m.born n).map ≡ c.map)
 
   abbrev pub LiesNext : Moment K V → Deferral → Type 0

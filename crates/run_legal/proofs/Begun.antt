@@ -3,7 +3,7 @@ use Rattle.std.specs.Prelude.{◌≡◌, ℕ, ◌+◌, Bool, true, false, not, �
 use Rattle.std.proofs.Common.{refl, ap, sym, subst, ◌∙◌, inl, inr}
 use Rattle.run_grows.specs.Given.RawCallAsks.{told_at}
 use Rattle.run_grows.specs.Given.RawMachine.{machine_replied}
-use Rattle.run_grows.specs.Given.RawDeclared.machines.asking.Reply.{Reply as MachineReply}
+use Rattle.run_grows.specs.Given.RawDeclared.machines.asking.MachineReply.{MachineReply}
 use Rattle.run_grows.specs.Given.RawDeclared.machines.call.Calling.{Calling}
 use Rattle.run_grows.specs.Given.RunsSame.{is_same}
 use Rattle.run_grows.specs.Given.RunsDeclared.event.Event.TheVariants as event

@@ -9,7 +9,7 @@ use Rattle.run_grows.specs.Given.EffectsDeclared.changed.Changed.{Changed}
 use Rattle.run_grows.specs.Given.RunsDeclared.effect.Effect.{Effect}
 use Rattle.run_grows.specs.Given.RunsDeclared.effect.Effect.TheVariants as effect
 use Rattle.run_grows.specs.Given.RunsDeclared.effect.Spot.{Spot}
-use Rattle.run_grows.specs.Given.RunsDeclared.effect.Table.{Table}
+use Rattle.run_grows.specs.Given.RunsDeclared.effect.TableId.{TableId}
 use Rattle.run_grows.specs.Given.RunsDeclared.effect.Thing.{Thing}
 use Rattle.run_grows.specs.Given.RunsDeclared.effect.Thing.TheVariants.{APair, ATable}
 use Rattle.run_grows.specs.Given.RunsDeclared.event.Event.{Event}
@@ -98,7 +98,7 @@ module _ {K V : Type 0} (caller : Option (List ℕ)) (acted : Option ℕ) (thing
   pairs_then _ true e number o n l u = absurd (cc e)
 
   -- tables at another stage are the same tables
-  staged : (t : Table) (stage : Stage) (xs : List Thing) (tables : List TableThere) → AllByRecursion (Among xs) tables → AllByRecursion (Among xs) (map (at_stage t stage) tables)
+  staged : (t : TableId) (stage : Stage) (xs : List Thing) (tables : List TableThere) → AllByRecursion (Among xs) tables → AllByRecursion (Among xs) (map (at_stage t stage) tables)
   staged t stage xs [] all = tt
   staged t stage xs (u ∷ tables) all = (by (same_table u.table t), staged t stage xs tables all.1)
     where

@@ -8,7 +8,7 @@ use Rattle.run_grows.specs.Given.SeizeWorld.{Rests}
 use Rattle.run_grows.specs.Given.RunsDeclared.effect.Effect.{Effect}
 use Rattle.run_grows.specs.Given.RunsDeclared.effect.Effect.TheVariants.{Asked, Reclaimed}
 use Rattle.run_grows.specs.Given.RunsDeclared.effect.Growth.TheVariants.{ABlock, ABucket}
-use Rattle.run_grows.specs.Given.RunsDeclared.effect.Table.{Table}
+use Rattle.run_grows.specs.Given.RunsDeclared.effect.TableId.{TableId}
 use Rattle.run_grows.specs.Given.RunsDeclared.effect.Thing.TheVariants.{APair, ATable}
 use Rattle.run_grows.specs.Given.SchedulesAfter.{moment}
 use Rattle.run_grows.specs.Given.SchedulesEffects.{with_effect, AtEachEffect}
@@ -61,10 +61,10 @@ module _ {K V : Type 0} (terms : Terms) where
 
 -- of each table of a list this is so, if it is of each that is retired among all
 module _ {K V : Type 0} (m : Moment K V) (Q : TableThere → Type 0) (has : (u : TableThere) → is_stage is_retired u.table m ≡ true → Q u) where
-  abbrev Test : Table → TableThere → Bool
+  abbrev Test : TableId → TableThere → Bool
   Test t y = same_table y.table t && is_retired y.stage
 
-  each_table : (xs : List TableThere) → ((t : Table) → list_any (Test t) xs ≡ true → is_stage is_retired t m ≡ true) → AllByRecursion (λ u. is_retired u.stage ≡ true → Q u) xs
+  each_table : (xs : List TableThere) → ((t : TableId) → list_any (Test t) xs ≡ true → is_stage is_retired t m ≡ true) → AllByRecursion (λ u. is_retired u.stage ≡ true → Q u) xs
   each_table [] among = tt
   each_table (u ∷ xs) among = (
     λ is. has u (among u.table (ap (λ (z : Bool). z || list_any (Test u.table) xs) (its (same_table u.table u.table) (is_retired u.stage) (same_itself u.table) is))),

@@ -3,7 +3,7 @@ use Rattle.std.specs.Prelude.{◌≡◌, ℕ, true, List, [], ◌∷◌, ◌++�
 use Rattle.std.specs.List.{list_all}
 use Rattle.std.proofs.Common.{refl, ap, ◌∙◌}
 use Rattle.std.proofs.lemmas.List.{append-nil}
-use Rattle.run_grows.specs.Given.RunsDeclared.holders.Guard.{Guard}
+use Rattle.run_grows.specs.Given.RunsDeclared.holders.NamedGuard.{NamedGuard}
 use Rattle.run_grows.specs.Given.RunsDeclared.effect.Effect.{Effect}
 use Rattle.run_grows.specs.Given.RunsDeclared.effect.Effect.TheVariants.{Asked}
 use Rattle.run_grows.specs.Given.RunsDeclared.effect.Growth.{Growth}
@@ -12,7 +12,7 @@ use Rattle.run_grows.specs.Given.SchedulesEffects.{with_effect, with_effects}
 use Rattle.run_grows.specs.Given.SchedulesInTurn.{is_growth}
 use Rattle.run_grows.specs.Given.SchedulesMoment.{Moment, Sheltered}
 
-none_sheltered : (gs : List Guard) → ◌≡◌ {A = List Sheltered} (flat_map (λ (g : Guard). map (λ (x : Thing). record { guard = g.name; thing = x }) []) gs) []
+none_sheltered : (gs : List NamedGuard) → ◌≡◌ {A = List Sheltered} (flat_map (λ (g : NamedGuard). map (λ (x : Thing). record { guard = g.name; thing = x }) []) gs) []
 none_sheltered [] = refl
 none_sheltered (g ∷ gs) = none_sheltered gs
 
@@ -23,8 +23,8 @@ module _ {K V : Type 0} where
       ap (λ (ys : List Sheltered). record m { sheltered = ys ++ m.sheltered; given_back = m.given_back ++ [] }) none ∙ ap (λ (ns : List ℕ). record m { given_back = ns }) (append-nil m.given_back)
 
   growth_leaves : (of : Option ℕ) (growth : Growth) (m : Moment K V) → with_effect None of (Asked growth) m ≡ m
-  growth_leaves None growth m = as_it_was m (flat_map (λ (g : Guard). map (λ (x : Thing). record { guard = g.name; thing = x }) []) m.there.guards) (none_sheltered m.there.guards)
-  growth_leaves (Some map_of) growth m = as_it_was m (flat_map (λ (g : Guard). map (λ (x : Thing). record { guard = g.name; thing = x }) []) m.there.guards) (none_sheltered m.there.guards)
+  growth_leaves None growth m = as_it_was m (flat_map (λ (g : NamedGuard). map (λ (x : Thing). record { guard = g.name; thing = x }) []) m.there.guards) (none_sheltered m.there.guards)
+  growth_leaves (Some map_of) growth m = as_it_was m (flat_map (λ (g : NamedGuard). map (λ (x : Thing). record { guard = g.name; thing = x }) []) m.there.guards) (none_sheltered m.there.guards)
 
   pub growths_leave : (of : Option ℕ) (fs : List Effect) (m : Moment K V) → list_all is_growth fs ≡ true → with_effects None of fs m ≡ m
   growths_leave of [] m all = refl

@@ -8,7 +8,7 @@ use Rattle.run_grows.specs.Given.SeizeWordsDeclared.fault.Fault.TheVariants.{Bus
 use Rattle.run_grows.specs.Given.RunsSame.{is_same}
 use Rattle.run_grows.specs.Given.RunsDeclared.effect.Effect.{Effect}
 use Rattle.run_grows.specs.Given.RunsDeclared.effect.Effect.TheVariants as effect
-use Rattle.run_grows.specs.Given.RunsDeclared.effect.Table.{Table}
+use Rattle.run_grows.specs.Given.RunsDeclared.effect.TableId.{TableId}
 use Rattle.run_grows.specs.Given.RunsDeclared.effect.Thing.{Thing}
 use Rattle.run_grows.specs.Given.RunsDeclared.effect.Thing.TheVariants.{APair, ATable}
 use Rattle.run_grows.specs.Given.RunsDeclared.event.Event.{Event}
@@ -111,7 +111,7 @@ owes_some {K} {V} n own (d ∷ calls) c is owes = by (is_same d.caller own) is (
         let some = owed_some n d.owes (ap (λ (x : UnderWay K V). is_in same_thing (APair n) x.owes) one ∙ owes) in omega (arith, some)
     by false e k = (let some = k e owes in omega (arith, some))
 
-put_some : (n : ℕ) (t : Table) (ds : List Deferral) → is_among n (behind t ds) ≡ true → 0 < put_in n ds
+put_some : (n : ℕ) (t : TableId) (ds : List Deferral) → is_among n (behind t ds) ≡ true → 0 < put_in n ds
 put_some n t [] e = absurd (cc e)
 put_some n t (d ∷ ds) e = by (same_table d.behind t) e (put_some n t ds)
   where
@@ -165,7 +165,7 @@ module _ {K V : Type 0} (terms : Terms) (caller : Option (List ℕ)) (acted : Op
   handed_not k who _ is finds = refl
 
   -- what waits behind a table is not left over
-  behind_stays : (t : Table) (n : ℕ) → is_left_over (all_at Handed (behind t m.deferred) m.place n) ≡ is_left_over (m.place n)
+  behind_stays : (t : TableId) (n : ℕ) → is_left_over (all_at Handed (behind t m.deferred) m.place n) ≡ is_left_over (m.place n)
   behind_stays t n = by (is_among n (behind t m.deferred)) refl
     where
       by : (q : Bool) → is_among n (behind t m.deferred) ≡ q → is_left_over (if q then Handed else m.place n) ≡ is_left_over (m.place n)
@@ -210,7 +210,7 @@ among_two n (x ∷ xs) ys = ap (λ (q : Bool). (n == x) || q) (among_two n xs ys
     by false = refl
 
 -- behind a table that is taken nothing waits any more
-none_behind : (t : Table) (ds : List Deferral) → behind t (filter (λ (d : Deferral). not (same_table d.behind t)) ds) ≡ []
+none_behind : (t : TableId) (ds : List Deferral) → behind t (filter (λ (d : Deferral). not (same_table d.behind t)) ds) ≡ []
 none_behind t [] = refl
 none_behind t (d ∷ ds) = by (same_table d.behind t) refl (none_behind t ds)
   where
@@ -222,20 +222,20 @@ none_behind t (d ∷ ds) = by (same_table d.behind t) refl (none_behind t ds)
     by false is k =
         ap (λ (z : Bool). map (λ (x : Deferral). x.pair) (if z then d ∷ filter (λ (x : Deferral). same_table x.behind t) F else filter (λ (x : Deferral). same_table x.behind t) F)) is ∙ k
 
-module _ (n : ℕ) (t : Table) (ds : List Deferral) (none : is_among n (behind t ds) ≡ false) where
+module _ (n : ℕ) (t : TableId) (ds : List Deferral) (none : is_among n (behind t ds) ≡ false) where
   abbrev kept : List Deferral
   kept = filter (λ (d : Deferral). not (same_table d.behind t)) ds
 
-  one_kept : (u : Table) → is_among n (behind u kept) ≡ is_among n (behind u ds)
+  one_kept : (u : TableId) → is_among n (behind u kept) ≡ is_among n (behind u ds)
   one_kept u = by (same_table u t) refl
     where
       by : (q : Bool) → same_table u t ≡ q → is_among n (behind u kept) ≡ is_among n (behind u ds)
       by true e =
           let one : u ≡ t = table_is u t e in
-          ap (λ (x : Table). is_among n (behind x kept)) one ∙ ap (is_among n) (none_behind t ds) ∙ sym (ap (λ (x : Table). is_among n (behind x ds)) one ∙ none)
-      by false e = ap (is_among n) (behind_apart u t (λ one. (let yes : same_table u t ≡ true = ap (λ (x : Table). same_table x t) one ∙ same_itself t in cc (yes, e))) ds)
+          ap (λ (x : TableId). is_among n (behind x kept)) one ∙ ap (is_among n) (none_behind t ds) ∙ sym (ap (λ (x : TableId). is_among n (behind x ds)) one ∙ none)
+      by false e = ap (is_among n) (behind_apart u t (λ one. (let yes : same_table u t ≡ true = ap (λ (x : TableId). same_table x t) one ∙ same_itself t in cc (yes, e))) ds)
 
-  all_kept : (ts : List Table) → is_among n (flat_map (λ u. behind u kept) ts) ≡ is_among n (flat_map (λ u. behind u ds) ts)
+  all_kept : (ts : List TableId) → is_among n (flat_map (λ u. behind u kept) ts) ≡ is_among n (flat_map (λ u. behind u ds) ts)
   all_kept [] = refl
   all_kept (u ∷ ts) =
       among_two n (behind u kept) (flat_map (λ x. behind x kept) ts)
@@ -349,7 +349,7 @@ module _ {K V : Type 0} (terms : Terms) (log : List (Entry K V)) where
   nothing_does its came steps effects none n =
       ap (λ (fs : List Effect). is_left_over ((worked (entry its came steps fs) m).place n)) none ∙ ap (λ (p : ℕ → Place). is_left_over (p n)) (begun_place its came)
 
-  takes_no_table : (its : Event K V) → ((t : Table) → may_do its m (effect.Taken t) ≡ true → ⊥) → (fs : List Effect) → list_all (may_do its m) fs ≡ true → TakesNoTable fs
+  takes_no_table : (its : Event K V) → ((t : TableId) → may_do its m (effect.Taken t) ≡ true → ⊥) → (fs : List Effect) → list_all (may_do its m) fs ≡ true → TakesNoTable fs
   takes_no_table its none [] may = tt
   takes_no_table its none (f ∷ fs) may = (let both = and_parts (may_do its m f) (list_all (may_do its m) fs) may in (by f both.0, takes_no_table its none fs both.1))
     where
@@ -359,7 +359,7 @@ module _ {K V : Type 0} (terms : Terms) (log : List (Entry K V)) where
 
   -- of an event by which no map ends, and nothing that is left over is reclaimed
   others_tell : (its : Event K V) (came : Outcome V) (steps : ℕ) (effects : List Effect) → Goes_so its came steps effects → AllIsInOrder m → gives_all its ≡ false
-      → ((t : Table) → may_do its m (effect.Taken t) ≡ true → ⊥) → remains_on its came effects m ≡ m.remains → LeftIsTold m → Tells its came steps effects
+      → ((t : TableId) → may_do its m (effect.Taken t) ≡ true → ⊥) → remains_on its came effects m ≡ m.remains → LeftIsTold m → Tells its came steps effects
   others_tell its came steps effects goes order gives none same before = as_before its came steps effects same stays before
     where
       e : Entry K V

@@ -3,8 +3,8 @@ use Rattle.std.specs.Prelude.{◌≡◌, ◌<◌, ℕ, Bool, List, ◌++◌, Opt
 use Rattle.std.proofs.Common.{refl, ap, sym, subst, ◌∙◌, inl, inr}
 use Rattle.std.proofs.lemmas.Bool.{cases_eq}
 use Rattle.run_grows.specs.Given.SeizeWorld.{World}
-use Rattle.run_grows.specs.Given.SeizeDeclared.progress.Progress.{Progress as Making}
-use Rattle.run_grows.specs.Given.SeizeDeclared.progress.Progress.TheVariants as progress
+use Rattle.run_grows.specs.Given.SeizeDeclared.advance.Advance.{Advance as Making}
+use Rattle.run_grows.specs.Given.SeizeDeclared.advance.Advance.TheVariants as progress
 use Rattle.run_grows.specs.Given.SeizeDeclared.rows.settle.Settled.{Settled}
 use Rattle.run_grows.specs.Given.SeizeDeclared.rows.settle.Settled.TheVariants as settled
 use Rattle.run_grows.specs.Given.TablesDeclared.node.Node.{Node}

@@ -35,7 +35,7 @@ use Rattle.run_grows.specs.Given.RawDeclared.machines.machine.Machine.{Machine}
 use Rattle.run_grows.specs.Given.RawDeclared.machines.machine.Machine.TheVariants as kinds
 use Rattle.run_grows.specs.Given.RawDeclared.machines.progress.Progress.{Progress}
 use Rattle.run_grows.specs.Given.RunsDeclared.shapes.TableShape.{TableShape}
-use Rattle.run_grows.specs.Given.RunsDeclared.effect.Table.{Table}
+use Rattle.run_grows.specs.Given.RunsDeclared.effect.TableId.{TableId}
 use Rattle.run_grows.specs.Given.RunsDeclared.effect.Thing.{Thing}
 use Rattle.run_grows.specs.Given.RunsDeclared.effect.Thing.TheVariants.{APair, ATable}
 use Rattle.run_grows.specs.Given.SchedulesLists.{is_in}
@@ -157,10 +157,10 @@ module _ {K V : Type 0} (same : K → K → Bool) (hash : ℕ → K → ℕ) (na
       by zero has = absurd (let none = has.2 in cc none)
       by (suc k) has = (let l = pair_within m.stored (suc k) (has.0, has.1) has.2 in come.pairs (suc k) (omega arith) l)
 
-  table_came : (b len : ℕ) (t : Table) → known.roles b ≡ role.Table t len → is_in same_thing (ATable t) things ≡ true
+  table_came : (b len : ℕ) (t : TableId) → known.roles b ≡ role.Table t len → is_in same_thing (ATable t) things ≡ true
   table_came b len t is =
       let one = one_of_them (λ (x : TableThere). same_table x.table t && is_there x.stage) (λ (x : TableThere). is_in same_thing (ATable x.table) things ≡ true) m.tables (whole.blocks.tables b len t is) come.tables in
-      subst (λ (y : Table). is_in same_thing (ATable y) things ≡ true) (table_is one.0.table t (and_parts (same_table one.0.table t) (is_there one.0.stage) one.1).0) one.2
+      subst (λ (y : TableId). is_in same_thing (ATable y) things ≡ true) (table_is one.0.table t (and_parts (same_table one.0.table t) (is_there one.0.stage) one.1).0) one.2
 
   -- what its row is to hand over after the step
   in_hand : (b : ℕ) → IsToHand b (to2.row i) → IsOfMap known b
@@ -259,7 +259,7 @@ module _ {K V : Type 0} (same : K → K → Bool) (hash : ℕ → K → ℕ) (na
           cc both
 
       -- what has a list is a table's
-      its_table : (r : Role) → known.roles d ≡ r → HasRole w m.stored d r → (x : Table) × (len : ℕ) × (known.roles d ≡ role.Table x len)
+      its_table : (r : Role) → known.roles d ≡ r → HasRole w m.stored d r → (x : TableId) × (len : ℕ) × (known.roles d ≡ role.Table x len)
       its_table (role.Table x len) is has = (x, len, is)
       its_table role.Free is has = absurd (let list = begins.4 in let both : None ≡ Some list.0 = sym has ∙ list.1 in cc both)
       its_table (role.OwnPair j) is has = absurd (no_list has.0 has.1 has.2)

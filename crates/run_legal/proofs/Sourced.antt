@@ -2,14 +2,14 @@
 use Rattle.std.specs.Prelude.{◌≡◌, ◌≢◌, ℕ, ◌<◌, ◌≤◌, Bool, List, [], ◌∷◌, length, map, Option, Some, None}
 use Rattle.std.proofs.Common.{refl, ap, sym, subst, ◌∙◌, inl, inr, arith}
 use Rattle.std.proofs.lemmas.Bool.{cases_eq}
-use Rattle.run_grows.specs.Given.SeizeDeclared.progress.Progress.{Progress as Making}
-use Rattle.run_grows.specs.Given.SeizeDeclared.progress.Progress.TheVariants as progress
+use Rattle.run_grows.specs.Given.SeizeDeclared.advance.Advance.{Advance as Making}
+use Rattle.run_grows.specs.Given.SeizeDeclared.advance.Advance.TheVariants as progress
 use Rattle.run_grows.specs.Given.TablesChunks.{is_incremental}
 use Rattle.run_grows.specs.Given.TablesDeclared.setting.Setting.{Setting}
 use Rattle.run_grows.specs.Given.RunsDeclared.effect.Effect.{Effect}
 use Rattle.run_grows.specs.Given.RunsDeclared.effect.Effect.TheVariants.{Reclaimed}
 use Rattle.run_grows.specs.Given.RunsDeclared.effect.Spot.{Spot}
-use Rattle.run_grows.specs.Given.RunsDeclared.effect.Table.{Table}
+use Rattle.run_grows.specs.Given.RunsDeclared.effect.TableId.{TableId}
 use Rattle.run_grows.specs.Given.RunsDeclared.effect.Thing.{Thing}
 use Rattle.run_grows.specs.Given.SchedulesEffects.{with_effects}
 use Rattle.run_grows.specs.Given.SchedulesMoment.{MapThere, Moment}
@@ -56,7 +56,7 @@ module _ (K V : Type 0) (same : K → K → Bool) (name : ℕ → List ℕ) (m v
   pub sources_where : ((n : ℕ) (st2 : Standing K) → t.maps n ≡ Some st2 → StandsAsBefore m v s n st2) → Goal
   sources_where stands = sources_stay K V same name m v known known2 s t sources shown2 (record {
     stored = ap length stored;
-    born = λ k l. ap (λ (f : ℕ → Table). f k) born;
+    born = λ k l. ap (λ (f : ℕ → TableId). f k) born;
     spot = λ k l. ap (λ (f : ℕ → Spot). f k) spot;
   }) stands
 
@@ -96,7 +96,7 @@ none_born K V m order numbers there number k some most is =
 
 pub still_none_born : {K V : Type 0} (m v : Moment K V) (of : ℕ) → v.stored ≡ m.stored → v.born ≡ m.born → NoneBorn of m → NoneBorn of v
 still_none_born {K} {V} m v of stored born none k some most is =
-    none k some (subst (λ (xs : List (K × V)). k ≤ length xs) stored most) (ap (λ (f : ℕ → Table). (f k).map) (sym born) ∙ is)
+    none k some (subst (λ (xs : List (K × V)). k ≤ length xs) stored most) (ap (λ (f : ℕ → TableId). (f k).map) (sym born) ∙ is)
 
 -- a map that was just made has no pair
 new_stored : {K : Type 0} (hash : K → ℕ) (setting : Setting) (places : ℕ) (c : Chart K) → IsNewChart hash setting places c → c.stored ≡ 0

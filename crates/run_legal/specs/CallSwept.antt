@@ -4,7 +4,7 @@ use Rattle.run_grows.specs.Given.TablesDeclared.node.Node.{Node}
 use Rattle.run_grows.specs.Given.RawDeclared.machines.progress.Answer.TheVariants as answers
 use Rattle.run_grows.specs.Given.RawDeclared.machines.progress.Progress.{Progress}
 use Rattle.run_grows.specs.Given.RawDeclared.machines.progress.Progress.TheVariants as progress
-use Rattle.run_grows.specs.Given.RunsDeclared.call.Answer.TheVariants.{Absent, Completed, Counted}
+use Rattle.run_grows.specs.Given.RunsDeclared.call.Response.TheVariants.{Absent, Completed, Counted}
 use Rattle.run_grows.specs.Given.RunsDeclared.call.Call.{Call}
 use Rattle.run_grows.specs.Given.RunsDeclared.call.Call.TheVariants.{Len, On, Walk}
 use Rattle.run_grows.specs.Given.RunsDeclared.effect.Effect.{Effect}

@@ -2,7 +2,7 @@
 use Rattle.std.specs.Prelude.{◌≡◌, ◌<◌, ◌^◌, ◌+◌, ℕ, Bool, true, false, zero, suc, List, [], ◌∷◌, ◌++◌, Some, None}
 use Rattle.std.specs.List.{list_all}
 use Rattle.run_grows.specs.Given.SeizeWorld.{World, Request, Begin, Step, Happens, Rests, with_at}
-use Rattle.run_grows.specs.Given.SeizeDeclared.progress.Progress.{Progress as Making}
+use Rattle.run_grows.specs.Given.SeizeDeclared.advance.Advance.{Advance as Making}
 use Rattle.run_grows.specs.Given.SeizeDeclared.rows.settle.Settled.{Settled}
 use Rattle.run_grows.specs.Given.TablesDeclared.node.Node.{Node}
 use Rattle.run_grows.specs.Given.TablesDeclared.setting.Setting.{Setting}

@@ -29,7 +29,7 @@ use Rattle.run_grows.specs.Given.MomentsEndings.{IsOfIts}
 use Rattle.run_grows.specs.Given.FinishesEndings.{Finishing}
 use Rattle.run_grows.specs.Given.TablesDeclared.setting.Setting.{Setting}
 use Rattle.run_grows.specs.Given.SeizeDeclared.rows.settle.Settled.{Settled}
-use Rattle.run_grows.specs.Given.SeizeDeclared.progress.Progress.{Progress as Making}
+use Rattle.run_grows.specs.Given.SeizeDeclared.advance.Advance.{Advance as Making}
 
 module _ (K V : Type 0) (same : K → K → Bool) (hash : ℕ → K → ℕ) where
   -- where a row begins on a slot,

@@ -10,7 +10,7 @@ ghost use Rattle.run_executor.specs.Executing.Replying.{AsksThere, RepliesThere,
 ghost use Rattle.run_shows.specs.Scenes.Scene.{HasCall, Scene};
 
 use crate::logged::Logged;
-use papaya_raw::machines::{Machine, Progress, Reply};
+use papaya_raw::machines::{Machine, MachineReply, Progress};
 use papaya_raw::{Hashes, Node};
 use run_effects::acting::Acting;
 use run_schedules::effect::Effect;
@@ -37,7 +37,7 @@ impl<K: Drop, V: Drop, S> Logged<K, V, S> {
     }
 
     /// Tells the call of a caller what it asks for. It hands back a reply that the call does not take.
-    pub fn reply(&mut self, caller: u64, reply: Reply<V>) -> Result<(), Reply<V>>
+    pub fn reply(&mut self, caller: u64, reply: MachineReply<V>) -> Result<(), MachineReply<V>>
         requires { (same : K → K → Bool) × (hash : K → ℕ) × (s : Scene K V) × IsThere same hash self.old.executor s × HasCall s caller }
         ensures leads { (same : K → K → Bool) (hash : K → ℕ) (name : ℕ → List ℕ) (m : Moment K V) (s : Scene K V) → IsShown same hash name m self.old s
             → CallTakes same hash name m s caller reply result self.old self.new }

@@ -21,25 +21,25 @@ use papaya_raw::Setting;
 use run_effects::acting::Acting;
 use run_schedules::effect::Effect;
 use run_shows::callers::SLOTS;
-use seize::Progress;
+use seize::Advance;
 use std::alloc::AllocError;
 
 /// Whether a making is over.
-fn is_over<A>(told: &Progress<A>) -> bool
+fn is_over<A>(told: &Advance<A>) -> bool
     ensures { result ≡ is_over told.now }
 {
     match told {
-        Progress::Goes | Progress::Waits => false,
-        Progress::Done(_) | Progress::Refused(_) => true,
+        Advance::Goes | Advance::Waits => false,
+        Advance::Done(_) | Advance::Refused(_) => true,
     }
 }
 
 /// Gives back the number of a making that was refused, so that the next map gets it, if no later one was given out.
-fn give_back(maps: &mut Vec<Option<Setting>>, map: u64, told: &Progress<Setting>)
+fn give_back(maps: &mut Vec<Option<Setting>>, map: u64, told: &Advance<Setting>)
     requires { map < length maps.old.items }
     ensures { maps.new.items ≡ given_back map told.now maps.old.items }
 {
-    if let Progress::Refused(_) = told {
+    if let Advance::Refused(_) = told {
         if maps.len() as u64 == map + 1 {
             maps.truncate(map as usize);
         }
@@ -78,7 +78,7 @@ impl<K: Drop, V: Drop, S> Logged<K, V, S> {
         caller: u64,
         map: u64,
         effects: &mut Vec<Effect>,
-    ) -> Result<Progress<Setting>, AllocError>
+    ) -> Result<Advance<Setting>, AllocError>
         requires { (same : K → K → Bool) × (hash : K → ℕ) × (s : Scene K V) × IsThere same hash self.old.executor s × IsMaking s caller }
         ensures leads { IfOk result (λ told. MakingSteps caller map told effects.old.items effects.new.items self.old self.new) }
         ensures steps { IfOk result (λ told. (same : K → K → Bool) (hash : K → ℕ) (s : Scene K V) → IsThere same hash self.old.executor s
@@ -100,7 +100,7 @@ impl<K: Drop, V: Drop, S> Logged<K, V, S> {
         caller: u64,
         map: u64,
         effects: &mut Vec<Effect>,
-    ) -> Result<Progress<Setting>, AllocError>
+    ) -> Result<Advance<Setting>, AllocError>
         requires { (same : K → K → Bool) × (hash : K → ℕ) × (s : Scene K V) × IsThere same hash self.old.executor s × (b : Beginning K) × (s.makers caller ≡ Some b) × (b.map ≡ map) }
         ensures over { IfOk result (λ told. is_over told ≡ true) }
         ensures numbers { IfOk result (λ told. length self.new.executor.maps.items ≡ numbers_then map told (length self.old.executor.maps.items)) }

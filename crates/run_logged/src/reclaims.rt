@@ -18,7 +18,7 @@ use crate::ends::is_done;
 use crate::logged::Logged;
 use papaya_raw::Node;
 use run_effects::acting::Acting;
-use run_executor::reclaiming::Reclaiming;
+use run_executor::reclaiming::FullReclamation;
 use run_schedules::effect::Effect;
 use run_schedules::ended::Pair;
 use seize::rows::Settled;
@@ -26,19 +26,19 @@ use std::alloc::AllocError;
 
 impl<K: Drop, V: Drop, S> Logged<K, V, S> {
     /// Begins to reclaim all: with the slots, if one was ever taken, else with the roots.
-    pub fn begin_reclaiming(&self, taken: bool) -> Reclaiming
+    pub fn begin_reclaiming(&self, taken: bool) -> FullReclamation
         ensures shown { (same : K → K → Bool) (hash : K → ℕ) (name : ℕ → List ℕ) (m : Moment K V) (s : Scene K V) (i : ℕ) (lists : ℕ → List ℕ) → IsShown same hash name m self.now s
             → NobodyHas self.now.executor → MayReclaim self.now.executor s lists taken → ReclaimingIsShown same hash name m self.now s i lists result.all }
         ensures is { result.all ≡ (if taken then reclaiming_all self.now.executor.batch_size self.now.executor.roots else clearing self.now.executor.roots) }
     {
-        Reclaiming::new(&self.executor, taken)
+        FullReclamation::new(&self.executor, taken)
     }
 
     /// Takes the next step: at most one operation. What it does is added to the list, and once it is over no slot is in use. It is refused where the list, or the
     /// notes, find no more room: then the executor has gone on, and it is written down no more.
     pub fn step_reclaiming(
         &mut self,
-        reclaiming: &mut Reclaiming,
+        reclaiming: &mut FullReclamation,
         effects: &mut Vec<Effect>,
     ) -> Result<Settled<Node<K, V>>, AllocError>
         requires { (same : K → K → Bool) × (hash : K → ℕ) × (s : Scene K V) × (i : ℕ) × (lists : ℕ → List ℕ) × IsReclaimingThere same hash self.old.executor s i lists reclaiming.old.all }

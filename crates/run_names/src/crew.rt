@@ -3,8 +3,8 @@ ghost use Rattle.std.specs.Prelude.{◌≡◌, ◌≤◌, ◌<◌, ◌+◌, [], 
 ghost use Rattle.std.specs.List.{AllByRecursion, range_with_len};
 ghost use Rattle.run_names.specs.Crews.Crew.{Disagree, HoldsJust, events_of};
 
-use crate::driver::Driver;
-use crate::finished::{Finished, agree};
+use crate::driver::DriverOf;
+use crate::finished::{FinishedOf, agree};
 use crate::kept::Applied;
 use crate::locked::Locked;
 use crate::name::CrewName;
@@ -17,11 +17,11 @@ use std::sync::{Mutex, Wait};
 
 /// The run to which drivers apply events, under one lock, and the schedule that it keeps of them.
 #[derive(Drop)]
-pub struct Crew<E, R: Runner<E>, N: CrewName> {
+pub struct CrewOf<E, R: Runner<E>, N: CrewName> {
     locked: Mutex<Locked<E, R, N>>,
 }
 
-impl<E: Drop, R: Runner<E>, N: CrewName> Crew<E, R, N>
+impl<E: Drop, R: Runner<E>, N: CrewName> CrewOf<E, R, N>
 where
     R::Outcome: Drop,
     R::Hasher: Drop,
@@ -35,7 +35,7 @@ where
         choices: Vec<u64>,
         n: u64,
         blank: Blank,
-    ) -> Result<(Self, Vec<Driver<E, R::Outcome, N>>), Fault>
+    ) -> Result<(Self, Vec<DriverOf<E, R::Outcome, N>>), Fault>
         requires copies { R.can_copy }
         requires some { 1 ≤ n }
         requires setup { setup ≡ N.setup }
@@ -48,11 +48,11 @@ where
         let (events, mut all) = blank.open::<N>();
         let mut drivers = Vec::new(alloc);
         for number in 0..n {
-            drivers.push(Driver::of(number, Vec::new(alloc), all.split_off(1, 0)))?;
+            drivers.push(DriverOf::of(number, Vec::new(alloc), all.split_off(1, 0)))?;
         }
         let locked = Locked::new(alloc, setup, hasher, choices, events)?;
         Ok((
-            Crew {
+            CrewOf {
                 locked: Mutex::new(locked),
             },
             drivers,
@@ -60,7 +60,7 @@ where
     }
 }
 
-impl<E: Drop, R: Runner<E>, N: CrewName> Crew<E, R, N>
+impl<E: Drop, R: Runner<E>, N: CrewName> CrewOf<E, R, N>
 where
     R::Outcome: Drop,
 {
@@ -85,7 +85,7 @@ where
     }
 }
 
-impl<E: Drop, R: Runner<E>, N: CrewName> Crew<E, R, N>
+impl<E: Drop, R: Runner<E>, N: CrewName> CrewOf<E, R, N>
 where
     R::Outcome: Drop,
     R::Run: Drop,
@@ -96,8 +96,8 @@ where
     pub fn finish(
         self,
         alloc: Global,
-        drivers: Vec<Driver<E, R::Outcome, N>>,
-    ) -> Result<Option<Finished<E, R::Run>>, Fault>
+        drivers: Vec<DriverOf<E, R::Outcome, N>>,
+    ) -> Result<Option<FinishedOf<E, R::Run>>, Fault>
         requires some { 1 ≤ vec_len drivers }
         requires all { vec_len drivers ≡ N.parts }
         ensures run { IfOk result (λ it. IfSome it (λ f. R.is_run N.setup (events_of f.schedule.items) f.run)) }
@@ -121,7 +121,7 @@ where
 }
 
 /// The drivers' shares as one.
-fn gathered<E: Drop, O: Drop, N: CrewName>(drivers: Vec<Driver<E, O, N>>) -> Share<N>
+fn gathered<E: Drop, O: Drop, N: CrewName>(drivers: Vec<DriverOf<E, O, N>>) -> Share<N>
     requires some { 1 ≤ vec_len drivers }
     ensures parts { result.parts ≡ vec_len drivers }
     ensures amount { result.amount ≡ sum_by (λ d. length d.list) drivers.items }

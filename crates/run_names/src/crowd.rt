@@ -3,10 +3,10 @@ ghost use Rattle.std.specs.Prelude.{◌≡◌, ◌==◌, ◌∷◌, ◌++◌, �
 ghost use Rattle.std.specs.Prelude.{find, filter, not, length, option_copied};
 ghost use Rattle.run_names.specs.Presence.Crowd.{IsAbsent, IsHome, LeadsHome, count_of, count_some, is_living, is_named, weigh};
 ghost use Rattle.run_schedules.specs.Runs.Present.{forgotten_if, guard_of, guards_on, living_on, living_slot};
-ghost use Rattle.run_schedules.specs.declared.holders.Guard.{Guard};
+ghost use Rattle.run_schedules.specs.declared.holders.NamedGuard.{NamedGuard};
 
-use crate::places::Places;
-use run_schedules::holders::{Guard, Registration};
+use crate::name_index::NameIndex;
+use run_schedules::holders::{NamedGuard, NamedRegistration};
 use run_schedules::token::Token;
 use std::alloc::{AllocError, Global};
 use std::marker::Model;
@@ -23,7 +23,7 @@ pub trait HasName: Drop {
 #[derive(Drop)]
 pub struct Crowd<T: HasName> {
     comers: Vec<Option<T>>,
-    places: Places,
+    places: NameIndex,
     count: usize,
 }
 
@@ -49,7 +49,7 @@ pub fn is_at<T: HasName>(comers: &[Option<T>], place: usize, name: &Token) -> bo
 }
 
 /// Where the item of this name stands.
-pub fn place_in<T: HasName>(comers: &[Option<T>], places: &Places, name: &Token) -> Option<usize>
+pub fn place_in<T: HasName>(comers: &[Option<T>], places: &NameIndex, name: &Token) -> Option<usize>
     requires { LeadsHome T.name_of comers.now places.now }
     ensures { MatchOption result (IsAbsent T.name_of name.now comers.now) (IsHome T.name_of name.now comers.now) }
 {
@@ -66,7 +66,7 @@ impl<T: HasName> Crowd<T> {
     {
         Crowd {
             comers: Vec::new(alloc),
-            places: Places::new(alloc),
+            places: NameIndex::new(alloc),
             count: 0,
         }
     }
@@ -143,7 +143,7 @@ impl<T: HasName> Crowd<T> {
     }
 }
 
-impl HasName for Guard {
+impl HasName for NamedGuard {
     ghost name_of = { λ guard. guard.name };
 
     fn name(&self) -> &Token {
@@ -151,7 +151,7 @@ impl HasName for Guard {
     }
 }
 
-impl HasName for Registration {
+impl HasName for NamedRegistration {
     ghost name_of = { λ registration. registration.name };
 
     fn name(&self) -> &Token {
@@ -160,8 +160,8 @@ impl HasName for Registration {
 }
 
 /// This guard is forgotten. Answers its slot, where it was not forgotten before.
-fn forget_one(place: &mut Option<Guard>) -> Option<u64>
-    ensures { (guard : Guard) → place.old ≡ Some guard → (place.new ≡ Some (record guard { forgotten = true })) × (result ≡ living_slot (Some guard)) }
+fn forget_one(place: &mut Option<NamedGuard>) -> Option<u64>
+    ensures { (guard : NamedGuard) → place.old ≡ Some guard → (place.new ≡ Some (record guard { forgotten = true })) × (result ≡ living_slot (Some guard)) }
 {
     match place {
         Some(guard) if !guard.forgotten => {
@@ -172,7 +172,7 @@ fn forget_one(place: &mut Option<Guard>) -> Option<u64>
     }
 }
 
-impl Crowd<Guard> {
+impl Crowd<NamedGuard> {
     /// The guard of this name is forgotten. Answers its slot, where it was not forgotten before.
     pub fn forget(&mut self, name: &Token) -> Option<u64>
         ensures slot { result ≡ living_slot (guard_of name.now self.old) }

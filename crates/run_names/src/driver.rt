@@ -1,7 +1,7 @@
 //! Who applies events to the run of a crew.
 ghost use Rattle.std.specs.Prelude.{◌≡◌, ◌+◌, ◌<◌, ◌∷◌, ◌++◌, [], length, vec_len, IfOk, IfErr, OnOk, OnErr};
 
-use crate::crew::Crew;
+use crate::crew::CrewOf;
 use crate::kept::Applied;
 use crate::name::CrewName;
 use crate::runner::Runner;
@@ -13,13 +13,13 @@ use std::sync::ledger::Share;
 
 /// Applies events to the run of its crew, and lists them, each with what it came to. Contracts see its number and the list.
 #[derive(Drop)]
-pub struct Driver<E, O, N: CrewName> {
+pub struct DriverOf<E, O, N: CrewName> {
     number: u64,
     list: Vec<Applied<E, O>>,
     share: Share<N>,
 }
 
-impl<E, O, N: CrewName> Model for Driver<E, O, N> {
+impl<E, O, N: CrewName> Model for DriverOf<E, O, N> {
     ghost use Rattle.std.specs.Prelude.{◌≡◌, length};
     ghost use Rattle.run_names.specs.Crews.Crew.{Listed};
 
@@ -30,14 +30,14 @@ impl<E, O, N: CrewName> Model for Driver<E, O, N> {
     ghost invariant = { λ d. (d.share.parts ≡ 1) × (d.share.amount ≡ length d.list.items) };
 }
 
-impl<E, O, N: CrewName> Driver<E, O, N> {
+impl<E, O, N: CrewName> DriverOf<E, O, N> {
     /// The driver of this number, which has applied these events, and has this share of their count.
     pub fn of(number: u64, list: Vec<Applied<E, O>>, share: Share<N>) -> Self
         requires part { share.parts ≡ 1 }
         requires counted { share.amount ≡ vec_len list }
         ensures { result ≡ record { number = number; list = list.items } }
     {
-        Driver {
+        DriverOf {
             number,
             list,
             share,
@@ -59,7 +59,7 @@ impl<E, O, N: CrewName> Driver<E, O, N> {
     }
 }
 
-impl<E, O, N: CrewName> Driver<E, O, N> {
+impl<E, O, N: CrewName> DriverOf<E, O, N> {
     /// Its number, its list, and its share of the count.
     pub fn into_parts(self) -> (u64, Vec<Applied<E, O>>, Share<N>)
         ensures number { result.0 ≡ self.number }
@@ -76,7 +76,7 @@ impl<E, O, N: CrewName> Driver<E, O, N> {
     }
 }
 
-impl<E: Drop, O: Drop, N: CrewName> Driver<E, O, N> {
+impl<E: Drop, O: Drop, N: CrewName> DriverOf<E, O, N> {
     /// Its share of the count.
     pub(crate) fn into_share(self) -> Share<N>
         ensures parts { result.parts ≡ 1 }
@@ -95,7 +95,7 @@ impl<E: Drop, O: Drop, N: CrewName> Driver<E, O, N> {
 fn list<E: Drop, R: Runner<E>, N: CrewName, W: Wait>(
     rt: &W,
     alloc: Global,
-    crew: &Crew<E, R, N>,
+    crew: &CrewOf<E, R, N>,
     number: u64,
     list: &mut Vec<Applied<E, R::Outcome>>,
     share: &mut Share<N>,
@@ -115,14 +115,14 @@ where
     Ok(outcome)
 }
 
-impl<E: Drop, O: Drop, N: CrewName> Driver<E, O, N> {
+impl<E: Drop, O: Drop, N: CrewName> DriverOf<E, O, N> {
     /// Lets one event happen under the lock of the crew, and lists it with what it came to. The one fault is Memory, where a list of the driver, of the crew or of the run finds
     /// none: then the driver's list and the kept schedule are as they were; and where it was one of the crew or of the run, each later event of the crew is refused so.
     pub fn apply<R: Runner<E, Outcome = O>, W: Wait>(
         &mut self,
         rt: &W,
         alloc: Global,
-        crew: &Crew<E, R, N>,
+        crew: &CrewOf<E, R, N>,
         event: E,
     ) -> Result<O, Fault>
         ensures listed { IfOk result (λ outcome. (listed : O) × R.are_alike listed outcome × (self.new.list ≡ self.old.list ++ (record { event = event; outcome = listed }) ∷ [])) }

@@ -4,23 +4,23 @@ ghost use Rattle.std.specs.List.{AllByRecursion};
 ghost use Rattle.run_names.specs.Crews.Crew.{HoldsJust, held_by, held_first, same_applied, same_list};
 ghost use Rattle.run_names.specs.declared.kept.Applied.{Applied};
 
-use crate::driver::Driver;
-use crate::kept::{Applied, Kept};
+use crate::driver::DriverOf;
+use crate::kept::{Applied, KeptEvent};
 use crate::name::CrewName;
 use crate::runner::Runner;
 
 /// The schedule that a crew kept, and its run.
 #[derive(Drop)]
-pub struct Finished<E, U> {
+pub struct FinishedOf<E, U> {
     /// The events, each with the number of its driver.
-    pub schedule: Vec<Kept<E>>,
+    pub schedule: Vec<KeptEvent<E>>,
     /// Their run.
     pub run: U,
 }
 
 /// Whether an event with what it came to is the one that a driver lists.
 fn is_listed<E, R: Runner<E>>(
-    kept: &Kept<E>,
+    kept: &KeptEvent<E>,
     outcome: &R::Outcome,
     listed: &Applied<E, R::Outcome>,
 ) -> bool
@@ -31,7 +31,7 @@ fn is_listed<E, R: Runner<E>>(
 
 /// What is left of a driver's list behind an event of the schedule, or none where it lists another one there.
 fn left_after<'l, E, R: Runner<E>>(
-    kept: &Kept<E>,
+    kept: &KeptEvent<E>,
     outcome: &R::Outcome,
     number: u64,
     list: &'l [Applied<E, R::Outcome>],
@@ -55,7 +55,7 @@ fn left_after<'l, E, R: Runner<E>>(
 
 /// Whether a schedule holds of this driver just its list.
 fn holds_just<E, R: Runner<E>>(
-    schedule: &[Kept<E>],
+    schedule: &[KeptEvent<E>],
     outcomes: &[R::Outcome],
     number: u64,
     list: &[Applied<E, R::Outcome>],
@@ -81,9 +81,9 @@ fn holds_just<E, R: Runner<E>>(
 
 /// Whether a schedule holds of each of these drivers just its list.
 pub(crate) fn agree<E, R: Runner<E>, N: CrewName>(
-    schedule: &[Kept<E>],
+    schedule: &[KeptEvent<E>],
     outcomes: &[R::Outcome],
-    drivers: &[Driver<E, R::Outcome, N>],
+    drivers: &[DriverOf<E, R::Outcome, N>],
 ) -> bool
     ensures { IsTrue result ↔ AllByRecursion (HoldsJust R.same_event R.same_outcome schedule.now outcomes.now) drivers.now }
 {

@@ -7,7 +7,7 @@ use std::alloc::{AllocError, Global};
 
 /// An event of the kept schedule.
 #[derive(Drop)]
-pub struct Kept<E> {
+pub struct KeptEvent<E> {
     /// The number of the driver that applied it.
     pub driver: u64,
     /// The event.
@@ -26,7 +26,7 @@ pub struct Applied<E, O> {
 /// Copies of the events of a schedule.
 pub fn events_again<E: Drop, R: Runner<E>>(
     alloc: Global,
-    schedule: &[Kept<E>],
+    schedule: &[KeptEvent<E>],
 ) -> Result<Vec<E>, AllocError>
     requires { R.can_copy }
     ensures { IfOk result (λ events. events.items ≡ events_of schedule.now) }

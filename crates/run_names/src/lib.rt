@@ -6,12 +6,12 @@ pub mod crew;
 pub mod crowd;
 pub mod driver;
 pub mod finished;
+mod holders;
 pub mod kept;
 mod locked;
 pub mod name;
-pub mod places;
-mod present;
+pub mod name_index;
+pub mod number_counts;
 pub mod runner;
-pub mod tally;
 
-pub use present::Present;
+pub use holders::Holders;

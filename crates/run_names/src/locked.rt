@@ -3,8 +3,8 @@ ghost use Rattle.std.specs.Prelude.{◌≡◌, ◌+◌, ◌-◌, ◌<◌, ◌∷
 ghost use Rattle.run_schedules.specs.declared.setup.Setup.{Setup};
 ghost use Rattle.run_names.specs.Crews.Crew.{events_of};
 
-use crate::finished::Finished;
-use crate::kept::{Applied, Kept, events_again};
+use crate::finished::FinishedOf;
+use crate::kept::{Applied, KeptEvent, events_again};
 use crate::name::CrewName;
 use crate::runner::Runner;
 use run_schedules::setup::Setup;
@@ -18,7 +18,7 @@ use std::sync::ledger::{Book, Share};
 pub(crate) struct Locked<E, R: Runner<E>, N: CrewName> {
     setup: Setup,
     choices: Vec<u64>,
-    schedule: Vec<Kept<E>>,
+    schedule: Vec<KeptEvent<E>>,
     runner: R,
     is_broken: bool,
     events: Book<N>,
@@ -62,7 +62,7 @@ where
 /// Lets the next event of a run happen, and keeps it as the driver's of this number: a copy of it with what it came to, and that once more. On an error the schedule is as it was.
 fn keep<E: Drop, R: Runner<E>>(
     alloc: Global,
-    schedule: &mut Vec<Kept<E>>,
+    schedule: &mut Vec<KeptEvent<E>>,
     runner: &mut R,
     number: u64,
     event: E,
@@ -82,7 +82,7 @@ where
     let listed = R::copy_of_event(alloc, &event)?;
     let kept = R::copy_of_event(alloc, &event)?;
     let (outcome, again) = happens(alloc, runner, event)?;
-    schedule.push_reserved(Kept {
+    schedule.push_reserved(KeptEvent {
         driver: number,
         event: kept,
     });
@@ -100,7 +100,7 @@ fn run_of<E: Drop, R: Runner<E>>(
     alloc: Global,
     setup: Setup,
     choices: Vec<u64>,
-    schedule: &[Kept<E>],
+    schedule: &[KeptEvent<E>],
     runner: R,
     is_broken: bool,
 ) -> Result<R::Run, Fault>
@@ -194,7 +194,7 @@ where
     R::Hasher: Drop,
 {
     /// The kept schedule with its run, and the book, whose total is the number of events. A broken run is made anew. The one fault is Memory.
-    pub(crate) fn finish(self, alloc: Global) -> Result<(Finished<E, R::Run>, Book<N>), Fault>
+    pub(crate) fn finish(self, alloc: Global) -> Result<(FinishedOf<E, R::Run>, Book<N>), Fault>
         ensures run { IfOk result (λ f. R.is_run N.setup (events_of f.0.schedule.items) f.0.run) }
         ensures schedule { IfOk result (λ f. f.0.schedule.items ≡ self.schedule) }
         ensures counted { IfOk result (λ f. length f.0.schedule.items ≡ f.1.total) }
@@ -216,6 +216,6 @@ where
             runner,
             is_broken,
         )?;
-        Ok((Finished { schedule, run }, events))
+        Ok((FinishedOf { schedule, run }, events))
     }
 }

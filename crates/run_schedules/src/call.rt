@@ -67,7 +67,7 @@ pub enum Reply<V> {
 
 /// What a call answers. Pairs are told by their numbers.
 #[derive(Drop)]
-pub enum Answer<V> {
+pub enum Response<V> {
     /// The key has no pair; of a walk, that there is no further one.
     Absent,
     /// The pair of the key: found, replaced or removed.

@@ -3,7 +3,7 @@ use crate::shapes::TableShape;
 
 /// A table. The k-th map that a run makes has the number k, from 0 on, and a map's tables have turns, from 0 on.
 #[derive(Clone, Copy, PartialEq, Eq)]
-pub struct Table {
+pub struct TableId {
     /// The number of its map.
     pub map: u64,
     /// Its turn.
@@ -25,7 +25,7 @@ pub enum Thing {
     /// The pair of this number.
     APair(u64),
     /// A table.
-    ATable(Table),
+    ATable(TableId),
 }
 
 /// What memory is asked for.
@@ -47,18 +47,18 @@ pub enum Effect {
     /// Such a block was given up.
     PairGivenUp,
     /// A table was made, and is no table of its map yet.
-    TableMade(Table),
+    TableMade(TableId),
     /// Such a table was given up, as another caller's came first.
-    TableGivenUp(Table),
+    TableGivenUp(TableId),
     /// A table that was made became the last one of its map.
     Linked {
         /// The table.
-        table: Table,
+        table: TableId,
         /// Its length, and its last try.
         shape: TableShape,
     },
     /// A table became the root of its map: those before it are passed.
-    Promoted(Table),
+    Promoted(TableId),
     /// A pair was copied into a later table.
     Copied {
         /// The pair.
@@ -84,7 +84,7 @@ pub enum Effect {
         /// The pair.
         pair: u64,
         /// The table.
-        behind: Table,
+        behind: TableId,
     },
     /// A pair that left its map, or a table that was passed, was retired.
     Retired(Thing),
@@ -93,5 +93,5 @@ pub enum Effect {
     /// A pair was reclaimed that was still in the map as the map ended.
     Ended(u64),
     /// A table ended with its map.
-    Taken(Table),
+    Taken(TableId),
 }

@@ -3,14 +3,14 @@ use crate::token::Token;
 
 /// A registration.
 #[derive(Drop)]
-pub struct Registration {
+pub struct NamedRegistration {
     pub name: Token,
     pub slot: u64,
 }
 
 /// A guard of a registration. One that was forgotten stays until everything is reclaimed.
 #[derive(Drop)]
-pub struct Guard {
+pub struct NamedGuard {
     pub name: Token,
     pub slot: u64,
     pub forgotten: bool,

@@ -1,5 +1,5 @@
 //! What an event comes to.
-use crate::call::Answer;
+use crate::call::Response;
 use crate::shapes::TableShape;
 use seize_words::Fault;
 
@@ -21,7 +21,7 @@ pub enum Outcome<V> {
     /// The walk shows this pair.
     Shows(u64),
     /// The call was answered.
-    Answered(Answer<V>),
+    Answered(Response<V>),
     /// The tables of a map, from its root on.
     Shape(Vec<TableShape>),
     /// It was refused.

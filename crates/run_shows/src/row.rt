@@ -2,7 +2,7 @@
 ghost use Rattle.std.specs.Prelude.{◌≡◌};
 ghost use Rattle.run_shows.specs.Scenes.Rows.{begun_row, change_of, left_by, taken_as, of_registering, of_settling, of_storing};
 
-use seize::Progress;
+use seize::Advance;
 use seize::rows::{Enter, Leave, Leaving, Register, Registering, Settle, Settled, Unregister};
 use seize::states::ACTIVE;
 use seize_words::Fault;
@@ -158,26 +158,26 @@ impl SlotCall {
 
 impl<T> RowTold<T> {
     /// What a registering tells.
-    pub fn of_registering(progress: Progress<u64>) -> Self
+    pub fn of_registering(progress: Advance<u64>) -> Self
         ensures { result ≡ of_registering progress }
     {
         match progress {
-            Progress::Goes => RowTold::Goes,
-            Progress::Waits => RowTold::Waits,
-            Progress::Done(slot) => RowTold::Registered(slot),
-            Progress::Refused(fault) => RowTold::Refused(fault),
+            Advance::Goes => RowTold::Goes,
+            Advance::Waits => RowTold::Waits,
+            Advance::Done(slot) => RowTold::Registered(slot),
+            Advance::Refused(fault) => RowTold::Refused(fault),
         }
     }
 
     /// What a row of one store tells.
-    pub fn of_storing(progress: Progress<()>) -> Self
+    pub fn of_storing(progress: Advance<()>) -> Self
         ensures { result ≡ of_storing progress }
     {
         match progress {
-            Progress::Goes => RowTold::Goes,
-            Progress::Waits => RowTold::Waits,
-            Progress::Done(()) => RowTold::Done,
-            Progress::Refused(fault) => RowTold::Refused(fault),
+            Advance::Goes => RowTold::Goes,
+            Advance::Waits => RowTold::Waits,
+            Advance::Done(()) => RowTold::Done,
+            Advance::Refused(fault) => RowTold::Refused(fault),
         }
     }
 

@@ -1,5 +1,5 @@
 //! Events that are refused memory at one growth after another, and happen again.
-use crate::rows::{MODES, ROWS, Row, Then, Tried};
+use crate::rows::{MODES, MapRow, MapTry, ROWS, Then};
 use papaya_raw::ResizeMode;
 use papaya_steps::running::run_refusing;
 use papaya_steps_tests::steps::Made::{Get, Insert};
@@ -44,7 +44,7 @@ fn plays(rt: &impl Abort, alloc: Global, hasher: KeyHash, planned: &[Planned]) -
 }
 
 /// Makes the map and fills it: the pair of key k has the number k + 1.
-fn filling(alloc: Global, row: &Row, mode: ResizeMode) -> Result<Vec<Planned>, AllocError> {
+fn filling(alloc: Global, row: &MapRow, mode: ResizeMode) -> Result<Vec<Planned>, AllocError> {
     let mut planned = Vec::new(alloc);
     planned.push((Register, u64::MAX, SLOT))?;
     planned.push((Make(mode, row.capacity), u64::MAX, DONE))?;
@@ -80,7 +80,7 @@ fn add_lookups(planned: &mut Vec<Planned>, keys: u64, then: Then) -> Result<(), 
 /// A call asks and is told, and comes to this, where it may ask for so many growths.
 fn add_call(
     planned: &mut Vec<Planned>,
-    tried: &Tried,
+    tried: &MapTry,
     growths: u64,
     comes_to: Shown,
 ) -> Result<(), AllocError> {
@@ -100,9 +100,9 @@ fn add_call(
 fn refused_at_each(
     rt: &impl Abort,
     alloc: Global,
-    row: &Row,
+    row: &MapRow,
     mode: ResizeMode,
-    tried: &Tried,
+    tried: &MapTry,
 ) -> Result<(), Fail> {
     let (_, _, comes_to, then, most) = *tried;
     for growths in 0..most {

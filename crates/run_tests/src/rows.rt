@@ -5,7 +5,7 @@ use papaya_steps_tests::steps::Made::{
     self, Clear, Compute, GetOrInsert, GetOrInsertWith, Insert, Len, Remove, RemoveIf, Reserve,
     Retain, TryInsert, TryInsertWith, Update, UpdateOrInsert, UpdateOrInsertWith, Walk,
 };
-use papaya_steps_tests::steps::Told::{self, Aborts, Decides, Gives, Removes};
+use papaya_steps_tests::steps::ReplyRow::{self, Aborts, Decides, Gives, Removes};
 use papaya_steps_tests::steps::{ABSENT, ASKS_NONE, COMPLETED, NOTHING_TO_REMOVE, READY, Shown};
 use run_schedules::key_hash::KeyHash;
 
@@ -22,24 +22,24 @@ pub enum Then {
 
 /// What is tried on maps: a call, what it asks and is told, what it comes to, what the keys have then, and how many growths it asks
 /// for, all in its last event.
-pub type Tried = (Made, &'static [(Shown, Told)], Shown, Then, u64);
+pub type MapTry = (Made, &'static [(Shown, ReplyRow)], Shown, Then, u64);
 
 /// Maps that differ in their modes alone, with a capacity and so many keys from 0 on, and what is tried on each.
-pub struct Row {
+pub struct MapRow {
     pub modes: &'static [ResizeMode],
     pub by: KeyHash,
     pub capacity: u64,
     pub keys: u64,
-    pub tries: &'static [Tried],
+    pub tries: &'static [MapTry],
 }
 
 pub const MODES: [ResizeMode; 3] = [Incremental(1), Incremental(64), Blocking];
 
 /// It asks about none, and is told a value.
-const GIVES: &[(Shown, Told)] = &[(ASKS_NONE, Gives(7))];
+const GIVES: &[(Shown, ReplyRow)] = &[(ASKS_NONE, Gives(7))];
 
 /// Tried on a map without a pair and a table: a first pair asks for its block and for the table.
-const FIRST: [Tried; 18] = [
+const FIRST: [MapTry; 18] = [
     (Insert(0, 0), &[], ABSENT, Has(0, 1), 2),
     (TryInsert(0, 0), &[], ("stored", 1, 0), Has(0, 1), 2),
     (TryInsertWith(0), GIVES, ("stored", 1, 0), Has(0, 1), 2),
@@ -73,7 +73,7 @@ const FIRST: [Tried; 18] = [
 ];
 
 /// On a full table: a further pair asks for its block and for the next table, and one in the place of another for its block.
-const FULL: [Tried; 19] = [
+const FULL: [MapTry; 19] = [
     (Insert(8, 0), &[], ABSENT, Has(8, 9), 2),
     (TryInsert(8, 0), &[], ("stored", 9, 0), Has(8, 9), 2),
     (TryInsertWith(8), GIVES, ("stored", 9, 0), Has(8, 9), 2),
@@ -132,7 +132,7 @@ const FULL: [Tried; 19] = [
 ];
 
 /// In the midst of a resize: what was copied by the way is as it was.
-const RESIZED: [Tried; 23] = [
+const RESIZED: [MapTry; 23] = [
     (Insert(9, 0), &[], ABSENT, Has(9, 10), 1),
     (TryInsert(9, 0), &[], ("stored", 10, 0), Has(9, 10), 1),
     (TryInsertWith(9), GIVES, ("stored", 10, 0), Has(9, 10), 1),
@@ -237,7 +237,7 @@ const RESIZED: [Tried; 23] = [
 ];
 
 /// Where all hashes are one, and the copies find no place in the next table: the resize asks for a further one.
-const CLASHING: [Tried; 6] = [
+const CLASHING: [MapTry; 6] = [
     (Insert(64, 0), &[], ABSENT, Has(64, 65), 3),
     (TryInsert(64, 0), &[], ("stored", 65, 0), Has(64, 65), 3),
     (TryInsertWith(64), GIVES, ("stored", 65, 0), Has(64, 65), 3),
@@ -254,43 +254,43 @@ const CLASHING: [Tried; 6] = [
 
 /// In the midst of a resize in which one pair finds no place: a call on the whole map completes it. That pair, the last one to be
 /// copied, is the first of the table after the next.
-const SWEPT: [Tried; 4] = [
+const SWEPT: [MapTry; 4] = [
     (Clear, &[], COMPLETED, Empty, 1),
     (Retain, &[], ("asks", 20, 0), Unseen, 1),
     (Walk, &[], READY, Unseen, 1),
     (Len, &[], ("counted", 32, 0), Same, 0),
 ];
 
-pub const ROWS: [Row; 5] = [
-    Row {
+pub const ROWS: [MapRow; 5] = [
+    MapRow {
         modes: &MODES,
         by: KeyHash::Key,
         capacity: 0,
         keys: 0,
         tries: &FIRST,
     },
-    Row {
+    MapRow {
         modes: &MODES,
         by: KeyHash::Key,
         capacity: 6,
         keys: 8,
         tries: &FULL,
     },
-    Row {
+    MapRow {
         modes: &[Incremental(1)],
         by: KeyHash::Key,
         capacity: 6,
         keys: 9,
         tries: &RESIZED,
     },
-    Row {
+    MapRow {
         modes: &[Incremental(64), Blocking],
         by: KeyHash::Zero,
         capacity: 0,
         keys: 64,
         tries: &CLASHING,
     },
-    Row {
+    MapRow {
         modes: &[Incremental(1)],
         by: KeyHash::Zero,
         capacity: 0,

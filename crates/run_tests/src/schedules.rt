@@ -5,15 +5,15 @@ use crate::beside::{
 };
 use papaya_raw::ResizeMode::{Blocking, Incremental};
 use papaya_steps::running::run;
-use papaya_steps_tests::deeds::Deed::{
+use papaya_steps_tests::deeds::EffectRow::{
     self, Back, Block, Bucket, Copied, Counted, Deferred, Ended, GivenUp, Linked, Pair, Promoted,
     Removed, Replaced, Retired, Stored, TableBack, TableMade, TableRetired, Taken,
 };
 use papaya_steps_tests::steps::Made::{Compute, Insert, Remove, RemoveIf, TryInsert, Walk};
+use papaya_steps_tests::steps::ReplyRow::{Decides, Gives};
 use papaya_steps_tests::steps::Step::{
     Call, Close, End, Enter, Go, Leave, Make, Next, ReclaimAll, Register, Says, Stop, Unregister,
 };
-use papaya_steps_tests::steps::Told::{Decides, Gives};
 use papaya_steps_tests::steps::{ABSENT, DONE, GOES, READY, SLOT, Shown, Step, shown};
 use run_schedules::effect::Effect;
 use run_schedules::key_hash::KeyHash;
@@ -24,7 +24,7 @@ use std::process::Abort;
 use std::test::Fail;
 
 /// An event, what it comes to, and what it does.
-pub type Line = (Step, Shown, &'static [Deed]);
+pub type Line = (Step, Shown, &'static [EffectRow]);
 
 /// How a run ends: how many pairs it has stored, how many came back, which ones wait, how many tables do, how many pairs the map has, if it lives, and how many
 /// blocks are there: each pair that did not come back has one, each table that was not reclaimed or taken, the count of a map that lives, and what a call has made.
@@ -39,7 +39,7 @@ const SMALL: [Line; 3] = [
     (Enter, DONE, &[]),
 ];
 
-const FIRST_TABLE: &[Deed] = &[Block, Block, TableMade(0), Linked(0, 8, 7)];
+const FIRST_TABLE: &[EffectRow] = &[Block, Block, TableMade(0), Linked(0, 8, 7)];
 
 const INCREMENTAL: [Line; 3] = [
     (Register, SLOT, &[Bucket]),
@@ -426,7 +426,7 @@ fn played(alloc: Global, batch_size: u64, parts: &[&[Line]]) -> Result<Run<u64, 
 }
 
 /// An event did this.
-fn did_so(rt: &impl Abort, did: &[Effect], does: &[Deed]) {
+fn did_so(rt: &impl Abort, did: &[Effect], does: &[EffectRow]) {
     assert_eq!(rt; did.len(), does.len());
     for (effect, deed) in did.iter().zip(does.iter()) {
         assert!(rt; *effect == deed.effect());

@@ -6,8 +6,8 @@ use Rattle.seize_words.specs.declared.at.At.TheVariants.{Entry}
 use Rattle.seize_words.specs.OneMemory.Op.{Out, Load, Store, Exchange, Found, Exchanged}
 use Rattle.seize_words.specs.OneMemory.Plan.{Plan, Then, Turn, Do, Now}
 use Rattle.seize.specs.declared.states.TheConstants.{NEXT}
-use Rattle.seize.specs.declared.progress.Progress.{Progress}
-use Rattle.seize.specs.declared.progress.Progress.TheVariants.{Goes, Done}
+use Rattle.seize.specs.declared.advance.Advance.{Advance}
+use Rattle.seize.specs.declared.advance.Advance.TheVariants.{Goes, Done}
 use Rattle.seize.specs.declared.rows.defer.Defer.{Defer}
 use Rattle.seize.specs.declared.rows.defer.Deferring.{Deferring}
 use Rattle.seize.specs.declared.rows.defer.Deferring.TheVariants as at
@@ -22,27 +22,27 @@ standing c stands = record c { stands = stands }
 
 module _ {T : Type 0} where
   -- further steps are needed
-  abbrev pub goes : Defer → Deferring → Then T (Defer × Progress Unit)
+  abbrev pub goes : Defer → Deferring → Then T (Defer × Advance Unit)
   goes c stands = Now (standing c stands, Goes)
 
   -- the head that the block is to follow is known
-  abbrev pub head_read : Defer → Out T → Then T (Defer × Progress Unit)
+  abbrev pub head_read : Defer → Out T → Then T (Defer × Advance Unit)
   head_read c (Found head) = goes c (at.Links head)
   head_read c _ = Now (c, Goes)
 
   -- where the list has changed, the block is linked anew
-  abbrev pub push_told : Defer → Out T → Then T (Defer × Progress Unit)
+  abbrev pub push_told : Defer → Out T → Then T (Defer × Advance Unit)
   push_told c (Exchanged (Ok _)) = goes c at.Over
   push_told c (Exchanged (Err head)) = goes c (at.Links head)
   push_told c _ = Now (c, Goes)
 
   -- each point: the head is read, the block is linked to it, and it takes the place of the head
-  abbrev pub plan_at : Defer → Deferring → Plan T (Defer × Progress Unit)
+  abbrev pub plan_at : Defer → Deferring → Plan T (Defer × Advance Unit)
   plan_at c at.Reads = Do (Load c.table_word) (head_read c)
   plan_at c (at.Links head) = Do (Store (Entry (block_in c.block) NEXT) head) (λ out. goes c (at.Pushes head))
   plan_at c (at.Pushes head) = Do (Exchange c.table_word head c.block) (push_told c)
   plan_at c at.Over = Turn (Now (c, Done tt))
 
   -- what its next step does
-  abbrev pub defer_plan : Defer → Plan T (Defer × Progress Unit)
+  abbrev pub defer_plan : Defer → Plan T (Defer × Advance Unit)
   defer_plan c = plan_at c c.stands

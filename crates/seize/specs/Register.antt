@@ -7,8 +7,8 @@ use Rattle.seize_words.specs.OneMemory.Place.{capacity}
 use Rattle.seize_words.specs.OneMemory.Op.{Out, Load, Store, Exchange, Room, Found, Exchanged, Roomed}
 use Rattle.seize_words.specs.OneMemory.Plan.{Plan, Then, Turn, Do, Now}
 use Rattle.seize.specs.declared.states.TheConstants.{HEAD, NEVER, FREE, IDLE, ACTIVE, LAST_SLOT}
-use Rattle.seize.specs.declared.progress.Progress.{Progress}
-use Rattle.seize.specs.declared.progress.Progress.TheVariants.{Goes, Done, Refused}
+use Rattle.seize.specs.declared.advance.Advance.{Advance}
+use Rattle.seize.specs.declared.advance.Advance.TheVariants.{Goes, Done, Refused}
 use Rattle.seize.specs.declared.rows.register.Register.{Register}
 use Rattle.seize.specs.declared.rows.register.Registering.{Registering}
 use Rattle.seize.specs.declared.rows.register.Registering.TheVariants as at
@@ -47,51 +47,51 @@ abbrev pub can_be_taken : ℕ → Bool
 can_be_taken head = (head == NEVER) || (head == FREE)
 
 -- how registering goes on, and what it answers
-abbrev pub to : Register → Registering → Progress ℕ → Register × Progress ℕ
+abbrev pub to : Register → Registering → Advance ℕ → Register × Advance ℕ
 to c stands progress = (record c { stands = stands }, progress)
 
-abbrev pub going : Register → Registering → Register × Progress ℕ
+abbrev pub going : Register → Registering → Register × Advance ℕ
 going c stands = to c stands Goes
 
-abbrev pub refused : Register → Fault → Register × Progress ℕ
+abbrev pub refused : Register → Fault → Register × Advance ℕ
 refused c fault = to c (at.Refused fault) (Refused fault)
 
-abbrev pub registered : Register → Register × Progress ℕ
+abbrev pub registered : Register → Register × Advance ℕ
 registered c = to c at.Registered (Done c.slot)
 
 -- with the next slot, if there is one
-abbrev pub further : Register → Register × Progress ℕ
+abbrev pub further : Register → Register × Advance ℕ
 further c = if nat_lt c.slot LAST_SLOT then going (record c { slot = c.slot + 1 }) at.Look else refused c SlotsUsedUp
 
 -- with a slot that can be taken, once the bucket that it needs has its words
-abbrev pub taking : Register → ℕ → Option ℕ → Register × Progress ℕ
+abbrev pub taking : Register → ℕ → Option ℕ → Register × Advance ℕ
 taking c seen (Some bucket) = going c (at.Widen bucket seen)
 taking c seen None = going c (at.Take seen)
 
 module _ {T : Type 0} where
   -- the first bucket has its words
-  abbrev pub begun : Register → Out T → Then T (Register × Progress ℕ)
+  abbrev pub begun : Register → Out T → Then T (Register × Advance ℕ)
   begun c (Roomed (Ok made)) = Now (going c at.Look)
   begun c (Roomed (Err fault)) = Now (refused c fault)
   begun c _ = Now (c, Goes)
 
-  abbrev pub looked : Register → Out T → Then T (Register × Progress ℕ)
+  abbrev pub looked : Register → Out T → Then T (Register × Advance ℕ)
   looked c (Found head) = Now (if can_be_taken head then taking c head (bucket_needed c.slot) else further c)
   looked c _ = Now (c, Goes)
 
   -- the bucket that the slot needs has its words
-  abbrev pub widened : Register → ℕ → Out T → Then T (Register × Progress ℕ)
+  abbrev pub widened : Register → ℕ → Out T → Then T (Register × Advance ℕ)
   widened c seen (Roomed (Ok made)) = Now (going c (at.Take seen))
   widened c seen (Roomed (Err fault)) = Now (refused c fault)
   widened c seen _ = Now (c, Goes)
 
   -- the slot is taken, unless another caller was faster
-  abbrev pub taken : Register → Out T → Then T (Register × Progress ℕ)
+  abbrev pub taken : Register → Out T → Then T (Register × Advance ℕ)
   taken c (Exchanged (Ok found)) = Now (if c.enters then going c at.Enter else registered c)
   taken c (Exchanged (Err found)) = Now (further c)
   taken c _ = Now (c, Goes)
 
-  abbrev pub plan_at : Register → Registering → Plan T (Register × Progress ℕ)
+  abbrev pub plan_at : Register → Registering → Plan T (Register × Advance ℕ)
   plan_at c at.Begin = Do (Room 0) (begun c)
   plan_at c at.Look = Do (Load (Slot c.slot HEAD)) (looked c)
   plan_at c (at.Widen bucket seen) = Do (Room bucket) (widened c seen)
@@ -100,5 +100,5 @@ module _ {T : Type 0} where
   plan_at c at.Registered = Turn (Now (c, Done c.slot))
   plan_at c (at.Refused fault) = Turn (Now (c, Refused fault))
 
-  abbrev pub register_plan : Register → Plan T (Register × Progress ℕ)
+  abbrev pub register_plan : Register → Plan T (Register × Advance ℕ)
   register_plan c = plan_at c c.stands

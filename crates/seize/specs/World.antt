@@ -8,8 +8,8 @@ use Rattle.seize_words.specs.OneMemory.Op.{Op, Out, Load, Store, Swap, Add, Or, 
 use Rattle.seize_words.specs.OneMemory.Mem.{Mem, Can, Took, value_at, word_at}
 use Rattle.seize_words.specs.OneMemory.Plan.{May, Steps}
 use Rattle.seize.specs.declared.states.TheConstants.{HEAD, IDLE, ACTIVE, NEXT}
-use Rattle.seize.specs.declared.progress.Progress.{Progress}
-use Rattle.seize.specs.declared.progress.Progress.TheVariants as progress
+use Rattle.seize.specs.declared.advance.Advance.{Advance}
+use Rattle.seize.specs.declared.advance.Advance.TheVariants as progress
 use Rattle.seize.specs.declared.rows.settle.Settle.{Settle}
 use Rattle.seize.specs.declared.rows.settle.Settling.{Settling}
 use Rattle.seize.specs.declared.rows.settle.Settling.TheVariants as settling
@@ -207,12 +207,12 @@ module _ {T : Type 0} where
   leaves_on w i c m (end, progress) =
       with_use (after_step w i m (left_row end progress) (leave_effects c c.stands)) c.slot (left_as c c.stands (w.uses c.slot))
 
-  abbrev pub registers_on : World T → ℕ → Register → Mem T → Register × Progress ℕ → World T
+  abbrev pub registers_on : World T → ℕ → Register → Mem T → Register × Advance ℕ → World T
   registers_on w i c m (end, progress.Done s) = with_use (after_step w i m Rests (register_effects c c.stands)) s (registered_as c)
   registers_on w i c m (end, progress.Refused fault) = after_step w i m Rests []
   registers_on w i c m (end, _) = after_step w i m (Registers end) (register_effects c c.stands)
 
-  abbrev pub defers_on : World T → ℕ → ℕ → Mem T → Defer × Progress Unit → World T
+  abbrev pub defers_on : World T → ℕ → ℕ → Mem T → Defer × Advance Unit → World T
   defers_on w i s m (end, progress.Done u) = with_use (after_step w i m Rests []) s (one_less (w.uses s))
   defers_on w i s m (end, _) = after_step w i m (Defers s end) []
 
@@ -220,15 +220,15 @@ module _ {T : Type 0} (defers : T → Option ℕ) where
   -- caller i takes the next step of its row
   abbrev pub Steps' : ℕ → Row → World T → World T → Type 0
   Steps' i Rests w n = ⊥
-  Steps' i (Registers c) w n = (m : Mem T) × (end : Register × Progress ℕ) × Steps Took value_at w.memory (register_plan c) m end × (n ≡ registers_on w i c m end)
+  Steps' i (Registers c) w n = (m : Mem T) × (end : Register × Advance ℕ) × Steps Took value_at w.memory (register_plan c) m end × (n ≡ registers_on w i c m end)
   Steps' i (Enters c) w n =
-      (m : Mem T) × (end : Enter × Progress Unit) × Steps Took value_at w.memory (enter_plan c) m end
+      (m : Mem T) × (end : Enter × Advance Unit) × Steps Took value_at w.memory (enter_plan c) m end
       × (n ≡ with_use (after_step w i m Rests (Entered c.slot ∷ [])) c.slot (Inside 0))
   Steps' i (Settles c) w n = (m : Mem T) × (end : Settle × Settled T) × Steps Took value_at w.memory (settle_plan defers c) m end × (n ≡ settles_on w i c m end)
   Steps' i (Leaves c) w n = (m : Mem T) × (end : Leave × Settled T) × Steps Took value_at w.memory (leave_plan defers c) m end × (n ≡ leaves_on w i c m end)
-  Steps' i (Defers s c) w n = (m : Mem T) × (end : Defer × Progress Unit) × Steps Took value_at w.memory (defer_plan c) m end × (n ≡ defers_on w i s m end)
+  Steps' i (Defers s c) w n = (m : Mem T) × (end : Defer × Advance Unit) × Steps Took value_at w.memory (defer_plan c) m end × (n ≡ defers_on w i s m end)
   Steps' i (Frees c) w n =
-      (m : Mem T) × (end : Unregister × Progress Unit) × Steps Took value_at w.memory (unregister_plan c) m end
+      (m : Mem T) × (end : Unregister × Advance Unit) × Steps Took value_at w.memory (unregister_plan c) m end
       × (n ≡ with_use (after_step w i m Rests []) c.slot Vacant)
 
   -- and it may take it

@@ -2,7 +2,7 @@
 use seize_words::Memory;
 
 /// What takes one step after another, each at most one operation on a memory.
-pub trait Machine<T> {
+pub trait StepMachine<T> {
     ghost use Rattle.seize_words.specs.OneMemory.Plan.{May, Steps, Plan};
 
     /// How far it is after a step.

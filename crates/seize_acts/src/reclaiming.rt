@@ -9,7 +9,7 @@ ghost use Rattle.seize.specs.World.{Vacant, Flush, Settles};
 ghost use Rattle.seize_model.specs.Alone.Alone.{History, IsMidway, blocks_in, given_back};
 ghost use Rattle.seize_acts.specs.Reclaims.AllReclaimed.{IsReclaiming, MayReclaimAll, ReclaimsOn, RowEnds, is_flushing, is_within, sets_in, weight_at};
 
-use seize::Machine;
+use seize::StepMachine;
 use seize::rows::{Defers, LeftOver, ReclaimAll, Reclaiming, Settled};
 use seize_words::Plain;
 

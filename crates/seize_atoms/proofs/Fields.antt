@@ -28,12 +28,12 @@ use denote.Struct.Tuple.{Tuple}
 use Rattle.core.proofs.atomic.Steps.{Ptr-Good}
 use Rattle.std.specs.contracts.marker.PhantomData as marker
 use Rattle.seize_atoms.specs.declared.rule.Rule.{Ghosts}
-use Rattle.seize_atoms.specs.contracts.words.Words as words
+use Rattle.seize_atoms.specs.contracts.words.StripWords as words
 use Rattle.seize_atoms.specs.contracts.seat.Seat as seat
 pub use Rattle.seize_seats.proofs.Plots.Fields.{token, Mark, mark_told, mark_made, one_of, Places, places_told, places_made, one_good}
 use Rattle.seize_atoms.specs.contracts.claim.Claim as claim
 use Rattle.seize_atoms.specs.contracts.strip.Strip as strip
-use Rattle.seize_seats.specs.contracts.place.Place as place
+use Rattle.seize_seats.specs.contracts.place.ValuePlaces as place
 use Rattle.seize_seats.specs.contracts.place.Doors as doors
 use Rattle.seize_seats.specs.contracts.place.Address as address
 

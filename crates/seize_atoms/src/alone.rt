@@ -7,10 +7,10 @@ ghost use Rattle.seize_seats.specs.Seats.Owned.{IsLike};
 use crate::rule::Rule;
 use crate::seat::Seat;
 use crate::task::{Charge, Task};
-use crate::words::Words;
+use crate::words::StripWords;
 use std::marker::PhantomData;
 
-impl<T, R: Rule<T>> Words<T, R> {
+impl<T, R: Rule<T>> StripWords<T, R> {
     /// A seat goes on an errand: as long as that runs nobody has the memory to himself.
     pub fn errand<E: Task<T, R>>(&self, seat: &mut Seat<T, R>, errand: E) -> E::Answer
         requires { (seat.old.base ≡ self.now.id.views_name) × (seat.old.away ≡ None) × E.asks errand seat.old.base seat.old.view
@@ -56,15 +56,15 @@ impl<T, R: Rule<T>> Words<T, R> {
     }
 
     /// All seats end, and the memory is under another rule from then on, with one seat, which has just come.
-    pub fn alone<S: Rule<T>>(self, fixed: &S::Fixed) -> (Words<T, S>, Seat<T, S>)
+    pub fn alone<S: Rule<T>>(self, fixed: &S::Fixed) -> (StripWords<T, S>, Seat<T, S>)
         requires { RenewsTo R.rests (R.holds self.fixed) (S.holds fixed.now) (S.newcomer fixed.now ∷ []) }
         ensures { (result.0.words ≡ self.words) × (result.0.fixed ≡ fixed.now) × IsLike result.0.id self.id
             × (result.1.base ≡ result.0.id.views_name) × (result.1.id ≡ 0) × (result.1.view ≡ S.newcomer fixed.now) × (result.1.away ≡ None)
             × WasIdle R.rests (R.holds self.fixed) result.0.start }
     {
-        let Words { words, marker: _ } = self;
+        let StripWords { words, marker: _ } = self;
         (
-            Words {
+            StripWords {
                 words,
                 marker: PhantomData,
             },
@@ -75,13 +75,13 @@ impl<T, R: Rule<T>> Words<T, R> {
     }
 
     /// All seats end, where it is known what this one knows, and the memory is under another rule from then on, with no seat.
-    pub fn used<S: Rule<T>>(self, seat: &mut Seat<T, R>, fixed: &S::Fixed) -> Words<T, S>
+    pub fn used<S: Rule<T>>(self, seat: &mut Seat<T, R>, fixed: &S::Fixed) -> StripWords<T, S>
         requires { (seat.old.base ≡ self.id.views_name) × RenewsFrom R.rests (R.holds self.fixed) (S.holds fixed.now) seat.old.id seat.old.view }
         ensures { (result.words ≡ self.words) × (result.fixed ≡ fixed.now) × IsLike result.id self.id
             × WasKnown R.rests (R.holds self.fixed) seat.old.id seat.old.view result.start }
     {
-        let Words { words, marker: _ } = self;
-        Words {
+        let StripWords { words, marker: _ } = self;
+        StripWords {
             words,
             marker: PhantomData,
         }

@@ -11,10 +11,10 @@ ghost use Rattle.seize_atoms.specs.Placed.{IsItsIndex};
 use crate::rule::Rule;
 use crate::seat::Seat;
 use crate::strip::Strip;
-use crate::words::Words;
+use crate::words::StripWords;
 use seize_seats::Kept;
 
-impl<T, R: Rule<T>> Words<T, R> {
+impl<T, R: Rule<T>> StripWords<T, R> {
     /// Where what is kept of a block lies, for as long as the words and both seats are borrowed. The index is that of its number in the strip, if there is such
     /// a block.
     pub fn value<'g>(

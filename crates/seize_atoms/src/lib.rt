@@ -16,4 +16,4 @@ pub use rule::{Lesson, Meeting, Rule, Turn};
 pub use seat::Seat;
 pub use strip::Strip;
 pub use task::{Charge, Task};
-pub use words::Words;
+pub use words::StripWords;

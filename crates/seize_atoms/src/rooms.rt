@@ -15,14 +15,14 @@ ghost use Rattle.seize_atoms.specs.Placed.{HasWord};
 use crate::rule::Rule;
 use crate::seat::Seat;
 use crate::strip::Strip;
-use crate::words::Words;
+use crate::words::StripWords;
 use seize_seats::{Address, Piece, Pieces};
 use std::marker::{Brand, PhantomData};
 use std::ptr::null_mut;
 use std::sync::atomic::Ordering::SeqCst;
 use std::sync::atomic::raw;
 
-impl<T, R: Rule<T>> Words<T, R> {
+impl<T, R: Rule<T>> StripWords<T, R> {
     /// Asks for the words of the first bucket of slots, which are there from now on, or for those of one that has no door.
     pub fn room(&self, seat: &mut Seat<T, R>, bucket: u64)
         requires { (seat.old.base ≡ self.now.id.views_name) × ((bucket ≡ 0) ⊎ (32 < bucket))

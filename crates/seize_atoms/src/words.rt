@@ -24,7 +24,7 @@ use crate::claim::Claim;
 use crate::rule::{Lesson, Meeting, Rule, Turn};
 use crate::seat::Seat;
 use crate::strip::Strip;
-use seize_seats::{Alone, Deed, Doors, Kept, Piece, Pieces, Place, Row};
+use seize_seats::{Doors, Kept, OwnedStrips, Piece, Pieces, Row, StripRight, ValuePlaces};
 use seize_words::At;
 use std::alloc::Global;
 use std::marker::{Brand, Model, PhantomData};
@@ -33,7 +33,7 @@ use std::sync::atomic::Ordering::SeqCst;
 use std::sync::atomic::raw;
 
 /// Words, and places for values, by one strip of the numbers of a memory. `start` is what the memory was as its present lifetime began.
-pub struct Words<T, R: Rule<T>> {
+pub struct StripWords<T, R: Rule<T>> {
     pub words: *mut u64,
     pub(crate) marker: PhantomData<(T, R)>,
     pub ghost id: { BaseId } by { base_id_coded },
@@ -41,13 +41,13 @@ pub struct Words<T, R: Rule<T>> {
     pub ghost start: { Mem T } by { memory_coded T.code },
 }
 
-impl<T, R: Rule<T>> Model for Words<T, R> {
+impl<T, R: Rule<T>> Model for StripWords<T, R> {
     ghost also_owns = { λ s. words_own (KeptOf T.row) kept_words (seat_coded R.View.row.coded) (HoldsSince R.rests R.leans s.start (R.holds s.fixed) R.keeps) s.words s.id };
 
     ghost also_shares = { λ s _ κ. words_share (KeptOf T.row) kept_words (seat_coded R.View.row.coded) (HoldsSince R.rests R.leans s.start (R.holds s.fixed) R.keeps) s.words s.id κ };
 }
 
-impl<T, R: Rule<T>> Words<T, R> {
+impl<T, R: Rule<T>> StripWords<T, R> {
     /// The words, each 0, of so many roots go under the rule, with places for so many values, each of them empty. There are `most` numbers at most.
     pub fn open(
         row: Row<u64>,
@@ -57,7 +57,7 @@ impl<T, R: Rule<T>> Words<T, R> {
         _count: u64,
         _most: u64,
         fixed: &R::Fixed,
-    ) -> (Self, Place<T>, Doors)
+    ) -> (Self, ValuePlaces<T>, Doors)
         requires { ((k : ℕ) → slice_index row.items k ≡ 0) × (length row.items ≡ whole _roots _count) × Starts (R.holds fixed.now) _roots
             × ((k : ℕ) → slice_index_or values.items k None ≡ None) × (length values.items ≡ _count)
             × ((k : ℕ) → slice_index_or doors.items k null_ptr ≡ null_ptr) × (length doors.items ≡ 64)
@@ -71,11 +71,11 @@ impl<T, R: Rule<T>> Words<T, R> {
         let Row { at: places } = values;
         let Row { at: shut } = doors;
         (
-            Words {
+            StripWords {
                 words: at,
                 marker: PhantomData,
             },
-            Place { at: places },
+            ValuePlaces { at: places },
             Doors { at: shut },
         )
     }
@@ -89,7 +89,7 @@ impl<T, R: Rule<T>> Words<T, R> {
         Row<u64>,
         Row<Option<Kept<T>>>,
         Row<*mut u64>,
-        Alone<T>,
+        OwnedStrips<T>,
         Pieces,
         Pieces,
     )
@@ -100,12 +100,12 @@ impl<T, R: Rule<T>> Words<T, R> {
             × Filled result.2.filled 0 (length result.2.items) × AreBehind (IsFurther (KeptOf T.row) self.id.least) 0 result.3.strips (take 32 result.2.items)
             × (result.4.spots ≡ map spot_of result.1.items) × AreBucketsBehind 32 result.5.spots result.2.items }
     {
-        let Words { words, marker: _ } = self;
+        let StripWords { words, marker: _ } = self;
         (
             Row { at: words },
             Row { at: values },
             Row { at: doors },
-            Alone {
+            OwnedStrips {
                 marker: PhantomData,
             },
             Pieces {
@@ -201,8 +201,8 @@ impl<T, R: Rule<T>> Words<T, R> {
         index: u64,
         places: Row<Option<Kept<T>>>,
         words: Row<u64>,
-        deed: Deed<Kept<T>, Global>,
-    ) -> (Result<*mut u64, *mut u64>, Place<T>, Alone<T>)
+        deed: StripRight<Kept<T>, Global>,
+    ) -> (Result<*mut u64, *mut u64>, ValuePlaces<T>, OwnedStrips<T>)
         requires { (core_of last.now.id ≡ core_of self.now.id) × InBlock last.now.words × (last.now.id.place ≡ index)
             × (last.now.id.first + last.now.id.size ≡ deed.count) × (deed.count ≡ self.now.id.least * 2 ^ index)
             × (deed.count + deed.count ≤ self.now.id.count) × (doors ≡ self.now.id.doors) × (index < 32)
@@ -213,7 +213,7 @@ impl<T, R: Rule<T>> Words<T, R> {
             × (block_bytes (KeptOf T.row) deed.count < 2 ^ 63) }
         ensures { IfErr result.0 (λ _. HasFirst (KeptOf T.row) result.1.at deed.count result.2.strips × (result.2.fresh ≡ true)) }
     {
-        let Deed { marker: _ } = deed;
+        let StripRight { marker: _ } = deed;
         let Row { at } = places;
         let Row { at: _ } = words;
         let found = unsafe {
@@ -227,8 +227,8 @@ impl<T, R: Rule<T>> Words<T, R> {
         };
         (
             found,
-            Place { at },
-            Alone {
+            ValuePlaces { at },
+            OwnedStrips {
                 marker: PhantomData,
             },
         )
@@ -261,12 +261,12 @@ impl<T, R: Rule<T>> Words<T, R> {
     }
 
     /// The words of a strip of the same memory, for as long as both are borrowed. A strip is laid out as they are: both are one address.
-    pub fn by<'g>(&'g self, strip: &'g Strip<T>) -> &'g Words<T, R>
+    pub fn by<'g>(&'g self, strip: &'g Strip<T>) -> &'g StripWords<T, R>
         requires { (core_of strip.now.id ≡ core_of self.now.id) × InBlock strip.now.words }
         ensures { (result.now.words ≡ strip.now.words) × (result.now.id ≡ strip.now.id) × (result.now.fixed ≡ self.now.fixed)
             × (strip.now.id.views_name ≡ self.now.id.views_name) × (strip.now.id.hands_name ≡ self.now.id.hands_name) }
     {
-        unsafe { &*(strip as *const Strip<T> as *const Words<T, R>) }
+        unsafe { &*(strip as *const Strip<T> as *const StripWords<T, R>) }
     }
 
     /// Tries to claim a number, whose sign lies at this place: it was free where 0 is found.
@@ -478,6 +478,6 @@ impl<T, R: Rule<T>> Words<T, R> {
     }
 }
 
-unsafe impl<T: Send + Sync, R: Rule<T>> Send for Words<T, R> {}
+unsafe impl<T: Send + Sync, R: Rule<T>> Send for StripWords<T, R> {}
 
-unsafe impl<T: Send + Sync, R: Rule<T>> Sync for Words<T, R> {}
+unsafe impl<T: Send + Sync, R: Rule<T>> Sync for StripWords<T, R> {}

@@ -7,7 +7,7 @@ ghost use Rattle.seize_seats.specs.Seats.State.{Allows};
 ghost use Rattle.seize_atoms.specs.Visiting.{HoldsHere};
 ghost use Rattle.seize_atoms.specs.Placed.{IsItsPlace};
 
-use seize_atoms::{Rule, Seat, Words};
+use seize_atoms::{Rule, Seat, StripWords};
 use seize_words::At;
 
 /// An operation on one word.
@@ -27,7 +27,7 @@ pub(crate) trait Access<T, R: Rule<T>>: Sized {
     /// Makes it on the word of a name, which lies so many words on from this address.
     fn made(
         self,
-        words: &Words<T, R>,
+        words: &StripWords<T, R>,
         seat: &mut Seat<T, R>,
         at: &At,
         address: *mut u64,
@@ -57,7 +57,7 @@ impl<T, R: Rule<T>> Access<T, R> for Loads {
     #[inline(always)]
     fn made(
         self,
-        words: &Words<T, R>,
+        words: &StripWords<T, R>,
         seat: &mut Seat<T, R>,
         at: &At,
         address: *mut u64,
@@ -83,7 +83,7 @@ impl<T, R: Rule<T>> Access<T, R> for Stores {
     #[inline(always)]
     fn made(
         self,
-        words: &Words<T, R>,
+        words: &StripWords<T, R>,
         seat: &mut Seat<T, R>,
         at: &At,
         address: *mut u64,
@@ -109,7 +109,7 @@ impl<T, R: Rule<T>> Access<T, R> for Swaps {
     #[inline(always)]
     fn made(
         self,
-        words: &Words<T, R>,
+        words: &StripWords<T, R>,
         seat: &mut Seat<T, R>,
         at: &At,
         address: *mut u64,
@@ -135,7 +135,7 @@ impl<T, R: Rule<T>> Access<T, R> for Adds {
     #[inline(always)]
     fn made(
         self,
-        words: &Words<T, R>,
+        words: &StripWords<T, R>,
         seat: &mut Seat<T, R>,
         at: &At,
         address: *mut u64,
@@ -161,7 +161,7 @@ impl<T, R: Rule<T>> Access<T, R> for Sets {
     #[inline(always)]
     fn made(
         self,
-        words: &Words<T, R>,
+        words: &StripWords<T, R>,
         seat: &mut Seat<T, R>,
         at: &At,
         address: *mut u64,
@@ -190,7 +190,7 @@ impl<T, R: Rule<T>> Access<T, R> for Exchanges {
     #[inline(always)]
     fn made(
         self,
-        words: &Words<T, R>,
+        words: &StripWords<T, R>,
         seat: &mut Seat<T, R>,
         at: &At,
         address: *mut u64,

@@ -9,8 +9,8 @@ ghost use Rattle.seize_seats.specs.Seats.Lendings.{Shown, ShownToBoth, IsValueOf
 
 use crate::access::{Adds, Exchanges, Loads, Sets, Stores, Swaps};
 use crate::errand::{Charged, Errand, ErrandWith, Sent};
-use seize_atoms::{Lesson, Meeting, Rule, Seat, Turn, Words};
-use seize_seats::{Doors, Kept, Laid, Place, give_words, lay_words};
+use seize_atoms::{Lesson, Meeting, Rule, Seat, StripWords, Turn};
+use seize_seats::{Doors, Kept, Laid, ValuePlaces, give_words, lay_words};
 use seize_words::At;
 use std::alloc::Global;
 
@@ -21,10 +21,10 @@ pub(crate) const MOST: u64 = 4294967296;
 /// and as many again with each further one, which is laid where it is needed. Words of a block's own lie in memory beside it.
 pub struct Blocks<T, R: Rule<T>> {
     pub(crate) alloc: Global,
-    pub words: Words<T, R>,
+    pub words: StripWords<T, R>,
     pub(crate) roots: u64,
     pub(crate) count: u64,
-    pub(crate) values: Place<T>,
+    pub(crate) values: ValuePlaces<T>,
     pub(crate) doors: Doors,
     ghost counted: { (words.id.roots ≡ roots) × (words.id.count ≡ 2 ^ 32) × (words.id.least ≡ count) },
     ghost lies: { (words.id.values ≡ values.at) × (words.id.doors ≡ doors.at) },

@@ -8,9 +8,10 @@ ghost use Rattle.seize_seats.specs.Seats.Lines.{whole};
 ghost use Rattle.seize_seats.specs.Seats.Owned.{IsLike};
 
 use crate::blocks::{Blocks, MOST};
-use seize_atoms::{Rule, Seat, Words};
+use seize_atoms::{Rule, Seat, StripWords};
 use seize_seats::{
-    Doors, Ground, Kept, Place, clear, clear_rooms, drain, give_back, lay, lay_doors, lay_empty,
+    Doors, Ground, Kept, ValuePlaces, clear, clear_rooms, drain, give_back, lay, lay_doors,
+    lay_empty,
 };
 use std::alloc::{AllocError, Global};
 
@@ -47,7 +48,7 @@ impl<T: Drop, R: Rule<T>> Home<T, R> {
         };
         match lay_empty::<Kept<T>>(alloc, count as usize) {
             Ok((empty, places)) => {
-                let (words, values, doors) = Words::open(
+                let (words, values, doors) = StripWords::open(
                     row, empty, nulls, roots, count, MOST, fixed,
                 );
                 let blocks = Blocks {
@@ -138,7 +139,7 @@ impl<T: Drop, R: Rule<T>> Drop for Home<T, R> {
             values,
             doors,
         } = blocks;
-        let Place { at } = values;
+        let ValuePlaces { at } = values;
         let Doors { at: nulls } = doors;
         let (row, kept, shut, strips, pieces, rooms) = words.close(at, nulls);
         let mut open = shut.into_slots(DOORS);

@@ -14,4 +14,4 @@ mod rooms;
 pub use blocks::Blocks;
 pub use errand::{Errand, ErrandWith};
 pub use home::Home;
-pub use seize_atoms::{Lesson, Meeting, Rule, Seat, Turn, Words};
+pub use seize_atoms::{Lesson, Meeting, Rule, Seat, StripWords, Turn};

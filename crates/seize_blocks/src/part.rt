@@ -2,7 +2,7 @@
 ghost use Rattle.std.specs.Prelude.{◌≡◌, ◌+◌, ◌*◌, ◌^◌, ◌<◌, ◌≤◌};
 
 use seize_atoms::Strip;
-use seize_seats::{Address, Kept, Place};
+use seize_seats::{Address, Kept, ValuePlaces};
 
 /// A strip, where its values lie, how many numbers come before its own and how many it has, and how many words come before theirs.
 #[derive(Drop)]
@@ -34,10 +34,10 @@ pub(crate) struct Reached<T> {
 }
 
 /// Where the places of a further strip lie: at its own address, if it has one.
-pub(crate) fn places_in<T>(strip: &Strip<T>) -> Place<T>
+pub(crate) fn places_in<T>(strip: &Strip<T>) -> ValuePlaces<T>
     ensures { result.at ≡ strip.now.words }
 {
-    Place {
+    ValuePlaces {
         at: strip.words as *mut Option<Kept<T>>,
     }
 }

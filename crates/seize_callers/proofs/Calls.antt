@@ -13,8 +13,8 @@ use Rattle.seize_views.specs.Views.Notes.{NotedHolds, NotedKeeps, noted_told}
 use Rattle.seize_views.specs.Views.Promises.{Names, HasMade, IsLooking}
 use Rattle.seize_views.specs.Views.Told.{seen_in, seen_as, made_beside, told}
 use Rattle.seize_views.specs.declared.view.Noted.{Noted}
-use Rattle.seize_views.specs.declared.view.View.{View}
-use Rattle.seize_views.specs.declared.view.View.TheVariants.{Outside, Inside}
+use Rattle.seize_views.specs.declared.view.SlotView.{SlotView}
+use Rattle.seize_views.specs.declared.view.SlotView.TheVariants.{Outside, Inside}
 use Rattle.seize_views.specs.declared.view.Has.{Has}
 use Rattle.seize_views.specs.declared.view.Has.TheVariants.{Nothing, Made, Seen, Both, Cut}
 use Rattle.seize_views.specs.declared.view.Fixed.{Fixed}
@@ -33,10 +33,10 @@ link_names b word lt link = ap block_in (link ∙ whole_link b lt) ∙ block_of_
 
 module _ {T : Type 0} (defers : T → Option ℕ) (fixed : Fixed) (id : ℕ) (v : Noted T) where
   -- what may be done by what the seat knows, it may do, and notes it
-  pub by_view : (w : View T) (op : Op T) → v.knows ≡ w → IsOwn w → Permits defers fixed id w op (told defers w op)
+  pub by_view : (w : SlotView T) (op : Op T) → v.knows ≡ w → IsOwn w → Permits defers fixed id w op (told defers w op)
       → Allows (NotedHolds defers fixed) NotedKeeps id v op (noted_told defers v op)
   by_view w op is own may =
-      allows defers fixed id v op (subst IsOwn (sym is) own) (subst (λ (x : View T). Permits defers fixed id x op (told defers x op)) (sym is) may)
+      allows defers fixed id v op (subst IsOwn (sym is) own) (subst (λ (x : SlotView T). Permits defers fixed id x op (told defers x op)) (sym is) may)
 
 module _ {T : Type 0} (defers : T → Option ℕ) (fixed : Fixed) (id : ℕ) (v : Noted T) (slot : ℕ) where
   abbrev MayMake : Op T → Type 0
@@ -88,20 +88,20 @@ module _ {T : Type 0} (defers : T → Option ℕ) (fixed : Fixed) (id : ℕ) (v 
   pub is_shown : (has : Has T) (b : ℕ) → v.knows ≡ Inside slot has → Names has b → Shown (NotedHolds defers fixed) id v b
   is_shown has b is names =
       (looks_are_noted T defers fixed id v b).0
-      (subst (λ (x : View T). Shown (Holds defers fixed) id x b) (sym is) (known_are_shown T defers has b fixed id slot names))
+      (subst (λ (x : SlotView T). Shown (Holds defers fixed) id x b) (sym is) (known_are_shown T defers has b fixed id slot names))
 
-module _ {T : Type 0} (defers : T → Option ℕ) (v w : View T) (slot : ℕ) where
+module _ {T : Type 0} (defers : T → Option ℕ) (v w : SlotView T) (slot : ℕ) where
   pub seen_told : (has : Has T) (r word : ℕ) → IsLooking has → v ≡ Inside slot has → told defers v (Load (Root r)) (Found word) w → w ≡ Inside slot (seen_in word)
-  seen_told Nothing r word looks is so = let k = subst (λ (x : View T). told defers x (Load (Root r)) (Found word) w) is so in k.2 ∙ ap (Inside slot) k.1
-  seen_told (Seen b) r word looks is so = let k = subst (λ (x : View T). told defers x (Load (Root r)) (Found word) w) is so in k.2 ∙ ap (Inside slot) k.1
+  seen_told Nothing r word looks is so = let k = subst (λ (x : SlotView T). told defers x (Load (Root r)) (Found word) w) is so in k.2 ∙ ap (Inside slot) k.1
+  seen_told (Seen b) r word looks is so = let k = subst (λ (x : SlotView T). told defers x (Load (Root r)) (Found word) w) is so in k.2 ∙ ap (Inside slot) k.1
   seen_told (Made b x) r word looks is so = absurd looks
   seen_told (Both b x a) r word looks is so = absurd looks
   seen_told (Cut b) r word looks is so = absurd looks
 
   pub marked_told : (has : Has T) (r bits word : ℕ) → IsLooking has → v ≡ Inside slot has → told defers v (Or (Root r) bits) (Found word) w
       → w ≡ Inside slot (seen_in word)
-  marked_told Nothing r bits word looks is so = let k = subst (λ (x : View T). told defers x (Or (Root r) bits) (Found word) w) is so in k.2 ∙ ap (Inside slot) k.1
-  marked_told (Seen b) r bits word looks is so = let k = subst (λ (x : View T). told defers x (Or (Root r) bits) (Found word) w) is so in k.2 ∙ ap (Inside slot) k.1
+  marked_told Nothing r bits word looks is so = let k = subst (λ (x : SlotView T). told defers x (Or (Root r) bits) (Found word) w) is so in k.2 ∙ ap (Inside slot) k.1
+  marked_told (Seen b) r bits word looks is so = let k = subst (λ (x : SlotView T). told defers x (Or (Root r) bits) (Found word) w) is so in k.2 ∙ ap (Inside slot) k.1
   marked_told (Made b x) r bits word looks is so = absurd looks
   marked_told (Both b x a) r bits word looks is so = absurd looks
   marked_told (Cut b) r bits word looks is so = absurd looks

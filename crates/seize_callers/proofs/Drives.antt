@@ -24,8 +24,8 @@ use Rattle.seize_views.specs.Views.Watched.{known_by}
 use Rattle.seize_views.specs.declared.view.Began.{Began}
 use Rattle.seize_views.specs.declared.view.Noted.{Noted}
 use Rattle.seize_views.specs.declared.view.Deed.{Deed}
-use Rattle.seize_views.specs.declared.view.View.{View}
-use Rattle.seize_views.specs.declared.view.View.TheVariants.{Rests, Registers, Outside, Owes, Enters, Inside, Settles, Leaves, Left, Frees, Brings, Bears, Watches, Under, Busy}
+use Rattle.seize_views.specs.declared.view.SlotView.{SlotView}
+use Rattle.seize_views.specs.declared.view.SlotView.TheVariants.{Rests, Registers, Outside, Owes, Enters, Inside, Settles, Leaves, Left, Frees, Brings, Bears, Watches, Under, Busy}
 use Rattle.seize_views.specs.declared.view.Fixed.{Fixed}
 use Rattle.seize_views.proofs.Views.Looks.{once}
 use Rattle.seize_views.proofs.Views.Makes.{IsDo, IsNoRewrite, may_by, was_made}
@@ -44,7 +44,7 @@ module _ {T : Type 0} (defers : T → Option ℕ) where
   registering_none c registering_at.Begin = tt
   registering_none c _ = tt
 
-  none_rewrites : (v : View T) → IsNoRewrite (op_of defers v)
+  none_rewrites : (v : SlotView T) → IsNoRewrite (op_of defers v)
   none_rewrites Rests = tt
   none_rewrites (Registers c) = registering_none c c.stands
   none_rewrites (Outside t) = tt
@@ -61,7 +61,7 @@ module _ {T : Type 0} (defers : T → Option ℕ) where
   none_rewrites (Under n t b) = tt
   none_rewrites (Busy t) = tt
 
-  pub not_rewrite : (v : View T) (b : ℕ) (x : T) → op_of defers v ≡ Some (Rewrite b x) → ⊥
+  pub not_rewrite : (v : SlotView T) (b : ℕ) (x : T) → op_of defers v ≡ Some (Rewrite b x) → ⊥
   not_rewrite v b x e = subst IsNoRewrite e (none_rewrites v)
 
 module _ {T M X Y : Type 0} (defers : T → Option ℕ) (notes : M → Noted T) (beside : M → X) (blocks : M → Y) (else_may : M → Op T → Type 0) where
@@ -77,18 +77,18 @@ module _ {T M X Y : Type 0} (defers : T → Option ℕ) (notes : M → Noted T) 
   module _ (m : M) (c : Settle) (task : Task T) (is : IsSettling task c (notes m)) (ne : c.stands ≡ at.Over → ⊥) where
     -- what is told of a settling's operation
     goes_on : (op : Op T) (out : Out T) (n : M) → Has m op out n → GoesOn defers c task.why is.1 out (notes n).knows
-    goes_on op out n made = subst (λ (v : View T). told defers v op out (notes n).knows) (ap known_by is.2) made.2.0
+    goes_on op out n made = subst (λ (v : SlotView T). told defers v op out (notes n).knows) (ap known_by is.2) made.2.0
 
     -- and what was noted stays
-    stays_noted : (op : Op T) (out : Out T) (n : M) (v : View T) → Has m op out n → (notes n).knows ≡ v → notes n ≡ noted v task.did task.began task.guards
+    stays_noted : (op : Op T) (out : Out T) (n : M) (v : SlotView T) → Has m op out n → (notes n).knows ≡ v → notes n ≡ noted v task.did task.began task.guards
     stays_noted op out n v made e =
-        ap (λ (x : View T). noted x (notes n).did (notes n).began (notes n).guards) e
+        ap (λ (x : SlotView T). noted x (notes n).did (notes n).began (notes n).guards) e
         ∙ ap (λ (x : Deed T). noted v x (notes n).began (notes n).guards) (made.2.1 ∙ ap (λ (x : Noted T). deed x.knows x.did op out) is.2)
         ∙ ap (λ (x : Began). noted v task.did x (notes n).guards) (made.2.2 ∙ ap (λ (x : Noted T). x.began) is.2)
         ∙ ap (noted v task.did task.began) (made.2.3 ∙ ap (λ (x : Noted T). x.guards) is.2)
 
     shows : (n : M) (d : Settle) (seen : Option (ℕ × T)) (left : ℕ) → (notes n).knows ≡ Settles d task.why seen left → shown n ≡ shown_by seen
-    shows n d seen left e = ap (λ (v : View T). shown_in v) e
+    shows n d seen left e = ap (λ (v : SlotView T). shown_in v) e
 
     pub may_step : May Can Has shown m (settle_plan defers c)
     may_step =
@@ -125,10 +125,10 @@ module _ {T V W B : Type 0} (holds : Fixed → State T V W → Type 0) (keeps : 
   some_same true o is = refl
   some_same false o is = absurd (cc is)
 
-  abbrev IsShownIn : View T → ℕ → Type 0
+  abbrev IsShownIn : SlotView T → ℕ → Type 0
   IsShownIn w b = Shown (holds fixed) id v b × ((y : T) → IsValueOf (holds fixed) id v b y → shown_in w b ≡ Some y)
 
-  known_looked : (w : View T) (b : ℕ) → (notes v).knows ≡ w → IsSome (shown_in w b) → IsShownIn w b
+  known_looked : (w : SlotView T) (b : ℕ) → (notes v).knows ≡ w → IsSome (shown_in w b) → IsShownIn w b
   known_looked (Settles c why (Some (a, x)) left) b at is =
       let e : a ≡ b = sym (eqb-true b a (some_same (b == a) (Some x) is)) in
       let k = law fixed id v c why a left x at in (

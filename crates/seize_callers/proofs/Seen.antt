@@ -10,8 +10,8 @@ use Rattle.seize.specs.Register.{further, taking, can_be_taken, bucket_needed}
 use Rattle.seize_views.specs.Views.Told.{left_by, told}
 use Rattle.seize_views.specs.Views.Begun.{seeker_at}
 use Rattle.seize_callers.specs.Seeking.{seeks}
-use Rattle.seize_views.specs.declared.view.View.{View}
-use Rattle.seize_views.specs.declared.view.View.TheVariants.{Registers}
+use Rattle.seize_views.specs.declared.view.SlotView.{SlotView}
+use Rattle.seize_views.specs.declared.view.SlotView.TheVariants.{Registers}
 
 -- a head that says that its slot can be taken
 pub free_head : (seen : ℕ) → ((seen ≡ NEVER → ⊥) × (seen ≡ FREE)) ⊎ (seen ≡ NEVER) → can_be_taken seen ≡ true
@@ -22,9 +22,9 @@ free_head seen (inr e) = subst (λ (k : ℕ). can_be_taken k ≡ true) (sym e) r
 pub seeks_here : {T : Type 0} (slot : ℕ) → slot < LAST_SLOT + 1 → seeks {T = T} slot ≡ Registers (seeker_at slot at.Look)
 seeks_here slot lt = rw (let k : nat_lt slot (LAST_SLOT + 1) ≡ true = grind (arith, lt) in k) refl
 
-module _ (T : Type 0) (defers : T → Option ℕ) (v w : View T) where
+module _ (T : Type 0) (defers : T → Option ℕ) (v w : SlotView T) where
   known : (c : Register) (op : Op T) (out : Out T) → v ≡ Registers c → told defers v op out w → told defers (Registers c) op out w
-  known c op out is told_so = subst (λ (x : View T). told defers x op out w) is told_so
+  known c op out is told_so = subst (λ (x : SlotView T). told defers x op out w) is told_so
 
   module _ (slot seen : ℕ) where
     after_look : (b : Bool) → can_be_taken seen ≡ b → v ≡ Registers (seeker_at slot at.Look) → told defers v (Load (Slot slot HEAD)) (Found seen) w

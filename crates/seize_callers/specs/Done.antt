@@ -3,11 +3,11 @@ use Rattle.std.specs.Prelude.{◌≡◌, ℕ}
 use Rattle.seize_views.specs.Views.Promises.{IsLooking}
 use Rattle.seize_views.specs.declared.view.Has.{Has}
 use Rattle.seize_views.specs.declared.view.Noted.{Noted}
-use Rattle.seize_views.specs.declared.view.View.{View}
-use Rattle.seize_views.specs.declared.view.View.TheVariants.{Inside}
+use Rattle.seize_views.specs.declared.view.SlotView.{SlotView}
+use Rattle.seize_views.specs.declared.view.SlotView.TheVariants.{Inside}
 
 -- it holds this slot, whose section is open, and has no block in its hand
-abbrev pub IsLookingWithin : {T : Type 0} → ℕ → View T → Type 0
+abbrev pub IsLookingWithin : {T : Type 0} → ℕ → SlotView T → Type 0
 IsLookingWithin {T} slot w = (has : Has T) × IsLooking has × (w ≡ Inside slot has)
 
 -- this is so of its notes, and nothing else has changed

@@ -10,8 +10,8 @@ use Rattle.seize_views.specs.declared.view.Fixed.{Fixed}
 use Rattle.seize_views.specs.declared.view.Noted.{Noted}
 use Rattle.seize_views.specs.declared.view.Deed.{Deed}
 use Rattle.seize_views.specs.declared.view.Began.{Began}
-use Rattle.seize_views.specs.declared.view.View.{View}
-use Rattle.seize_views.specs.declared.view.View.TheVariants.{Settles}
+use Rattle.seize_views.specs.declared.view.SlotView.{SlotView}
+use Rattle.seize_views.specs.declared.view.SlotView.TheVariants.{Settles}
 use Rattle.seize_views.specs.declared.view.Why.{Why}
 
 -- why a seat settles, and what it has done and begun last meanwhile
@@ -27,7 +27,7 @@ module _ {T : Type 0} where
   task_of why v = record { why = why; did = v.did; began = v.began; guards = v.guards }
 
   -- what a settling is about to look at
-  abbrev pub shown_in : View T → ℕ → Option T
+  abbrev pub shown_in : SlotView T → ℕ → Option T
   shown_in (Settles c why seen left) b = shown_by seen b
   shown_in _ b = None
 
@@ -36,7 +36,7 @@ module _ {T : Type 0} where
   IsSettling task c v = (seen : Option (ℕ × T)) × (left : ℕ) × (v ≡ noted (Settles c task.why seen left) task.did task.began task.guards)
 
   -- within so many further steps
-  abbrev pub left_of : View T → ℕ
+  abbrev pub left_of : SlotView T → ℕ
   left_of (Settles c why seen left) = left
   left_of _ = 0
 

@@ -5,7 +5,7 @@ ghost use Rattle.seize.specs.World.{HasListWord};
 ghost use Rattle.seize_callers.specs.Kept.{is_home};
 ghost use Rattle.seize_views.specs.Views.Promises.{IsLooking};
 ghost use Rattle.seize_views.specs.declared.view.Began.TheVariants.{Section};
-ghost use Rattle.seize_views.specs.declared.view.View.TheVariants.{Rests, Outside, Inside};
+ghost use Rattle.seize_views.specs.declared.view.SlotView.TheVariants.{Rests, Outside, Inside};
 ghost use Rattle.seize_views.specs.declared.view.Has.{Has};
 ghost use Rattle.seize_views.specs.declared.view.Has.TheVariants.{Nothing};
 
@@ -16,7 +16,7 @@ mod settling;
 mod watch;
 
 use crate::errands::{Enters, Frees, Registers};
-pub use pass::Pass;
+pub use pass::PassSeat;
 use seize::rows::Defers;
 use seize_blocks::{Blocks, Errand, Seat};
 use seize_views::turns::Forgetting;

@@ -3,7 +3,7 @@ ghost use Rattle.std.specs.Prelude.{◌≡◌, ◌<◌, ◌^◌, IfOk, IfErr};
 ghost use Rattle.seize_callers.specs.Done.{IsDone, IsLookingWithin};
 ghost use Rattle.seize_views.specs.declared.view.Began.TheVariants.{Retirement, Section, Trial};
 ghost use Rattle.seize_views.specs.declared.view.Has.TheVariants.{Nothing, Cut};
-ghost use Rattle.seize_views.specs.declared.view.View.TheVariants.{Rests, Outside, Owes, Inside};
+ghost use Rattle.seize_views.specs.declared.view.SlotView.TheVariants.{Rests, Outside, Owes, Inside};
 
 use crate::within::Within;
 use seize::rows::Defers;

@@ -6,7 +6,7 @@ ghost use Rattle.seize_callers.specs.Kept.{kept};
 ghost use Rattle.seize_callers.specs.Seeking.{seeks};
 ghost use Rattle.seize_views.specs.Views.Begun.{seeker_at};
 ghost use Rattle.seize_views.specs.declared.view.Began.TheVariants.{Section};
-ghost use Rattle.seize_views.specs.declared.view.View.TheVariants.{Rests, Registers, Outside, Inside};
+ghost use Rattle.seize_views.specs.declared.view.SlotView.TheVariants.{Rests, Registers, Outside, Inside};
 ghost use Rattle.seize_views.specs.declared.view.Has.TheVariants.{Nothing};
 
 mod settling;
@@ -15,7 +15,7 @@ use seize::rows::{Defers, needed_bucket};
 use seize::states::{ACTIVE, FREE, HEAD, IDLE, LAST_SLOT, NEVER};
 use seize_blocks::{Blocks, Seat};
 use seize_views::Content;
-use seize_views::turns::{Entering, Freeing, Registering};
+use seize_views::turns::{Entering, Freeing, RegisteringBegins};
 use seize_words::{At, Fault, Look, Memory};
 
 /// A caller's seat on an errand, with the memory. It is a memory for the rows that it has under way.
@@ -57,7 +57,7 @@ impl<'a, T: Defers, C: Content<T>> Within<'a, T, C> {
         ensures guards { (C.notes self.new.seat.now.view).guards ≡ (C.notes self.old.seat.now.view).guards }
     {
         C::goes_on();
-        self.blocks.part::<Registering<T, C>>(&mut *self.seat);
+        self.blocks.part::<RegisteringBegins<T, C>>(&mut *self.seat);
         self.room(0)
     }
 

@@ -5,7 +5,7 @@ use crate::ground::CHOSEN;
 use seize::Fault;
 use seize_blocks::{Blocks, Home};
 use seize_shared::{Desk, DeskGuard, MOST_GUARDS, OfRows, Place, Registration, RootGuard};
-use seize_shared_tests::{Counted, Table, dropped, table};
+use seize_shared_tests::{Counted, DropCounts, dropped, table};
 use std::alloc::{AllocError, Global};
 use std::marker::Brand;
 use std::mem;
@@ -24,7 +24,7 @@ struct Drops {
 /// one.
 fn ends<B: Place>(
     blocks: &Blocks<Counted, OfRows>,
-    drops: &Table,
+    drops: &DropCounts,
     inner_first: bool,
 ) -> Option<Drops>
     requires fixed { blocks.now.words.fixed ≡ record { batch_size = 5; roots = 1 } }
@@ -65,13 +65,21 @@ fn ends<B: Place>(
 }
 
 /// The same over one memory, which ends then.
-fn both_end(alloc: Global, drops: &Table, inner_first: bool) -> Result<Option<Drops>, AllocError> {
+fn both_end(
+    alloc: Global,
+    drops: &DropCounts,
+    inner_first: bool,
+) -> Result<Option<Drops>, AllocError> {
     let home = Home::<Counted, OfRows>::open(alloc, 1, 64, &CHOSEN)?;
     Ok(ends_here(&home.blocks, drops, inner_first))
 }
 
 /// In this memory.
-fn ends_here(blocks: &Blocks<Counted, OfRows>, drops: &Table, inner_first: bool) -> Option<Drops>
+fn ends_here(
+    blocks: &Blocks<Counted, OfRows>,
+    drops: &DropCounts,
+    inner_first: bool,
+) -> Option<Drops>
     requires { blocks.now.words.fixed ≡ record { batch_size = 5; roots = 1 } }
 {
     ends::<Brand>(blocks, drops, inner_first)
@@ -135,7 +143,7 @@ fn a_desk_refuses_a_guard_where_it_has_the_most(rt: HostRuntime) -> Result<(), F
 }
 
 /// A guard that has seen a value is forgotten, and another slot takes the value away and retires it; answers how often it was dropped, once the desk has ended.
-fn forgets<B: Place>(blocks: &Blocks<Counted, OfRows>, drops: &Table) -> Option<u64>
+fn forgets<B: Place>(blocks: &Blocks<Counted, OfRows>, drops: &DropCounts) -> Option<u64>
     requires fixed { blocks.now.words.fixed ≡ record { batch_size = 5; roots = 1 } }
     requires home { blocks.now.words.id.views_name ≡ B.base }
 {
@@ -158,13 +166,13 @@ fn forgets<B: Place>(blocks: &Blocks<Counted, OfRows>, drops: &Table) -> Option<
 }
 
 /// The same over one memory, which ends then.
-fn forgets_one(alloc: Global, drops: &Table) -> Result<Option<u64>, AllocError> {
+fn forgets_one(alloc: Global, drops: &DropCounts) -> Result<Option<u64>, AllocError> {
     let home = Home::<Counted, OfRows>::open(alloc, 1, 8, &CHOSEN)?;
     Ok(forgets_here(&home.blocks, drops))
 }
 
 /// In this memory.
-fn forgets_here(blocks: &Blocks<Counted, OfRows>, drops: &Table) -> Option<u64>
+fn forgets_here(blocks: &Blocks<Counted, OfRows>, drops: &DropCounts) -> Option<u64>
     requires { blocks.now.words.fixed ≡ record { batch_size = 5; roots = 1 } }
 {
     forgets::<Brand>(blocks, drops)

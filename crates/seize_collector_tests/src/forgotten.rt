@@ -5,7 +5,7 @@ ghost use Rattle.std.specs.Prelude.{◌≡◌};
 use seize_blocks::{Blocks, Home};
 use seize_collector::reclaim_all;
 use seize_shared::{Fixed, Guard, OfRows, OwnedGuard, Registration, RootGuard};
-use seize_shared_tests::{Counted, Table, dropped, table};
+use seize_shared_tests::{Counted, DropCounts, dropped, table};
 use std::alloc::{AllocError, Global};
 use std::test::Fail;
 use std::thread::Threads;
@@ -21,7 +21,7 @@ const CHOSEN: Fixed = Fixed {
 };
 
 /// How many values of all four were dropped, or none where one was dropped twice.
-fn sum(drops: &Table) -> Option<u64> {
+fn sum(drops: &DropCounts) -> Option<u64> {
     let mut sum = 0u64;
     for place in 0..4 * EACH {
         let count = dropped(drops, place);
@@ -34,7 +34,7 @@ fn sum(drops: &Table) -> Option<u64> {
 }
 
 /// Puts its values under guards of a registration, which is forgotten.
-fn lingers(blocks: &Blocks<Counted, OfRows>, drops: &Table, from: usize) -> Option<()>
+fn lingers(blocks: &Blocks<Counted, OfRows>, drops: &DropCounts, from: usize) -> Option<()>
     requires { blocks.now.words.fixed ≡ record { batch_size = 5; roots = 1 } }
 {
     let mut registration = Registration::new(blocks, &CHOSEN).ok()?;
@@ -47,7 +47,7 @@ fn lingers(blocks: &Blocks<Counted, OfRows>, drops: &Table, from: usize) -> Opti
 }
 
 /// Puts its values under one guard of a registration. Both are forgotten.
-fn stays(blocks: &Blocks<Counted, OfRows>, drops: &Table, from: usize) -> Option<()>
+fn stays(blocks: &Blocks<Counted, OfRows>, drops: &DropCounts, from: usize) -> Option<()>
     requires { blocks.now.words.fixed ≡ record { batch_size = 5; roots = 1 } }
 {
     let mut registration = Registration::new(blocks, &CHOSEN).ok()?;
@@ -62,7 +62,7 @@ fn stays(blocks: &Blocks<Counted, OfRows>, drops: &Table, from: usize) -> Option
 }
 
 /// Puts its values under a guard with a slot of its own, which is forgotten.
-fn owns(blocks: &Blocks<Counted, OfRows>, drops: &Table, from: usize) -> Option<()>
+fn owns(blocks: &Blocks<Counted, OfRows>, drops: &DropCounts, from: usize) -> Option<()>
     requires { blocks.now.words.fixed ≡ record { batch_size = 5; roots = 1 } }
 {
     let mut guard = OwnedGuard::enter(blocks, &CHOSEN).ok()?;
@@ -75,7 +75,7 @@ fn owns(blocks: &Blocks<Counted, OfRows>, drops: &Table, from: usize) -> Option<
 }
 
 /// Puts its values, and forgets nothing.
-fn goes(blocks: &Blocks<Counted, OfRows>, drops: &Table, from: usize) -> Option<()>
+fn goes(blocks: &Blocks<Counted, OfRows>, drops: &DropCounts, from: usize) -> Option<()>
     requires { blocks.now.words.fixed ≡ record { batch_size = 5; roots = 1 } }
 {
     let mut registration = Registration::new(blocks, &CHOSEN).ok()?;
@@ -96,7 +96,7 @@ fn visits(blocks: &Blocks<Counted, OfRows>) -> Option<u64>
 }
 
 /// Two of the threads, each of which forgets a guard.
-fn guards<R: Threads + Sync>(rt: &R, blocks: &Blocks<Counted, OfRows>, drops: &Table) -> bool
+fn guards<R: Threads + Sync>(rt: &R, blocks: &Blocks<Counted, OfRows>, drops: &DropCounts) -> bool
     requires { blocks.now.words.fixed ≡ record { batch_size = 5; roots = 1 } }
 {
     let (first, second) = thread::join(
@@ -108,7 +108,11 @@ fn guards<R: Threads + Sync>(rt: &R, blocks: &Blocks<Counted, OfRows>, drops: &T
 }
 
 /// And two, one of which forgets its registration.
-fn registrations<R: Threads + Sync>(rt: &R, blocks: &Blocks<Counted, OfRows>, drops: &Table) -> bool
+fn registrations<R: Threads + Sync>(
+    rt: &R,
+    blocks: &Blocks<Counted, OfRows>,
+    drops: &DropCounts,
+) -> bool
     requires { blocks.now.words.fixed ≡ record { batch_size = 5; roots = 1 } }
 {
     let (first, second) = thread::join(
@@ -123,7 +127,7 @@ fn registrations<R: Threads + Sync>(rt: &R, blocks: &Blocks<Counted, OfRows>, dr
 fn reclaims<R: Threads + Sync>(
     rt: &R,
     alloc: Global,
-    drops: &Table,
+    drops: &DropCounts,
 ) -> Result<(bool, Option<u64>, Option<u64>, Option<u64>, Option<u64>), AllocError> {
     let mut home = Home::<Counted, OfRows>::open(alloc, 1, 64, &CHOSEN)?;
     let forgot = guards(rt, &home.blocks, drops);

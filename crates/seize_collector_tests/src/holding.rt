@@ -4,7 +4,7 @@ ghost use Rattle.std.specs.Prelude.{◌≡◌, true};
 use seize::Fault;
 use seize::rows::Defers;
 use seize_collector::{Content, Guard, OfRows, Registration, RootGuard, Shared};
-use seize_shared_tests::{Counted, Table, dropped, opened, table};
+use seize_shared_tests::{Counted, DropCounts, dropped, opened, table};
 use std::alloc::Global;
 use std::sync::Arc;
 use std::test::Fail;
@@ -16,7 +16,7 @@ where
     OfRows: Content<Counted>,
 {
     registration: Registration<'a, Counted>,
-    drops: Table,
+    drops: DropCounts,
 }
 
 /// Begins the section of a guard anew, whatever else there is in its memory.
@@ -44,7 +44,7 @@ impl<'a> Writer<'a> {
 }
 
 /// Puts two values, one in the place of the other, and answers how often each was dropped by then.
-fn two(collector: &Shared<'_, Counted>, drops: &Table, own: Table) -> Option<(u64, u64)> {
+fn two(collector: &Shared<'_, Counted>, drops: &DropCounts, own: DropCounts) -> Option<(u64, u64)> {
     let registration = collector.register().ok()?;
     let mut writer = Writer {
         registration,
@@ -56,7 +56,11 @@ fn two(collector: &Shared<'_, Counted>, drops: &Table, own: Table) -> Option<(u6
 }
 
 /// The same over one collector, which ends then.
-fn two_alone(alloc: Global, drops: &Table, own: Table) -> Result<Option<(u64, u64)>, Fault> {
+fn two_alone(
+    alloc: Global,
+    drops: &DropCounts,
+    own: DropCounts,
+) -> Result<Option<(u64, u64)>, Fault> {
     let collector = opened(alloc)?;
     Ok(two(&collector.shared(), drops, own))
 }

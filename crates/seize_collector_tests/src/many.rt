@@ -1,7 +1,7 @@
 //! More slots at once than the first bucket has.
 use seize::Fault;
 use seize_collector::{Guard, OwnedGuard, Registration, RootGuard, Shared};
-use seize_shared_tests::{Counted, Table, all_are, dropped, opened, table};
+use seize_shared_tests::{Counted, DropCounts, all_are, dropped, opened, table};
 use std::alloc::Global;
 use std::sync::atomic::Ordering::SeqCst;
 use std::test::Fail;
@@ -36,7 +36,7 @@ fn enters_all<'a>(alloc: Global, collector: &Shared<'a, Counted>) -> Guards<'a> 
 }
 
 /// Counts the slots of guards at their places of a table, and tells whether each of them lends a value that was not dropped.
-fn all_lend(guards: &Guards<'_>, slots: &Table) -> bool {
+fn all_lend(guards: &Guards<'_>, slots: &DropCounts) -> bool {
     let mut all = true;
     for guard in guards {
         if let Some(count) = slots.get(guard.thread_id() as usize) {
@@ -54,7 +54,7 @@ fn all_lend(guards: &Guards<'_>, slots: &Table) -> bool {
 /// Puts values at the root, each in the place of the one before; tells whether each is there.
 fn puts(
     registration: &mut Registration<'_, Counted>,
-    drops: &Table,
+    drops: &DropCounts,
     from: usize,
     end: usize,
 ) -> bool {
@@ -75,8 +75,8 @@ fn holds<R: Threads + Sync>(
     rt: &R,
     alloc: Global,
     collector: &Shared<'_, Counted>,
-    drops: &Table,
-    slots: &Table,
+    drops: &DropCounts,
+    slots: &DropCounts,
 ) -> Option<(bool, bool, bool)> {
     let mut registration = collector.register().ok()?;
     let put = puts(&mut registration, drops, 0, 1);
@@ -100,8 +100,8 @@ fn holds<R: Threads + Sync>(
 fn holds_alone<R: Threads + Sync>(
     rt: &R,
     alloc: Global,
-    drops: &Table,
-    slots: &Table,
+    drops: &DropCounts,
+    slots: &DropCounts,
 ) -> Result<Option<(bool, bool, bool)>, Fault> {
     let collector = opened(alloc)?;
     Ok(holds(rt, alloc, &collector.shared(), drops, slots))

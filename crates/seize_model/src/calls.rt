@@ -7,7 +7,7 @@ ghost use Rattle.seize_model.specs.Alone.Alone.{History, IsHistory, IsMidway, Go
 
 use seize::rows::{Defers, Enter, Leave, Register, Settle, Settled, Unregister};
 use seize::states::{FREE, HEAD, IDLE, LAST_SLOT};
-use seize::{Machine, Progress};
+use seize::{Advance, StepMachine};
 use seize_words::{At, Fault, Link, Memory, Plain};
 
 /// A call that may reclaim values while it runs.
@@ -30,9 +30,9 @@ pub fn register<T: Defers>(memory: &mut Plain<T>, enters: bool) -> Result<u64, F
     let mut row = Register::new(enters);
     loop {
         match row.step(memory) {
-            Progress::Goes | Progress::Waits => {}
-            Progress::Done(slot) => return Ok(slot),
-            Progress::Refused(fault) => return Err(fault),
+            Advance::Goes | Advance::Waits => {}
+            Advance::Done(slot) => return Ok(slot),
+            Advance::Refused(fault) => return Err(fault),
         }
     }
 }

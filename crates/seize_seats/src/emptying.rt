@@ -12,7 +12,7 @@ ghost use Rattle.seize_seats.specs.contracts.kept.Kept.{the_row as KeptOf};
 use crate::beside::give_words;
 use crate::kept::Kept;
 use crate::pieces::Pieces;
-use crate::plot::{Alone, bytes_of, release, skip_of};
+use crate::plot::{OwnedStrips, bytes_of, release, skip_of};
 use crate::row::Row;
 use core::slots::Slots;
 use std::alloc::Global;
@@ -56,10 +56,10 @@ pub fn drain<T: Drop>(
 /// Drops what the first of the strips holds, and gives its block back. The others stay.
 pub fn give_up<T: Drop>(
     alloc: &Global,
-    strips: Alone<T>,
+    strips: OwnedStrips<T>,
     at: *mut Option<Kept<T>>,
     count: usize,
-) -> Alone<T>
+) -> OwnedStrips<T>
     requires { HasFirst (KeptOf T.row) at count strips.strips × (block_bytes (KeptOf T.row) count < 2 ^ 63) × (count * stride (KeptOf T.row) < 2 ^ 63) }
     ensures { result.strips ≡ further strips.strips }
 {
@@ -99,7 +99,7 @@ fn vacate<T>(slots: &mut Slots<Option<Kept<T>>>, count: usize, pieces: Pieces)
 }
 
 /// Gives the block of a fresh strip back.
-pub fn take_back<T>(alloc: &Global, strips: Alone<T>, at: *mut Option<Kept<T>>, count: usize)
+pub fn take_back<T>(alloc: &Global, strips: OwnedStrips<T>, at: *mut Option<Kept<T>>, count: usize)
     requires { HasFirst (KeptOf T.row) at count strips.strips × (strips.fresh ≡ true) × (block_bytes (KeptOf T.row) count < 2 ^ 63)
         × (count * stride (KeptOf T.row) < 2 ^ 63) }
 {
@@ -118,7 +118,12 @@ pub fn take_back<T>(alloc: &Global, strips: Alone<T>, at: *mut Option<Kept<T>>, 
 
 /// Gives back all further strips, with the own words of their blocks: the doors from the first on have the addresses of as many, each of as many numbers as come
 /// before it. Behind the 32 doors of strips are those of buckets, which stay.
-pub fn clear<T: Drop>(alloc: &Global, strips: Alone<T>, doors: &mut Slots<*mut u64>, least: u64)
+pub fn clear<T: Drop>(
+    alloc: &Global,
+    strips: OwnedStrips<T>,
+    doors: &mut Slots<*mut u64>,
+    least: u64,
+)
     requires { IsFull doors.old × (slots_len doors.old ≡ 64) × AreBehind (IsFurther (KeptOf T.row) least) 0 strips.strips (take 32 (slots_items doors.old)) }
     ensures { (slots_ptr doors.new ≡ slots_ptr doors.old) × (slots_len doors.new ≡ slots_len doors.old) × (slots_items doors.new ≡ slots_items doors.old)
         × Filled (slots_filled doors.new) 32 (slots_len doors.new) }

@@ -22,7 +22,9 @@ pub use ground::{Ground, give_back, lay, lay_doors, lay_empty};
 pub use kept::Kept;
 pub use piece::{Laid, Piece, Right, join_words, release_words, reserve_words};
 pub use pieces::Pieces;
-pub use place::{Address, Beside, Doors, Place};
-pub use plot::{Alone, Deed, bytes_of, fits, lay_strip, release, reserve, skip_of, stride_of};
+pub use place::{Address, Beside, Doors, ValuePlaces};
+pub use plot::{
+    OwnedStrips, StripRight, bytes_of, fits, lay_strip, release, reserve, skip_of, stride_of,
+};
 pub use rooms::clear_rooms;
 pub use row::Row;

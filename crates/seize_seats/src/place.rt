@@ -5,7 +5,7 @@ use crate::kept::Kept;
 
 /// The address of the first of the places for values.
 #[derive(Drop)]
-pub struct Place<T> {
+pub struct ValuePlaces<T> {
     pub at: *mut Option<Kept<T>>,
 }
 
@@ -33,6 +33,6 @@ unsafe impl Send for Doors {}
 
 unsafe impl Sync for Doors {}
 
-unsafe impl<T> Send for Place<T> {}
+unsafe impl<T> Send for ValuePlaces<T> {}
 
-unsafe impl<T> Sync for Place<T> {}
+unsafe impl<T> Sync for ValuePlaces<T> {}

@@ -24,26 +24,26 @@ use std::marker::{Model, PhantomData};
 use std::mem::size_of;
 
 /// The right to give back the block of a further strip. It has no bytes.
-pub struct Deed<T, A: Allocator> {
+pub struct StripRight<T, A: Allocator> {
     pub marker: PhantomData<(T, A)>,
     pub ghost heap: { A },
     pub ghost at: { Ptr } by { coded_ptr },
     pub ghost count: { ℕ },
 }
 
-impl<T, A: Allocator> Model for Deed<T, A> {
+impl<T, A: Allocator> Model for StripRight<T, A> {
     ghost also_owns = { λ s. deed T.row (A.dealloc_token s.heap) s.count s.at };
 }
 
 /// Further strips, with the rights to give their blocks back: fresh ones, that have no value yet, or others. It has no bytes.
 #[derive(Drop)]
-pub struct Alone<T> {
+pub struct OwnedStrips<T> {
     pub marker: PhantomData<T>,
     pub ghost fresh: { Bool },
     pub ghost strips: { List Strip } by { coded_list strip_coded },
 }
 
-impl<T> Model for Alone<T> {
+impl<T> Model for OwnedStrips<T> {
     ghost also_owns = { λ s. all_alone (KeptOf T.row) kept_words s.fresh s.strips };
 }
 
@@ -83,7 +83,7 @@ pub fn reserve<T, A: Allocator>(
     _count: usize,
     skip: usize,
     size: usize,
-) -> Result<(Row<Option<T>>, Row<u64>, Deed<T, A>), AllocError>
+) -> Result<(Row<Option<T>>, Row<u64>, StripRight<T, A>), AllocError>
     requires { (skip ≡ before T.row _count) × (size ≡ block_bytes T.row _count) × (block_bytes T.row _count < 2 ^ 63) }
     ensures { IfOk result (λ p. (p.2.heap ≡ alloc.now) × (p.2.at ≡ p.0.at) × (p.2.count ≡ _count) × InBlock p.0.at
         × (p.1.at ≡ words_from T.row _count p.0.at) × (length p.0.items ≡ _count) × (length p.1.items ≡ _count * 5)) }
@@ -95,7 +95,7 @@ pub fn reserve<T, A: Allocator>(
             Ok((
                 Row { at },
                 Row { at: words },
-                Deed {
+                StripRight {
                     marker: PhantomData,
                 },
             ))
@@ -109,7 +109,7 @@ pub fn release<T, A: Allocator>(
     alloc: &A,
     places: Row<Option<T>>,
     words: Row<u64>,
-    deed: Deed<T, A>,
+    deed: StripRight<T, A>,
     size: usize,
 )
     requires { (deed.heap ≡ alloc.now) × (deed.at ≡ places.at) × (words.at ≡ words_from T.row deed.count places.at)
@@ -119,13 +119,13 @@ pub fn release<T, A: Allocator>(
 {
     let Row { at } = places;
     let Row { at: _ } = words;
-    let Deed { marker: _ } = deed;
+    let StripRight { marker: _ } = deed;
     unsafe {
         alloc.deallocate(at as *mut u8, size, 16);
     }
 }
 
-impl<T> Alone<T> {
+impl<T> OwnedStrips<T> {
     /// The first of the strips, of so many numbers, the others, and the own words of its blocks.
     pub fn parted(
         self,
@@ -136,8 +136,8 @@ impl<T> Alone<T> {
     ) -> (
         Row<Option<Kept<T>>>,
         Row<u64>,
-        Deed<Kept<T>, Global>,
-        Alone<T>,
+        StripRight<Kept<T>, Global>,
+        OwnedStrips<T>,
         Pieces,
     )
         requires { HasFirst (KeptOf T.row) at _count self.strips × (skip ≡ before (KeptOf T.row) _count) × (block_bytes (KeptOf T.row) _count < 2 ^ 63) }
@@ -146,15 +146,15 @@ impl<T> Alone<T> {
             × (result.2.heap ≡ _alloc.now) × (result.2.at ≡ at) × (result.2.count ≡ _count) × (result.3.strips ≡ further self.strips)
             × (self.fresh ≡ true → (k : ℕ) → slice_index_or result.0.items k None ≡ None) × (result.4.spots ≡ map spot_of result.0.items) }
     {
-        let Alone { marker: _ } = self;
+        let OwnedStrips { marker: _ } = self;
         let words = unsafe { (at as *mut u64).add(skip) };
         (
             Row { at },
             Row { at: words },
-            Deed {
+            StripRight {
                 marker: PhantomData,
             },
-            Alone {
+            OwnedStrips {
                 marker: PhantomData,
             },
             Pieces {
@@ -168,7 +168,7 @@ impl<T> Alone<T> {
 pub fn lay_strip<T>(
     alloc: &Global,
     count: usize,
-) -> Result<(Row<Option<T>>, Row<u64>, Deed<T, Global>), AllocError>
+) -> Result<(Row<Option<T>>, Row<u64>, StripRight<T, Global>), AllocError>
     requires { (block_bytes T.row count < 2 ^ 63) × (count * stride T.row < 2 ^ 63) }
     ensures lies { IfOk result (λ p. (p.2.at ≡ p.0.at) × (p.2.count ≡ count) × InBlock p.0.at × (p.1.at ≡ words_from T.row count p.0.at)) }
     ensures long { IfOk result (λ p. (length p.0.items ≡ count) × (length p.1.items ≡ count * 5)) }

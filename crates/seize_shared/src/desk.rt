@@ -4,7 +4,7 @@ ghost use Rattle.seize_words.specs.declared.fault.Fault.TheVariants.{GuardsFull}
 ghost use Rattle.seize_shared.specs.OnThreads.Refused.{HasNoSlot};
 ghost use Rattle.seize_shared.specs.Guards.Lent.{IsLent};
 ghost use Rattle.seize_views.specs.Views.Notes.{looked_at};
-ghost use Rattle.seize_views.specs.declared.view.View.TheVariants.{Rests, Watches};
+ghost use Rattle.seize_views.specs.declared.view.SlotView.TheVariants.{Rests, Watches};
 
 use crate::stay::Stay;
 use seize::rows::Defers;

@@ -6,7 +6,7 @@ ghost use Rattle.seize_shared.specs.Guards.Homes.{OneSource};
 ghost use Rattle.seize_shared.specs.OnThreads.Refused.{HasNoSlot};
 ghost use Rattle.seize_views.specs.Views.Notes.{written_at};
 ghost use Rattle.seize_views.specs.declared.view.Began.TheVariants.{Retirement, Trial};
-ghost use Rattle.seize_views.specs.declared.view.View.TheVariants.{Brings};
+ghost use Rattle.seize_views.specs.declared.view.SlotView.TheVariants.{Brings};
 
 use crate::shared::Shared;
 use crate::stay::Stay;

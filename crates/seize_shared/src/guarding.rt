@@ -10,7 +10,7 @@ ghost use Rattle.seize_views.specs.declared.view.Began.{Began};
 ghost use Rattle.seize_views.specs.declared.view.Began.TheVariants.{Retirement, Section, Trial};
 ghost use Rattle.seize_views.specs.declared.view.Deed.{Deed};
 ghost use Rattle.seize_views.specs.declared.view.Deed.TheVariants.{Looked, Marked};
-ghost use Rattle.seize_views.specs.declared.view.View.TheVariants.{Rests};
+ghost use Rattle.seize_views.specs.declared.view.SlotView.TheVariants.{Rests};
 
 use crate::pass::Pass;
 use crate::tagged::{Protected, Tagged};

@@ -18,7 +18,7 @@ pub use guarding::{Guard, RootGuard};
 pub use owned::Owned;
 pub use pass::Pass;
 pub use seize_callers::Caller;
-pub use seize_views::{Becomes, Began, Content, Deed, Fixed, Has, Noted, OfRows, View, Why};
+pub use seize_views::{Becomes, Began, Content, Deed, Fixed, Has, Noted, OfRows, SlotView, Why};
 pub use seize_words::{Drops, Receiver};
 pub use shared::Shared;
 pub use tagged::{Protected, Tagged};

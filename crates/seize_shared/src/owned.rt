@@ -5,7 +5,7 @@ ghost use Rattle.seize_words.specs.declared.fault.Fault.TheVariants.{ForeignGuar
 ghost use Rattle.seize_callers.specs.Owning.{brought_by};
 ghost use Rattle.seize_shared.specs.Guards.Tags.{with_marks};
 ghost use Rattle.seize_views.specs.declared.view.Deed.TheVariants.{Looked, Wrote};
-ghost use Rattle.seize_views.specs.declared.view.View.TheVariants.{Brings};
+ghost use Rattle.seize_views.specs.declared.view.SlotView.TheVariants.{Brings};
 
 use crate::guarding::RootGuard;
 use crate::tagged::Tagged;

@@ -8,7 +8,7 @@ ghost use Rattle.seize_shared.specs.Guards.Lent.{IsLent};
 use crate::tagged::{Protected, Tagged};
 use seize::rows::Defers;
 use seize_blocks::Blocks;
-use seize_callers::{Caller, Pass as Seat};
+use seize_callers::{Caller, PassSeat as Seat};
 use seize_views::OfRows;
 
 /// A pass of a collector. It rests between two calls, and may go to another thread, and outlive the guards that it was under.

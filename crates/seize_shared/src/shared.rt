@@ -1,7 +1,7 @@
 //! A collector as those have it who share it: they take slots of it, and make blocks.
 ghost use Rattle.std.specs.Prelude.{◌≡◌, IfOk, IfErr};
 ghost use Rattle.seize_shared.specs.OnThreads.Refused.{HasNoSlot};
-ghost use Rattle.seize_views.specs.declared.view.View.TheVariants.{Brings};
+ghost use Rattle.seize_views.specs.declared.view.SlotView.TheVariants.{Brings};
 
 use crate::guard::{OwnedGuard, Registration};
 use crate::{Owned, Pass};

@@ -3,7 +3,7 @@
 ghost use Rattle.std.specs.Prelude.{◌≡◌};
 
 use crate::crowd::{TIMES, goes};
-use crate::{Counted, Table, all_are, dropped, opened, table};
+use crate::{Counted, DropCounts, all_are, dropped, opened, table};
 use seize::Fault;
 use seize_collector::{Owned, Registration, Shared};
 use std::alloc::Global;
@@ -54,7 +54,7 @@ fn brings(
 }
 
 /// Does so for each of so many places from one on. Tells whether each was put.
-fn brings_all(collector: &Shared<'_, Counted>, drops: &Table, from: usize) -> bool {
+fn brings_all(collector: &Shared<'_, Counted>, drops: &DropCounts, from: usize) -> bool {
     let Ok(mut registration) = collector.register() else {
         return false;
     };
@@ -88,7 +88,7 @@ pub fn sweeps(collector: &Shared<'_, Counted>) -> bool {
 fn pair<R: Threads + Sync>(
     rt: &R,
     collector: &Shared<'_, Counted>,
-    drops: &Table,
+    drops: &DropCounts,
     from: usize,
 ) -> bool {
     let (first, second) = thread::join(
@@ -100,7 +100,7 @@ fn pair<R: Threads + Sync>(
 }
 
 /// And one who sees and puts values under guards.
-fn three<R: Threads + Sync>(rt: &R, collector: &Shared<'_, Counted>, drops: &Table) -> bool {
+fn three<R: Threads + Sync>(rt: &R, collector: &Shared<'_, Counted>, drops: &DropCounts) -> bool {
     let (first, second) = thread::join(
         rt,
         || goes(collector, drops, 0),
@@ -110,7 +110,11 @@ fn three<R: Threads + Sync>(rt: &R, collector: &Shared<'_, Counted>, drops: &Tab
 }
 
 /// The same over one collector, which ends then.
-fn three_alone<R: Threads + Sync>(rt: &R, alloc: Global, drops: &Table) -> Result<bool, Fault> {
+fn three_alone<R: Threads + Sync>(
+    rt: &R,
+    alloc: Global,
+    drops: &DropCounts,
+) -> Result<bool, Fault> {
     let collector = opened(alloc)?;
     Ok(three(rt, &collector.shared(), drops))
 }
@@ -126,7 +130,7 @@ fn what_is_put_and_taken_away_without_a_section_is_seen_and_dropped_once(
 }
 
 /// Puts a value of its own at the root if none is there, and tells whether it has; else its value has come back.
-fn places(collector: &Shared<'_, Counted>, drops: &Table, place: usize) -> Option<bool> {
+fn places(collector: &Shared<'_, Counted>, drops: &DropCounts, place: usize) -> Option<bool> {
     let mut near = 0;
     let Ok(owned) = collector.make(&mut near, Counted::of(drops, place)?) else {
         return None;
@@ -144,7 +148,11 @@ fn places(collector: &Shared<'_, Counted>, drops: &Table, place: usize) -> Optio
 }
 
 /// Two of them; tells whether one of them alone has put its value, and the other one's came back.
-fn one_places<R: Threads + Sync>(rt: &R, collector: &Shared<'_, Counted>, drops: &Table) -> bool {
+fn one_places<R: Threads + Sync>(
+    rt: &R,
+    collector: &Shared<'_, Counted>,
+    drops: &DropCounts,
+) -> bool {
     match thread::join(
         rt,
         || places(collector, drops, 0),
@@ -159,7 +167,7 @@ fn one_places<R: Threads + Sync>(rt: &R, collector: &Shared<'_, Counted>, drops:
 fn one_places_alone<R: Threads + Sync>(
     rt: &R,
     alloc: Global,
-    drops: &Table,
+    drops: &DropCounts,
 ) -> Result<bool, Fault> {
     let collector = opened(alloc)?;
     Ok(one_places(rt, &collector.shared(), drops))

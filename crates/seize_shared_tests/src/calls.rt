@@ -1,5 +1,5 @@
 //! What guards answer, call by call: one that stays on its thread, and one that may be sent.
-use crate::{Counted, Table, all_are, dropped, opened, table};
+use crate::{Counted, DropCounts, all_are, dropped, opened, table};
 use seize::Fault;
 use seize_collector::{Guard, RootGuard, Shared};
 use std::alloc::Global;
@@ -33,7 +33,7 @@ const CALLS: [Row; 10] = [
 ];
 
 /// Puts the value of a place at a root; where it comes back, it is the same.
-fn puts<G: RootGuard<Counted>>(guard: &mut G, drops: &Table, root: u64, place: usize) -> bool {
+fn puts<G: RootGuard<Counted>>(guard: &mut G, drops: &DropCounts, root: u64, place: usize) -> bool {
     match Counted::of(drops, place) {
         Some(value) => match guard.put(root, value) {
             Ok(()) => true,
@@ -44,7 +44,7 @@ fn puts<G: RootGuard<Counted>>(guard: &mut G, drops: &Table, root: u64, place: u
 }
 
 /// Calls a guard, and tells whether it answers yes.
-fn calls<G: RootGuard<Counted>>(guard: &mut G, drops: &Table, call: Call) -> bool {
+fn calls<G: RootGuard<Counted>>(guard: &mut G, drops: &DropCounts, call: Call) -> bool {
     match call {
         Call::See(root) => guard.see(root),
         Call::Put(root, place) => puts(guard, drops, root, place),
@@ -69,7 +69,7 @@ fn seen<G: RootGuard<Counted>>(guard: &G) -> Option<usize> {
 }
 
 /// How many of the calls answer as they should, any guard.
-fn answers<G: RootGuard<Counted>>(guard: &mut G, drops: &Table) -> u64 {
+fn answers<G: RootGuard<Counted>>(guard: &mut G, drops: &DropCounts) -> u64 {
     let mut right = 0;
     for (call, yes, place, times) in CALLS {
         let is = calls(guard, drops, call) == yes;
@@ -81,14 +81,14 @@ fn answers<G: RootGuard<Counted>>(guard: &mut G, drops: &Table) -> u64 {
 }
 
 /// The same by a guard that stays on its thread.
-fn stays(collector: &Shared<'_, Counted>, drops: &Table) -> Option<u64> {
+fn stays(collector: &Shared<'_, Counted>, drops: &DropCounts) -> Option<u64> {
     let mut registration = collector.register().ok()?;
     let right = answers(&mut registration.enter(), drops);
     Some(right)
 }
 
 /// The same by one that may be sent.
-fn goes(collector: &Shared<'_, Counted>, drops: &Table) -> Option<u64> {
+fn goes(collector: &Shared<'_, Counted>, drops: &DropCounts) -> Option<u64> {
     let mut guard = collector.enter_owned().ok()?;
     let right = answers(&mut guard, drops);
     guard.refresh();
@@ -100,7 +100,11 @@ fn goes(collector: &Shared<'_, Counted>, drops: &Table) -> Option<u64> {
 }
 
 /// Both over one collector, which ends then.
-fn both(alloc: Global, drops: &Table, own: &Table) -> Result<(Option<u64>, Option<u64>), Fault> {
+fn both(
+    alloc: Global,
+    drops: &DropCounts,
+    own: &DropCounts,
+) -> Result<(Option<u64>, Option<u64>), Fault> {
     let collector = opened(alloc)?;
     let shared = collector.shared();
     Ok((stays(&shared, drops), goes(&shared, own)))

@@ -1,5 +1,5 @@
 //! Four threads over one collector: each looks at the values of the others, puts its own at the root, and so retires those that were there.
-use crate::{Counted, Table, all_are, dropped, opened, table};
+use crate::{Counted, DropCounts, all_are, dropped, opened, table};
 use seize::Fault;
 use seize_collector::{Registration, RootGuard, Shared};
 use std::alloc::Global;
@@ -33,7 +33,7 @@ fn looks(seen: Option<&Counted>) -> (bool, bool) {
 /// Looks at the root and puts the value of a place there, within one section.
 fn goes_once(
     registration: &mut Registration<'_, Counted>,
-    drops: &Table,
+    drops: &DropCounts,
     place: usize,
     met: &mut Met,
 ) {
@@ -51,7 +51,7 @@ fn goes_once(
 
 /// Does so for so many places from one on, and takes then away what is there. It tells whether it has seen values, none of which had been dropped, and has put
 /// each of its own.
-pub(crate) fn goes(collector: &Shared<'_, Counted>, drops: &Table, from: usize) -> bool {
+pub(crate) fn goes(collector: &Shared<'_, Counted>, drops: &DropCounts, from: usize) -> bool {
     let Ok(mut registration) = collector.register() else {
         return false;
     };
@@ -76,7 +76,7 @@ pub(crate) fn goes(collector: &Shared<'_, Counted>, drops: &Table, from: usize) 
 fn pair<R: Threads + Sync>(
     rt: &R,
     collector: &Shared<'_, Counted>,
-    drops: &Table,
+    drops: &DropCounts,
     from: usize,
 ) -> bool {
     let (first, second) = thread::join(
@@ -88,7 +88,7 @@ fn pair<R: Threads + Sync>(
 }
 
 /// Four of them.
-fn four<R: Threads + Sync>(rt: &R, collector: &Shared<'_, Counted>, drops: &Table) -> bool {
+fn four<R: Threads + Sync>(rt: &R, collector: &Shared<'_, Counted>, drops: &DropCounts) -> bool {
     let (first, second) = thread::join(
         rt,
         || pair(rt, collector, drops, 0),
@@ -98,7 +98,7 @@ fn four<R: Threads + Sync>(rt: &R, collector: &Shared<'_, Counted>, drops: &Tabl
 }
 
 /// The same over one collector, which ends then.
-fn four_alone<R: Threads + Sync>(rt: &R, alloc: Global, drops: &Table) -> Result<bool, Fault> {
+fn four_alone<R: Threads + Sync>(rt: &R, alloc: Global, drops: &DropCounts) -> Result<bool, Fault> {
     let collector = opened(alloc)?;
     Ok(four(rt, &collector.shared(), drops))
 }

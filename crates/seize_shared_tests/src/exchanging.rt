@@ -1,7 +1,7 @@
 //! Values that are put in place of what was seen: two threads count at a root, each turn by a value that is made of the one that was seen there.
 ghost use Rattle.std.specs.Prelude.{None};
 
-use crate::{Table, dropped, opened, table};
+use crate::{DropCounts, dropped, opened, table};
 use seize::Fault;
 use seize::rows::Defers;
 use seize_collector::{Registration, RootGuard, Shared};
@@ -23,11 +23,11 @@ const DROPPED: usize = 1;
 /// A number, which is counted as it is made, and as it is dropped.
 struct Tally {
     number: u64,
-    counts: Table,
+    counts: DropCounts,
 }
 
 /// Counts at a place.
-fn count(counts: &Table, place: usize) {
+fn count(counts: &DropCounts, place: usize) {
     if let Some(word) = counts.get(place) {
         word.fetch_add(1, SeqCst);
     }
@@ -35,7 +35,7 @@ fn count(counts: &Table, place: usize) {
 
 impl Tally {
     /// This number. There is none where the table has too many owners.
-    fn of(counts: &Table, number: u64) -> Option<Tally> {
+    fn of(counts: &DropCounts, number: u64) -> Option<Tally> {
         let counts = Arc::try_clone(counts).ok()?;
         count(&counts, MADE);
         Some(Tally { number, counts })
@@ -66,7 +66,7 @@ fn number(seen: Option<&Tally>) -> u64 {
 }
 
 /// Sees the number at the root, and puts the next one in its place if it is there still, after others had their turn or at once; tells whether it was.
-fn counts_on(registration: &mut Registration<'_, Tally>, counts: &Table, waits: bool) -> bool {
+fn counts_on(registration: &mut Registration<'_, Tally>, counts: &DropCounts, waits: bool) -> bool {
     let mut guard = registration.enter();
     guard.see(0);
     let next = u64::wrapping_add(number(guard.value()), 1);
@@ -80,7 +80,7 @@ fn counts_on(registration: &mut Registration<'_, Tally>, counts: &Table, waits: 
 }
 
 /// Does so again and again; answers how often the number was there still.
-fn goes(collector: &Shared<'_, Tally>, counts: &Table) -> Option<u64> {
+fn goes(collector: &Shared<'_, Tally>, counts: &DropCounts) -> Option<u64> {
     let mut registration = collector.register().ok()?;
     let mut done = 0;
     for turn in 0..TIMES {
@@ -101,7 +101,7 @@ fn last(collector: &Shared<'_, Tally>) -> Option<u64> {
 fn both<R: Threads + Sync>(
     rt: &R,
     collector: &Shared<'_, Tally>,
-    counts: &Table,
+    counts: &DropCounts,
 ) -> (Option<u64>, Option<u64>) {
     let (first, second) = thread::join(rt, || goes(collector, counts), || goes(collector, counts));
     let sum = match (first, second) {
@@ -115,7 +115,7 @@ fn both<R: Threads + Sync>(
 fn both_alone<R: Threads + Sync>(
     rt: &R,
     alloc: Global,
-    counts: &Table,
+    counts: &DropCounts,
 ) -> Result<(Option<u64>, Option<u64>), Fault> {
     let collector = opened(alloc)?;
     Ok(both(rt, &collector.shared(), counts))
@@ -132,7 +132,7 @@ fn no_count_is_lost_and_each_number_is_dropped_once(rt: HostRuntime) -> Result<(
 }
 
 /// Puts a number in place of what a guard has seen; tells whether it is there, and answers which number it has seen then.
-fn puts<G: RootGuard<Tally>>(guard: &mut G, counts: &Table, next: u64) -> (bool, u64) {
+fn puts<G: RootGuard<Tally>>(guard: &mut G, counts: &DropCounts, next: u64) -> (bool, u64) {
     let put = match Tally::of(counts, next) {
         Some(tally) => guard.exchange(0, tally).is_ok(),
         None => false,
@@ -142,7 +142,7 @@ fn puts<G: RootGuard<Tally>>(guard: &mut G, counts: &Table, next: u64) -> (bool,
 
 /// Whether two guards come to what they should, of which each puts a number where it has seen nothing, and the second one then where it has seen the first
 /// one's.
-fn takes_turns<G: RootGuard<Tally>>(first: &mut G, second: &mut G, counts: &Table) -> bool {
+fn takes_turns<G: RootGuard<Tally>>(first: &mut G, second: &mut G, counts: &DropCounts) -> bool {
     let one = puts(first, counts, 1) == (true, 0);
     let two = puts(second, counts, 2) == (false, 1);
     let three = puts(second, counts, 3) == (true, 0);
@@ -150,7 +150,7 @@ fn takes_turns<G: RootGuard<Tally>>(first: &mut G, second: &mut G, counts: &Tabl
 }
 
 /// They do so; answers the number that is there then.
-fn two_take_turns(collector: &Shared<'_, Tally>, counts: &Table) -> Option<u64> {
+fn two_take_turns(collector: &Shared<'_, Tally>, counts: &DropCounts) -> Option<u64> {
     let mut first = collector.enter_owned().ok()?;
     let mut second = collector.enter_owned().ok()?;
     let right = takes_turns(&mut first, &mut second, counts);
@@ -159,7 +159,7 @@ fn two_take_turns(collector: &Shared<'_, Tally>, counts: &Table) -> Option<u64> 
 }
 
 /// The same over one collector, which ends then.
-fn take_turns_alone(alloc: Global, counts: &Table) -> Result<Option<u64>, Fault> {
+fn take_turns_alone(alloc: Global, counts: &DropCounts) -> Result<Option<u64>, Fault> {
     let collector = opened(alloc)?;
     Ok(two_take_turns(&collector.shared(), counts))
 }

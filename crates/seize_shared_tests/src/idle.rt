@@ -1,5 +1,5 @@
 //! What is retired while no section of the slot is open, or under another guard: what it waits for, and where a registration ends whose guards were forgotten.
-use crate::{Counted, Table, all_are, dropped, opened, table};
+use crate::{Counted, DropCounts, all_are, dropped, opened, table};
 use seize::Fault;
 use seize_collector::{Guard, Registration, RootGuard, Shared};
 use std::alloc::Global;
@@ -8,7 +8,7 @@ use std::test::Fail;
 
 /// Puts a value under a guard and takes it away without one, while another guard sees it; answers how often it was dropped once it was retired, once its
 /// batch was tried, and once the other guard had ended.
-fn beside(collector: &Shared<'_, Counted>, drops: &Table) -> Option<(u64, u64, u64)> {
+fn beside(collector: &Shared<'_, Counted>, drops: &DropCounts) -> Option<(u64, u64, u64)> {
     let value = Counted::of(drops, 0)?;
     let mut registration = collector.register().ok()?;
     let mut other = collector.enter_owned().ok()?;
@@ -24,7 +24,7 @@ fn beside(collector: &Shared<'_, Counted>, drops: &Table) -> Option<(u64, u64, u
 
 /// Puts a value under a guard and takes it away without one, twice; tells whether it did so, and answers how often it was dropped once it was retired, and once
 /// its batch was tried.
-fn alone(collector: &Shared<'_, Counted>, drops: &Table) -> Option<(bool, bool, u64, u64)> {
+fn alone(collector: &Shared<'_, Counted>, drops: &DropCounts) -> Option<(bool, bool, u64, u64)> {
     let value = Counted::of(drops, 1)?;
     let mut registration = collector.register().ok()?;
     drop(registration.enter().put(0, value));
@@ -39,7 +39,7 @@ fn alone(collector: &Shared<'_, Counted>, drops: &Table) -> Option<(bool, bool, 
 type Times = (Option<(u64, u64, u64)>, Option<(bool, bool, u64, u64)>);
 
 /// Both over one collector, which ends then.
-fn both(alloc: Global, drops: &Table) -> Result<Times, Fault> {
+fn both(alloc: Global, drops: &DropCounts) -> Result<Times, Fault> {
     let collector = opened(alloc)?;
     let shared = collector.shared();
     Ok((beside(&shared, drops), alone(&shared, drops)))
@@ -60,7 +60,7 @@ fn a_batch_that_is_tried_without_a_section_waits_for_open_ones(
 /// guard ended, and then.
 fn retires(
     collector: &Shared<'_, Counted>,
-    drops: &Table,
+    drops: &DropCounts,
     first: Counted,
     second: Counted,
 ) -> Option<(u64, u64)> {
@@ -85,7 +85,7 @@ fn retires(
 /// The same over one collector, which ends then.
 fn retires_alone(
     alloc: Global,
-    drops: &Table,
+    drops: &DropCounts,
     first: Counted,
     second: Counted,
 ) -> Result<Option<(u64, u64)>, Fault> {
@@ -106,7 +106,7 @@ fn a_block_that_was_unlinked_is_retired_by_a_guard(rt: HostRuntime) -> Result<()
 }
 
 /// Puts the value of a place at the root, under a guard that is forgotten.
-fn forgets(registration: &mut Registration<'_, Counted>, drops: &Table, place: usize) -> bool {
+fn forgets(registration: &mut Registration<'_, Counted>, drops: &DropCounts, place: usize) -> bool {
     let mut guard = registration.enter();
     let there = match Counted::of(drops, place) {
         Some(value) => guard.put(0, value).is_ok(),
@@ -117,7 +117,7 @@ fn forgets(registration: &mut Registration<'_, Counted>, drops: &Table, place: u
 }
 
 /// Six of them; tells whether each is there, and answers the slot.
-fn forgets_all(collector: &Shared<'_, Counted>, drops: &Table) -> Option<(bool, u64)> {
+fn forgets_all(collector: &Shared<'_, Counted>, drops: &DropCounts) -> Option<(bool, u64)> {
     let mut registration = collector.register().ok()?;
     let mut there = true;
     for place in 0..6 {
@@ -139,7 +139,7 @@ fn visits(collector: &Shared<'_, Counted>) -> Option<u64> {
 type Forgotten = (Option<(bool, u64)>, bool, Option<u64>);
 
 /// Forgets guards over one collector, which ends then.
-fn forgets_alone(alloc: Global, drops: &Table) -> Result<Forgotten, Fault> {
+fn forgets_alone(alloc: Global, drops: &DropCounts) -> Result<Forgotten, Fault> {
     let collector = opened(alloc)?;
     let shared = collector.shared();
     let went = forgets_all(&shared, drops);

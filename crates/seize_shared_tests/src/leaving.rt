@@ -1,5 +1,5 @@
 //! One thread replaces a value while another one, which has seen it, stays within its section: who leaves last drops what was retired.
-use crate::{Counted, Table, all_are, dropped, opened, table};
+use crate::{Counted, DropCounts, all_are, dropped, opened, table};
 use seize::Fault;
 use seize_collector::{Registration, RootGuard, Shared};
 use std::alloc::Global;
@@ -29,7 +29,7 @@ fn hears(bell: &AtomicU64, ring: u64) -> bool {
 /// Puts the values of these places at the root, each within a section of its own.
 fn puts(
     registration: &mut Registration<'_, Counted>,
-    drops: &Table,
+    drops: &DropCounts,
     from: usize,
     end: usize,
 ) -> bool {
@@ -45,7 +45,7 @@ fn puts(
 
 /// Puts a value at the root, and five more once the other one has seen it; answers how often the first one was dropped while the other one is within its
 /// section.
-fn replaces(collector: &Shared<'_, Counted>, bell: &AtomicU64, drops: &Table) -> Option<u64> {
+fn replaces(collector: &Shared<'_, Counted>, bell: &AtomicU64, drops: &DropCounts) -> Option<u64> {
     let mut registration = collector.register().ok()?;
     let first = puts(&mut registration, drops, 0, 1);
     let seen = rings(bell, 2);
@@ -69,7 +69,7 @@ fn is_kept(seen: Option<&Counted>) -> bool {
 
 /// Sees the first value, and is within its section until five more were put; tells whether the value was there all the time, and the five that were retired
 /// meanwhile were dropped as it left.
-fn stays(collector: &Shared<'_, Counted>, bell: &AtomicU64, drops: &Table) -> Option<bool> {
+fn stays(collector: &Shared<'_, Counted>, bell: &AtomicU64, drops: &DropCounts) -> Option<bool> {
     let first = hears(bell, 1);
     let mut guard = collector.enter_owned().ok()?;
     guard.see(0);
@@ -85,7 +85,7 @@ fn stays(collector: &Shared<'_, Counted>, bell: &AtomicU64, drops: &Table) -> Op
 fn both<R: Threads + Sync>(
     rt: &R,
     alloc: Global,
-    drops: &Table,
+    drops: &DropCounts,
 ) -> Result<(Option<u64>, Option<bool>), Fault> {
     let bell = AtomicU64::new(0);
     let collector = opened(alloc)?;

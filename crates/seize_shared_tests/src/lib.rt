@@ -37,10 +37,10 @@ use std::sync::atomic::AtomicU64;
 use std::sync::atomic::Ordering::SeqCst;
 
 /// A count for each place.
-pub type Table = Arc<Vec<AtomicU64>>;
+pub type DropCounts = Arc<Vec<AtomicU64>>;
 
 /// A table of so many places, all at 0.
-pub fn table(alloc: Global, places: usize) -> Result<Table, AllocError> {
+pub fn table(alloc: Global, places: usize) -> Result<DropCounts, AllocError> {
     let mut drops = Vec::new(alloc);
     for _ in 0..places {
         drops.push(AtomicU64::new(0))?;
@@ -49,7 +49,7 @@ pub fn table(alloc: Global, places: usize) -> Result<Table, AllocError> {
 }
 
 /// How often the value of a place was dropped. It is 0 where there is no such place.
-pub fn dropped(drops: &Table, place: usize) -> u64 {
+pub fn dropped(drops: &DropCounts, place: usize) -> u64 {
     match drops.get(place) {
         Some(count) => count.load(SeqCst),
         None => 0,
@@ -57,7 +57,7 @@ pub fn dropped(drops: &Table, place: usize) -> u64 {
 }
 
 /// Each of the first places of the table was counted so often.
-pub fn all_are(drops: &Table, places: usize, times: u64) -> bool {
+pub fn all_are(drops: &DropCounts, places: usize, times: u64) -> bool {
     for place in 0..places {
         if dropped(drops, place) != times {
             return false;
@@ -69,12 +69,12 @@ pub fn all_are(drops: &Table, places: usize, times: u64) -> bool {
 /// A value that counts its drops at its place of a table.
 pub struct Counted {
     pub place: usize,
-    pub drops: Table,
+    pub drops: DropCounts,
 }
 
 impl Counted {
     /// The value of a place. There is none where the table has too many owners.
-    pub fn of(drops: &Table, place: usize) -> Option<Counted> {
+    pub fn of(drops: &DropCounts, place: usize) -> Option<Counted> {
         let drops = Arc::try_clone(drops).ok()?;
         Some(Counted { place, drops })
     }

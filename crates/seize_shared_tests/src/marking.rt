@@ -2,7 +2,7 @@
 //! then.
 ghost use Rattle.std.specs.Prelude.{◌<◌, ◌≡◌};
 
-use crate::{Counted, Table, all_are, dropped, table};
+use crate::{Counted, DropCounts, all_are, dropped, table};
 use seize::Fault;
 use seize_collector::{
     Collector, IdSource, OwnedGuard, Pass, Registration, RootGuard, Shared, Tagged,
@@ -90,7 +90,7 @@ fn turns(
     guard: &OwnedGuard<'_, Counted>,
     pass: &mut Pass<Counted>,
     registration: &mut Registration<'_, Counted>,
-    drops: &Table,
+    drops: &DropCounts,
     from: usize,
 ) -> Option<usize>
     requires rooted { 0 < guard.now.stay.caller.blocks.now.words.fixed.roots }
@@ -112,7 +112,7 @@ fn goes(
     guard: &OwnedGuard<'_, Counted>,
     pass: &mut Pass<Counted>,
     collector: &Shared<'_, Counted>,
-    drops: &Table,
+    drops: &DropCounts,
     from: usize,
 ) -> Option<usize>
     requires rooted { 0 < guard.now.stay.caller.blocks.now.words.fixed.roots }
@@ -132,7 +132,7 @@ fn goes(
 fn two_go<R: Threads + Sync>(
     rt: &R,
     collector: &Shared<'_, Counted>,
-    drops: &Table,
+    drops: &DropCounts,
 ) -> Result<Option<usize>, Fault>
     requires rooted { 0 < collector.now.blocks.now.words.fixed.roots }
 {
@@ -153,7 +153,7 @@ fn two_go<R: Threads + Sync>(
 fn two_alone<R: Threads + Sync>(
     rt: &R,
     alloc: Global,
-    drops: &Table,
+    drops: &DropCounts,
 ) -> Result<Option<usize>, Fault> {
     let mut ids = IdSource::new();
     let collector = Collector::new(alloc, &mut ids, 2, 1)?;

@@ -1,7 +1,7 @@
 //! In which order values come back: the drop of each stores the next number of a count.
 ghost use Rattle.std.specs.Prelude.{None};
 
-use crate::{SIZE, Table, dropped as at, opened, table};
+use crate::{DropCounts, SIZE, dropped as at, opened, table};
 use seize::Fault;
 use seize::rows::Defers;
 use seize_collector::{Guard, LocalGuard, RootGuard, Shared};
@@ -18,7 +18,7 @@ const MANY: usize = 30;
 /// A value whose drop stores the next number at its place of a table; the table's first place has the count.
 struct Numbered {
     place: usize,
-    numbers: Table,
+    numbers: DropCounts,
 }
 
 impl Drop for Numbered {
@@ -41,7 +41,7 @@ impl Defers for Numbered {
 /// Puts the value of a place at the root, which retires the one that was there, and tries the batch then if that is asked; tells whether it is there.
 fn puts(
     guard: &mut LocalGuard<'_, '_, Numbered>,
-    numbers: &Table,
+    numbers: &DropCounts,
     place: usize,
     tries: bool,
 ) -> bool {
@@ -59,7 +59,7 @@ fn puts(
 /// before the section ended, and by then.
 fn retires(
     collector: &Shared<'_, Numbered>,
-    numbers: &Table,
+    numbers: &DropCounts,
     put: usize,
     tries: bool,
 ) -> Option<(u64, u64)> {
@@ -83,7 +83,7 @@ fn retires(
 fn sends<R: Threads + Sync>(
     rt: &R,
     collector: &Shared<'_, Numbered>,
-    numbers: &Table,
+    numbers: &DropCounts,
 ) -> Option<(u64, u64)> {
     let guard = collector.enter_owned().ok()?;
     let retired = retires(collector, numbers, SIZE as usize + 1, false);
@@ -93,7 +93,7 @@ fn sends<R: Threads + Sync>(
 }
 
 /// Has a guard open while another one retires a batch, and begins its section anew then; answers how many came back by the other one's end, and by then.
-fn refreshes(collector: &Shared<'_, Numbered>, numbers: &Table) -> Option<(u64, u64)> {
+fn refreshes(collector: &Shared<'_, Numbered>, numbers: &DropCounts) -> Option<(u64, u64)> {
     let mut guard = collector.enter_owned().ok()?;
     let retired = retires(collector, numbers, SIZE as usize + 1, false);
     guard.refresh();
@@ -104,7 +104,7 @@ fn refreshes(collector: &Shared<'_, Numbered>, numbers: &Table) -> Option<(u64, 
 }
 
 /// Each place from 1 on has the number of those that were retired after it, and one.
-fn is_last_first(numbers: &Table) -> bool {
+fn is_last_first(numbers: &DropCounts) -> bool {
     for turn in 0..MANY {
         if at(numbers, turn + 1) != (MANY - turn) as u64 {
             return false;
@@ -114,7 +114,7 @@ fn is_last_first(numbers: &Table) -> bool {
 }
 
 /// Thirty values over one collector, which ends then, with a try after each.
-fn retires_alone(alloc: Global, numbers: &Table) -> Result<Option<(u64, u64)>, Fault> {
+fn retires_alone(alloc: Global, numbers: &DropCounts) -> Result<Option<(u64, u64)>, Fault> {
     let collector = opened(alloc)?;
     Ok(retires(&collector.shared(), numbers, MANY + 1, true))
 }
@@ -131,7 +131,7 @@ fn thirty_values_come_back_as_their_guard_ends_and_the_last_first(
 }
 
 /// Each place from 1 on has its own number.
-fn is_in_order(numbers: &Table) -> bool {
+fn is_in_order(numbers: &DropCounts) -> bool {
     for turn in 0..SIZE as usize {
         if at(numbers, turn + 1) != turn as u64 + 1 {
             return false;
@@ -144,7 +144,7 @@ fn is_in_order(numbers: &Table) -> bool {
 fn sends_alone<R: Threads + Sync>(
     rt: &R,
     alloc: Global,
-    numbers: &Table,
+    numbers: &DropCounts,
 ) -> Result<Option<(u64, u64)>, Fault> {
     let collector = opened(alloc)?;
     Ok(sends(rt, &collector.shared(), numbers))
@@ -162,7 +162,7 @@ fn a_batch_comes_back_in_order_where_a_guard_ends_on_another_thread(
 }
 
 /// A batch over one collector, which ends then, with a guard that is refreshed.
-fn refreshes_alone(alloc: Global, numbers: &Table) -> Result<Option<(u64, u64)>, Fault> {
+fn refreshes_alone(alloc: Global, numbers: &DropCounts) -> Result<Option<(u64, u64)>, Fault> {
     let collector = opened(alloc)?;
     Ok(refreshes(&collector.shared(), numbers))
 }

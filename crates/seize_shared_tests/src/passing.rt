@@ -1,7 +1,7 @@
 //! Two threads look at a root under one guard, each by a pass of its own, as a third one puts values there: what they have seen is there as long as the guard is.
 ghost use Rattle.std.specs.Prelude.{◌<◌, ◌≡◌};
 
-use crate::{Counted, Table, all_are, dropped, table};
+use crate::{Counted, DropCounts, all_are, dropped, table};
 use seize::Fault;
 use seize_collector::{Collector, Guard, IdSource, OwnedGuard, Pass, RootGuard, Shared};
 use std::alloc::Global;
@@ -13,7 +13,11 @@ use std::thread::Threads;
 const TIMES: usize = 5_000;
 
 /// How many values one has seen under the guard, and whether each was there still as the next one was seen.
-fn looks(guard: &OwnedGuard<'_, Counted>, pass: &mut Pass<Counted>, drops: &Table) -> (usize, bool)
+fn looks(
+    guard: &OwnedGuard<'_, Counted>,
+    pass: &mut Pass<Counted>,
+    drops: &DropCounts,
+) -> (usize, bool)
     requires source { pass.old.pass.seat.base ≡ guard.now.stay.caller.blocks.now.words.id.views_name }
 {
     let mut seen = 0;
@@ -35,7 +39,7 @@ fn looks(guard: &OwnedGuard<'_, Counted>, pass: &mut Pass<Counted>, drops: &Tabl
 }
 
 /// Puts a value for each place at the root, one after the other.
-fn puts(collector: &Shared<'_, Counted>, drops: &Table) -> Result<bool, Fault> {
+fn puts(collector: &Shared<'_, Counted>, drops: &DropCounts) -> Result<bool, Fault> {
     let mut guard = collector.enter_owned()?;
     for place in 0..TIMES {
         let Some(value) = Counted::of(drops, place) else {
@@ -53,7 +57,7 @@ fn puts(collector: &Shared<'_, Counted>, drops: &Table) -> Result<bool, Fault> {
 fn two_look<R: Threads + Sync>(
     rt: &R,
     collector: &Shared<'_, Counted>,
-    drops: &Table,
+    drops: &DropCounts,
 ) -> Result<bool, Fault> {
     let guard = collector.enter_owned()?;
     let mut one = guard.collector().pass();
@@ -67,7 +71,7 @@ fn two_look<R: Threads + Sync>(
 }
 
 /// Two that look, and one that puts.
-fn all_go<R: Threads + Sync>(rt: &R, alloc: Global, drops: &Table) -> Result<bool, Fault> {
+fn all_go<R: Threads + Sync>(rt: &R, alloc: Global, drops: &DropCounts) -> Result<bool, Fault> {
     let mut ids = IdSource::new();
     let collector = Collector::new(alloc, &mut ids, 2, 1)?;
     let shared = collector.shared();

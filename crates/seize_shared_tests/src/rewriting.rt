@@ -2,7 +2,7 @@
 //! is replaced comes back, and each one is dropped once.
 use crate::bringing::{publishes, sweeps};
 use crate::crowd::TIMES;
-use crate::{Counted, Table, all_are, dropped, opened, table};
+use crate::{Counted, DropCounts, all_are, dropped, opened, table};
 use seize::Fault;
 use seize_collector::{Owned, Shared};
 use std::alloc::Global;
@@ -12,7 +12,7 @@ use std::thread::Threads;
 
 /// Gives a block the values of so many places, one after the other, from the one on that comes next. Tells whether each value that came back was the one that
 /// was given before, and had not been dropped, and the new one was there then.
-fn rewrites(owned: &mut Owned<'_, Counted>, drops: &Table, from: usize) -> bool
+fn rewrites(owned: &mut Owned<'_, Counted>, drops: &DropCounts, from: usize) -> bool
     ensures { owned.new.caller.blocks ≡ owned.old.caller.blocks }
 {
     let mut good = true;
@@ -35,7 +35,7 @@ fn rewrites(owned: &mut Owned<'_, Counted>, drops: &Table, from: usize) -> bool
 }
 
 /// Makes a block of the value of a place, gives it so many further ones, and puts it at the root.
-fn brings_the_last(collector: &Shared<'_, Counted>, drops: &Table, from: usize) -> bool {
+fn brings_the_last(collector: &Shared<'_, Counted>, drops: &DropCounts, from: usize) -> bool {
     let Ok(mut registration) = collector.register() else {
         return false;
     };
@@ -54,7 +54,7 @@ fn brings_the_last(collector: &Shared<'_, Counted>, drops: &Table, from: usize) 
 }
 
 /// Two of them.
-fn pair<R: Threads + Sync>(rt: &R, collector: &Shared<'_, Counted>, drops: &Table) -> bool {
+fn pair<R: Threads + Sync>(rt: &R, collector: &Shared<'_, Counted>, drops: &DropCounts) -> bool {
     let (first, second) = thread::join(
         rt,
         || brings_the_last(collector, drops, 0),
@@ -64,7 +64,7 @@ fn pair<R: Threads + Sync>(rt: &R, collector: &Shared<'_, Counted>, drops: &Tabl
 }
 
 /// And one who takes away what is there, over one collector, which ends then.
-fn three<R: Threads + Sync>(rt: &R, alloc: Global, drops: &Table) -> Result<bool, Fault> {
+fn three<R: Threads + Sync>(rt: &R, alloc: Global, drops: &DropCounts) -> Result<bool, Fault> {
     let collector = opened(alloc)?;
     let shared = collector.shared();
     let (first, second) = thread::join(rt, || pair(rt, &shared, drops), || sweeps(&shared));

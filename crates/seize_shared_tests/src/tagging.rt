@@ -2,7 +2,7 @@
 //! refused.
 ghost use Rattle.std.specs.Prelude.{◌<◌};
 
-use crate::{Counted, Table, all_are, table};
+use crate::{Counted, DropCounts, all_are, table};
 use seize::Fault;
 use seize_collector::{Collector, IdSource, OwnedGuard, RootGuard, Shared, Tagged};
 use std::alloc::Global;
@@ -105,7 +105,12 @@ fn turns(
 }
 
 /// So many turns with the values of so many places from one on.
-fn goes(collector: &Shared<'_, Counted>, drops: &Table, mark: u64, from: usize) -> Option<Tally>
+fn goes(
+    collector: &Shared<'_, Counted>,
+    drops: &DropCounts,
+    mark: u64,
+    from: usize,
+) -> Option<Tally>
     requires rooted { 0 < collector.now.blocks.now.words.fixed.roots }
 {
     let mut tally = Tally {
@@ -145,7 +150,7 @@ fn agree(first: Option<Tally>, second: Option<Tally>, last: Option<u64>) -> bool
 }
 
 /// Two of them over one collector.
-fn both<R: Threads + Sync>(rt: &R, alloc: Global, drops: &Table) -> Result<bool, Fault> {
+fn both<R: Threads + Sync>(rt: &R, alloc: Global, drops: &DropCounts) -> Result<bool, Fault> {
     let mut ids = IdSource::new();
     let collector = Collector::new(alloc, &mut ids, 2, 1)?;
     let shared = collector.shared();

@@ -15,4 +15,4 @@ pub use law::views::{
     sections_go_on, values_are_found,
 };
 pub use rows::OfRows;
-pub use view::{Becomes, Began, Deed, Fixed, Has, Noted, View, Why};
+pub use view::{Becomes, Began, Deed, Fixed, Has, Noted, SlotView, Why};

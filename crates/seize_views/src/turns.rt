@@ -6,7 +6,7 @@ use seize_blocks::{Lesson, Meeting, Turn};
 use std::marker::PhantomData;
 
 /// Registering begins.
-pub struct Registering<T, C>(PhantomData<(T, C)>);
+pub struct RegisteringBegins<T, C>(PhantomData<(T, C)>);
 
 /// Entering begins.
 pub struct Entering<T, C>(PhantomData<(T, C)>);
@@ -18,7 +18,7 @@ pub struct Retiring<T, C>(PhantomData<(T, C)>);
 pub struct Flushing<T, C>(PhantomData<(T, C)>);
 
 /// Leaving begins.
-pub struct Leaving<T, C>(PhantomData<(T, C)>);
+pub struct LeavingBegins<T, C>(PhantomData<(T, C)>);
 
 /// Refreshing begins.
 pub struct Refreshing<T, C>(PhantomData<(T, C)>);
@@ -27,7 +27,7 @@ pub struct Refreshing<T, C>(PhantomData<(T, C)>);
 pub struct Forgetting<T, C>(PhantomData<(T, C)>);
 
 /// What was begun ends.
-pub struct Ending<T, C>(PhantomData<(T, C)>);
+pub struct BegunEnds<T, C>(PhantomData<(T, C)>);
 
 /// Giving up begins.
 pub struct Freeing<T, C>(PhantomData<(T, C)>);
@@ -47,7 +47,7 @@ pub struct Leaning;
 /// It leans on it no longer.
 pub struct Returning;
 
-impl<T: Defers, C: Content<T>> Turn<Fixed, C::View> for Registering<T, C> {
+impl<T: Defers, C: Content<T>> Turn<Fixed, C::View> for RegisteringBegins<T, C> {
     ghost use Rattle.seize_views.specs.Views.Begun.{registering, Makes};
     ghost use Rattle.seize_views.specs.Views.Content.{Turned};
     ghost use Rattle.seize_views.specs.Views.Notes.{still};
@@ -79,7 +79,7 @@ impl<T: Defers, C: Content<T>> Turn<Fixed, C::View> for Flushing<T, C> {
     ghost to = { Turned C.notes C.beside Flushes (λ _. Trial) };
 }
 
-impl<T: Defers, C: Content<T>> Turn<Fixed, C::View> for Leaving<T, C> {
+impl<T: Defers, C: Content<T>> Turn<Fixed, C::View> for LeavingBegins<T, C> {
     ghost use Rattle.seize_views.specs.Views.Begun.{leaving, Makes};
     ghost use Rattle.seize_views.specs.Views.Content.{Turned};
     ghost use Rattle.seize_views.specs.Views.Notes.{still};
@@ -103,7 +103,7 @@ impl<T: Defers, C: Content<T>> Turn<Fixed, C::View> for Forgetting<T, C> {
     ghost to = { Turned C.notes C.beside (Makes forgetting) still };
 }
 
-impl<T: Defers, C: Content<T>> Turn<Fixed, C::View> for Ending<T, C> {
+impl<T: Defers, C: Content<T>> Turn<Fixed, C::View> for BegunEnds<T, C> {
     ghost use Rattle.seize_views.specs.Views.Begun.{ended, Makes};
     ghost use Rattle.seize_views.specs.Views.Content.{Turned};
     ghost use Rattle.seize_views.specs.Views.Notes.{still};

@@ -4,7 +4,7 @@ use seize::rows::{Register, Settle};
 /// What a seat knows, and what it has done last.
 pub struct Noted<T> {
     /// What it knows.
-    pub knows: View<T>,
+    pub knows: SlotView<T>,
     /// What it has done last at a root.
     pub did: Deed<T>,
     /// What it has begun last on a slot.
@@ -38,7 +38,7 @@ pub enum Began {
 }
 
 /// What a seat knows: whether it holds a slot, and which row it has under way.
-pub enum View<T> {
+pub enum SlotView<T> {
     /// It holds no slot.
     Rests,
     /// It looks for one.

@@ -7,14 +7,14 @@ use Rattle.papaya_raw.specs.declared.machines.progress.Progress.{Progress}
 use Rattle.map_machines.specs.declared.lookup.Lookup.{Lookup}
 use Rattle.seize_seats.specs.Seats.State.{Learns}
 use Rattle.seize_views.specs.declared.view.Fixed.{Fixed}
-use Rattle.seize_views.specs.declared.view.View.{View as SlotView}
-use Rattle.seize_views.specs.declared.view.View.TheVariants.{Rests}
+use Rattle.seize_views.specs.declared.view.SlotView.{SlotView}
+use Rattle.seize_views.specs.declared.view.SlotView.TheVariants.{Rests}
 use Rattle.map_tables.specs.declared.node.Node.{Node}
 use Rattle.threads_rule.specs.Views.Notes.{IsResting}
 use Rattle.threads_rule.specs.Views.Promises.{LeaningsBegin}
 use Rattle.threads_rule.specs.Views.Rule.{Holds, KeepsFor, section_of, stand_of}
 use Rattle.threads_rule.specs.declared.view.Map.{Map}
-use Rattle.threads_rule.specs.declared.view.Run.{Run}
+use Rattle.threads_rule.specs.declared.view.BegunCall.{BegunCall}
 use Rattle.threads_rule.specs.declared.view.View.{View}
 use Rattle.threads_rule.specs.Errands.Looking.{HasFound, HasRun, MayLook, Shows, StaysThere, found_of}
 use Rattle.threads_callers.specs.Passing.{BeginsUnder, ComesBack, HasFoundUnder, HasRunUnder, IsBack, IsLentBy}
@@ -112,7 +112,7 @@ module _ {K V S : Type 0} (same : K → K → Bool) (hash : S → K → ℕ) (fi
     slot = ran.slot;
     knows = ran.knows;
     inside = ran.inside;
-    calls = ran.calls ∙ ap (λ (l : List (Run K V)). record { began = machine_for same hash ran.map ran.slot wanted; told = told } ∷ l) calls;
+    calls = ran.calls ∙ ap (λ (l : List (BegunCall K V)). record { began = machine_for same hash ran.map ran.slot wanted; told = told } ∷ l) calls;
     knew = ran.knew;
     knew_map = ran.knew_map;
     knew_section = ran.knew_section;

@@ -4,8 +4,8 @@ use Rattle.std.proofs.Common.{◌≡◌, ℕ, Bool, sym, subst, ap, ◌∙◌}
 use Rattle.seize_words.specs.declared.fault.Fault.{Fault}
 use Rattle.seize_views.specs.Views.Rows.{IsAtRest}
 use Rattle.seize_views.specs.declared.view.Has.TheVariants.{Nothing as NoBlock}
-use Rattle.seize_views.specs.declared.view.View.{View as SlotView}
-use Rattle.seize_views.specs.declared.view.View.TheVariants.{Rests, Outside, Inside}
+use Rattle.seize_views.specs.declared.view.SlotView.{SlotView}
+use Rattle.seize_views.specs.declared.view.SlotView.TheVariants.{Rests, Outside, Inside}
 use Rattle.map_tables.specs.declared.node.Node.{Node}
 use Rattle.map_tables.specs.declared.setting.Setting.{Setting}
 use Rattle.map_machines.specs.declared.new_map.NewMap.{NewMap}
@@ -13,13 +13,13 @@ use Rattle.papaya_raw.specs.declared.machines.progress.Answer.{Answer}
 use Rattle.threads_rule.specs.Given.ActsActs.{Wanted}
 use Rattle.threads_rule.specs.Views.Notes.{beside_of, row_known, notes_of, IsResting}
 use Rattle.threads_rule.specs.declared.view.Map.{Map}
-use Rattle.threads_rule.specs.declared.view.Run.{Run}
+use Rattle.threads_rule.specs.declared.view.BegunCall.{BegunCall}
 use Rattle.threads_rule.specs.declared.view.View.{View}
-use Rattle.threads_rule.specs.declared.view.Work.{Work}
-use Rattle.threads_rule.specs.declared.view.Work.TheVariants.{Nothing}
+use Rattle.threads_rule.specs.declared.view.SeatWork.{SeatWork}
+use Rattle.threads_rule.specs.declared.view.SeatWork.TheVariants.{Nothing}
 use Rattle.threads_rule.specs.Views.Rule.{section_of, stand_of}
 use Rattle.threads_rule.proofs.Views.Contents.{knows_free}
-use Rattle.papaya_raw.specs.declared.machines.asking.Reply.{Reply}
+use Rattle.papaya_raw.specs.declared.machines.asking.MachineReply.{MachineReply}
 use Rattle.threads_errands.specs.Asking.{HasAnswered}
 use Rattle.threads_rule.proofs.Views.Leaves.{own_section}
 use Rattle.threads_rule.specs.Errands.Calling.{HasCalled}
@@ -29,7 +29,7 @@ use Rattle.threads_rule.specs.Errands.Making.{CameTo}
 module _ {K V S : Type 0} where
   -- who has nothing else under way knows its row
   pub known_free : (v : View K V S) (x : SlotView (Node K V)) → v.under ≡ None → v.slot ≡ x → v.work ≡ Nothing → (notes_of v).knows ≡ x
-  known_free v x lone slot free = ap (λ (o : Option (ℕ × ℕ)). row_known o v.slot v.work) lone ∙ ap (λ (k : Work K V S). row_known None v.slot k) free ∙ slot
+  known_free v x lone slot free = ap (λ (o : Option (ℕ × ℕ)). row_known o v.slot v.work) lone ∙ ap (λ (k : SeatWork K V S). row_known None v.slot k) free ∙ slot
 
   pub rests_so : (v : View K V S) (x : SlotView (Node K V)) → v.under ≡ None → v.slot ≡ x → v.work ≡ Nothing → IsAtRest x → IsResting v
   rests_so v x lone slot free rests = subst (λ (y : SlotView (Node K V)). IsAtRest y) (sym (known_free v x lone slot free)) rests
@@ -62,10 +62,10 @@ module _ {K V S : Type 0} where
 
   -- what is beside a row stays: the map, and the calls
   pub map_stays : (v w : View K V S) → beside_of w ≡ beside_of v → w.map ≡ v.map
-  map_stays v w e = ap (λ (b : Option (Map S) × List (Run K V)). b.0) e
+  map_stays v w e = ap (λ (b : Option (Map S) × List (BegunCall K V)). b.0) e
 
   pub calls_stay : (v w : View K V S) → beside_of w ≡ beside_of v → w.calls ≡ v.calls
-  calls_stay v w e = ap (λ (b : Option (Map S) × List (Run K V)). b.1) e
+  calls_stay v w e = ap (λ (b : Option (Map S) × List (BegunCall K V)). b.1) e
 
   -- and so does who has looked a key up
   pub rests_inside : (same : K → K → Bool) (hash : S → K → ℕ) (key : K) (answer : Option ℕ) (v w : View K V S) (t : ℕ) → v.under ≡ None → section_of v.under v.slot ≡ Some t → HasFound same hash key answer v w → IsResting w
@@ -79,7 +79,7 @@ module _ {K V S : Type 0} where
       let s = stood v w (Inside t NoBlock) lone (own_inside v t lone section) called.stays.slot in rests_so w (Inside t NoBlock) s.0 s.1 called.free tt
 
   -- or one that has asked
-  pub rests_answered : (same : K → K → Bool) (hash : S → K → ℕ) (says : Option (K × V) → Reply V → Type 0) (wanted : Wanted K V) (answer : Result Answer Fault) (v w : View K V S) (t : ℕ)
+  pub rests_answered : (same : K → K → Bool) (hash : S → K → ℕ) (says : Option (K × V) → MachineReply V → Type 0) (wanted : Wanted K V) (answer : Result Answer Fault) (v w : View K V S) (t : ℕ)
       → v.under ≡ None → section_of v.under v.slot ≡ Some t → HasAnswered same hash says wanted answer v w → IsResting w
   rests_answered same hash says wanted answer v w t lone section answered =
       let s = stood v w (Inside t NoBlock) lone (own_inside v t lone section) answered.stays.slot in rests_so w (Inside t NoBlock) s.0 s.1 answered.free tt

@@ -2,8 +2,8 @@
 ghost use Rattle.std.specs.Prelude.{◌≡◌, IsSome, None, true};
 ghost use Rattle.threads_callers.specs.Standing.{come_to, known_by};
 ghost use Rattle.threads_rule.specs.Views.Rule.{at_rest};
-ghost use Rattle.threads_rule.specs.declared.view.Work.TheVariants.{Nothing};
-ghost use Rattle.seize_views.specs.declared.view.View.TheVariants.{Rests};
+ghost use Rattle.threads_rule.specs.declared.view.SeatWork.TheVariants.{Nothing};
+ghost use Rattle.seize_views.specs.declared.view.SlotView.TheVariants.{Rests};
 ghost use Rattle.seize_callers.specs.Kept.{is_home};
 
 mod calls;
@@ -13,12 +13,12 @@ mod seats;
 
 use crate::showing::newcomer;
 use map_tables::{Hashes, Node};
-pub use pass::Pass;
+pub use pass::MapPassSeat;
 use seize_blocks::{Blocks, Seat};
 use threads_rule::OfMaps;
 
 /// One of those who share the memory of maps: a seat of it, which is on no errand, with the memory.
-pub struct Caller<'a, K: Eq, V, S: Hashes<K>> {
+pub struct MapCaller<'a, K: Eq, V, S: Hashes<K>> {
     blocks: &'a Blocks<Node<K, V>, OfMaps<S>>,
     seat: Seat<Node<K, V>, OfMaps<S>>,
     near: u64,
@@ -27,14 +27,14 @@ pub struct Caller<'a, K: Eq, V, S: Hashes<K>> {
     ghost lone: { seat.view.under ≡ None },
 }
 
-impl<'a, K: Eq, V, S: Hashes<K>> Caller<'a, K, V, S> {
+impl<'a, K: Eq, V, S: Hashes<K>> MapCaller<'a, K, V, S> {
     /// One more of them, who holds no slot and knows no map.
     pub fn new(blocks: &'a Blocks<Node<K, V>, OfMaps<S>>) -> Self
         ensures rests { result.seat.view ≡ at_rest }
         ensures blocks { result.blocks.now ≡ blocks.now }
     {
         let seat = blocks.seat();
-        Caller {
+        MapCaller {
             blocks,
             seat,
             near: 0,
@@ -48,16 +48,16 @@ impl<'a, K: Eq, V, S: Hashes<K>> Caller<'a, K, V, S> {
         ensures shown { result.seat.view ≡ come_to self.now.seat.view.map }
     {
         let seat = newcomer(self.blocks, &self.seat);
-        Caller::of(self.blocks, seat)
+        MapCaller::of(self.blocks, seat)
     }
 }
 
-impl<'a, K: Eq, V, S: Hashes<K>> Drop for Caller<'a, K, V, S> {
+impl<'a, K: Eq, V, S: Hashes<K>> Drop for MapCaller<'a, K, V, S> {
     fn drop(self)
         requires rests { self.seat.view.slot ≡ Rests }
         requires free { self.seat.view.work ≡ Nothing }
     {
-        let Caller {
+        let MapCaller {
             blocks: _,
             seat: _,
             near: _,

@@ -4,5 +4,5 @@
 mod caller;
 mod showing;
 
-pub use caller::{Caller, Pass};
+pub use caller::{MapCaller, MapPassSeat};
 pub use showing::newcomer;

@@ -6,14 +6,14 @@ use Rattle.seize_words.specs.declared.fault.Fault.{Fault}
 use Rattle.map_tables.specs.Chunks.{is_incremental}
 use Rattle.map_tables.specs.declared.setting.Setting.{Setting}
 use Rattle.threads_rule.specs.Given.ActsActs.{RemoveIf, TryToInsertWith}
-use Rattle.papaya_raw.specs.declared.machines.asking.Reply.{Reply}
+use Rattle.papaya_raw.specs.declared.machines.asking.MachineReply.{MachineReply}
 use Rattle.papaya_raw.specs.declared.machines.progress.Answer.{Answer}
 use Rattle.papaya_raw.specs.declared.machines.call.KeyCall.{KeyCall}
 use Rattle.papaya_raw.specs.declared.machines.machine.Machine.TheVariants.{Key}
 use Rattle.seize_views.specs.declared.view.Has.TheVariants.{Nothing as NoBlock}
-use Rattle.seize_views.specs.declared.view.View.TheVariants.{Inside}
+use Rattle.seize_views.specs.declared.view.SlotView.TheVariants.{Inside}
 use Rattle.threads_rule.specs.declared.view.View.{View}
-use Rattle.threads_rule.specs.declared.view.Work.TheVariants.{Nothing}
+use Rattle.threads_rule.specs.declared.view.SeatWork.TheVariants.{Nothing}
 use Rattle.threads_errands.specs.Asking.{HasAnswered, HasAsked, makes_pair, removes_if}
 use Rattle.threads_rule.specs.Errands.Calling.{MayDo, outcome_of, wanted_of}
 use Rattle.threads_rule.specs.CallKinds.Kinds.{Stage}
@@ -41,7 +41,7 @@ module _ {K V S : Type 0} (same : K → K → Bool) (hash : S → K → ℕ) (v 
       may_do same hash removes_if testing (RemoveIf key) key (λ x h. removing_if x h key) (λ map s. refl) (λ x h. refl)
       (λ x h. record { so = record { kind = refl; holds = (tt, inr (tt, tt)); gap = tt }; here = tt }) v setting its hasher hashed t call lone inside free knows incremental is word made
 
-module _ {K V S : Type 0} (same : K → K → Bool) (hash : S → K → ℕ) (says : Option (K × V) → Reply V → Type 0) {call made : KeyCall K V K} (v w : View K V S) (is : call ≡ made) where
+module _ {K V S : Type 0} (same : K → K → Bool) (hash : S → K → ℕ) (says : Option (K × V) → MachineReply V → Type 0) {call made : KeyCall K V K} (v w : View K V S) (is : call ≡ made) where
   -- what a call has come to is said of who wanted it,
   pub answered_by : {answer so told : Result Answer Fault} → so ≡ answer → so ≡ told → HasAnswered same hash says (wanted_of (Key call)) answer v w → HasRun same hash (wanted_of (Key made)) (outcome_of told) v w
   answered_by {answer} {so} {told} its its_told answered =

@@ -4,7 +4,7 @@
 mod session;
 
 pub use seize_views::Fixed;
-pub use session::{Attempt, Found, Session};
-pub use threads_callers::{Pass, newcomer};
+pub use session::{Attempt, Found, SessionBase};
+pub use threads_callers::{MapPassSeat, newcomer};
 pub use threads_errands::memory_for;
 pub use threads_rule::OfMaps;

@@ -9,9 +9,9 @@ ghost use Rattle.threads_rule.specs.Given.ActsActs.{Get, Insert};
 ghost use Rattle.map_tables.specs.Chunks.{is_incremental};
 ghost use Rattle.map_tables.specs.declared.node.Node.TheVariants.{Pair};
 ghost use Rattle.map_tables.specs.declared.resize_mode.ResizeMode.TheVariants.{Incremental};
-ghost use Rattle.threads_rule.specs.declared.view.Work.TheVariants.{Nothing as NoWork};
+ghost use Rattle.threads_rule.specs.declared.view.SeatWork.TheVariants.{Nothing as NoWork};
 ghost use Rattle.seize_views.specs.declared.view.Has.TheVariants.{Nothing};
-ghost use Rattle.seize_views.specs.declared.view.View.TheVariants.{Inside, Outside, Rests};
+ghost use Rattle.seize_views.specs.declared.view.SlotView.TheVariants.{Inside, Outside, Rests};
 
 mod asks;
 mod keys;
@@ -27,13 +27,13 @@ use seize_views::Fixed;
 use seize_words::{Fault, Link, Refused};
 use std::hash::Hash;
 use std::sync::Wait;
-use threads_callers::Caller;
+use threads_callers::MapCaller;
 use threads_errands::Ran;
 use threads_rule::OfMaps;
 
 /// A map, as one of those knows it who share it: with a seat of its own, which may be sent to a thread. It has nothing under way between its calls.
-pub struct Session<'a, K: Eq, V, S: Hashes<K>> {
-    caller: Caller<'a, K, V, S>,
+pub struct SessionBase<'a, K: Eq, V, S: Hashes<K>> {
+    caller: MapCaller<'a, K, V, S>,
     hasher: &'a S,
     setting: Setting,
     slot: u64,
@@ -75,7 +75,7 @@ fn refused<K: Drop, V: Drop>(fault: Fault, unstored: Option<Node<K, V>>) -> Refu
     }
 }
 
-impl<'a, K: Eq + Drop, V: Drop, S: Hashes<K>> Session<'a, K, V, S> {
+impl<'a, K: Eq + Drop, V: Drop, S: Hashes<K>> SessionBase<'a, K, V, S> {
     /// Makes a map with no pair, and no table yet, in a memory that was opened so; its keys are hashed by this hasher. It copies at most so many places at a time as it
     /// grows, and counts its pairs for so many processors. The faults are `RootsUsedUp` and `Memory`: there is no map then, and no root is taken.
     pub fn open(
@@ -105,9 +105,9 @@ impl<'a, K: Eq + Drop, V: Drop, S: Hashes<K>> Session<'a, K, V, S> {
             initial: 1,
         };
         let opening = NewMap::new(setting, chosen.roots, 0);
-        let mut caller = Caller::new(blocks);
+        let mut caller = MapCaller::new(blocks);
         let setting = caller.makes_map(hasher, opening)?;
-        Ok(Session {
+        Ok(SessionBase {
             caller,
             hasher,
             setting,
@@ -116,7 +116,7 @@ impl<'a, K: Eq + Drop, V: Drop, S: Hashes<K>> Session<'a, K, V, S> {
     }
 }
 
-impl<'a, K: Eq, V, S: Hashes<K>> Session<'a, K, V, S> {
+impl<'a, K: Eq, V, S: Hashes<K>> SessionBase<'a, K, V, S> {
     /// The same map for one more of those who share it.
     pub fn session(&self) -> Self
         ensures blocks { result.caller.blocks.now ≡ self.now.caller.blocks.now }
@@ -125,7 +125,7 @@ impl<'a, K: Eq, V, S: Hashes<K>> Session<'a, K, V, S> {
         ensures none { result.caller.seat.view.calls ≡ [] }
     {
         let caller = self.caller.shows();
-        Session {
+        SessionBase {
             caller,
             hasher: self.hasher,
             setting: self.setting,
@@ -169,7 +169,7 @@ impl<'a, K: Eq, V, S: Hashes<K>> Session<'a, K, V, S> {
     }
 }
 
-impl<'a, K: Eq + Drop, V: Drop, S: Hashes<K>> Session<'a, K, V, S> {
+impl<'a, K: Eq + Drop, V: Drop, S: Hashes<K>> SessionBase<'a, K, V, S> {
     /// Ends the section: whatever was found can't be looked at from then on.
     pub fn leave(&mut self)
         requires inside { self.old.caller.seat.view.slot ≡ Inside self.old.slot Nothing }
@@ -182,7 +182,7 @@ impl<'a, K: Eq + Drop, V: Drop, S: Hashes<K>> Session<'a, K, V, S> {
     }
 }
 
-impl<'a, K: Eq + Hash, V, S: Hashes<K>> Session<'a, K, V, S> {
+impl<'a, K: Eq + Hash, V, S: Hashes<K>> SessionBase<'a, K, V, S> {
     /// Looks a key up within the section of its slot, and answers its pair, if the map has one. The pair is there until the session takes its next step, whoever replaces or
     /// removes it meanwhile.
     pub fn find<R: Wait>(&mut self, rt: &R, key: &K) -> Option<Found>
@@ -213,7 +213,7 @@ impl<'a, K: Eq + Hash, V, S: Hashes<K>> Session<'a, K, V, S> {
     }
 }
 
-impl<'a, K: Eq + Hash + Drop, V: Drop, S: Hashes<K>> Session<'a, K, V, S> {
+impl<'a, K: Eq + Hash + Drop, V: Drop, S: Hashes<K>> SessionBase<'a, K, V, S> {
     /// Stores a pair within the section of its slot, in the place of one of an equal key, if there is one, and answers whether one was replaced. The faults are `Memory`
     /// and `Capacity`; the pair comes back then.
     pub fn insert<R: Wait>(&mut self, rt: &R, key: K, value: V) -> Result<bool, Refused<K, V>>
@@ -242,11 +242,11 @@ impl<'a, K: Eq + Hash + Drop, V: Drop, S: Hashes<K>> Session<'a, K, V, S> {
     }
 }
 
-impl<'a, K: Eq, V, S: Hashes<K>> Drop for Session<'a, K, V, S> {
+impl<'a, K: Eq, V, S: Hashes<K>> Drop for SessionBase<'a, K, V, S> {
     fn drop(self)
         requires rests { self.caller.seat.view.slot ≡ Rests }
     {
-        let Session {
+        let SessionBase {
             caller,
             hasher: _,
             setting: _,

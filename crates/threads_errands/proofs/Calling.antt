@@ -23,8 +23,8 @@ use Rattle.threads_rule.specs.Views.Rule.{stand_of, Holds, KeepsFor}
 use Rattle.threads_rule.specs.Views.Told.{HandsBack, MayCome, called, turned, turned_by}
 use Rattle.threads_rule.specs.declared.view.Map.{Map}
 use Rattle.threads_rule.specs.declared.view.View.{View}
-use Rattle.threads_rule.specs.declared.view.Work.{Work}
-use Rattle.threads_rule.specs.declared.view.Work.TheVariants.{Calls}
+use Rattle.threads_rule.specs.declared.view.SeatWork.{SeatWork}
+use Rattle.threads_rule.specs.declared.view.SeatWork.TheVariants.{Calls}
 use Rattle.threads_rule.proofs.Views.Laws.{calls_turn}
 use Rattle.seize_callers.specs.Kept.{kept}
 use Rattle.threads_errands.specs.Steps.{HasStepped}
@@ -201,7 +201,7 @@ module _ {K V S : Type 0} (same : K → K → Bool) (hash : S → K → ℕ) (k 
           let t = is_turn none in
           let here : turned same hash c.seat.now.view w = subst (λ (x : Within K V S). turned same hash x.seat.now.view w) t.0 goes in
           let by_map = subst (λ (o : Option (Map S)). turned_by same hash c.seat.now.view o (Calls machine) w) is.at.knows
-          (subst (λ (k : Work K V S). turned_by same hash c.seat.now.view c.seat.now.view.map k w) is.at.works here) in
+          (subst (λ (k : SeatWork K V S). turned_by same hash c.seat.now.view c.seat.now.view.map k w) is.at.works here) in
           let now : IsNow t.1.0 = subst (λ (p : Plan (Node K V) (Machine K V K × Progress (Node K V))). IsQuiet p) t.1.1 quiet in
           let ends = subst (λ (p : Plan (Node K V) (Machine K V K × Progress (Node K V))). TurnsTo (shown_in w.looks) p by_map.0) t.1.1 by_map.1 in
           let one : by_map.0 ≡ end =

@@ -14,8 +14,8 @@ use Rattle.threads_rule.specs.Views.Looks.{shown_in, MayFollow}
 use Rattle.threads_rule.specs.Views.Told.{HandsBack, MayCome, told_by, called}
 use Rattle.threads_rule.specs.declared.view.Map.{Map}
 use Rattle.threads_rule.specs.declared.view.View.{View}
-use Rattle.threads_rule.specs.declared.view.Work.{Work}
-use Rattle.threads_rule.specs.declared.view.Work.TheVariants.{Calls}
+use Rattle.threads_rule.specs.declared.view.SeatWork.{SeatWork}
+use Rattle.threads_rule.specs.declared.view.SeatWork.TheVariants.{Calls}
 use Rattle.threads_rule.proofs.Views.Laws.{calls_go_on}
 use Rattle.threads_errands.specs.Made.{HasAlone, CanMake, HasMade, shown_of}
 use Rattle.threads_errands.specs.declared.within.Within.{Within}
@@ -52,7 +52,7 @@ module _ {K V S : Type 0} (same : K → K → Bool) (hash : S → K → ℕ) (c 
         × MayCome plan end × HandsBack c.seat.now.view.calls end.1
     told_so op out n made =
         subst (λ (o : Option (Map S)). told_by same hash c.seat.now.view o (Calls machine) op out n.seat.now.view) knows
-        (subst (λ (k : Work K V S). told_by same hash c.seat.now.view c.seat.now.view.map k op out n.seat.now.view) works made.told)
+        (subst (λ (k : SeatWork K V S). told_by same hash c.seat.now.view c.seat.now.view.map k op out n.seat.now.view) works made.told)
 
     -- in incremental mode it shows what the step looks at
     pub told_shown : is_incremental map.setting.mode ≡ true → (op : Op (Node K V)) (out : Out (Node K V)) (n : Within K V S) → HasMade same hash c op out n

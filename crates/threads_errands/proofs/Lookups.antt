@@ -3,8 +3,8 @@ use Rattle.std.specs.Prelude.{Option, Some, None}
 use Rattle.std.proofs.Common.{◌≡◌, ℕ, Bool, refl, subst, ap, ◌∙◌}
 use Rattle.seize_words.specs.OneMemory.Op.{Op, Out}
 use Rattle.seize_words.specs.OneMemory.Plan.{Plan, May, Steps, plan_as}
-use Rattle.seize.specs.declared.progress.Progress.{Progress}
-use Rattle.seize.specs.declared.progress.Progress.TheVariants as progress
+use Rattle.seize.specs.declared.advance.Advance.{Advance}
+use Rattle.seize.specs.declared.advance.Advance.TheVariants as progress
 use Rattle.map_tables.specs.declared.node.Node.{Node}
 use Rattle.map_machines.specs.Lookup.{lookup_plan}
 use Rattle.map_machines.specs.declared.lookup.Lookup.{Lookup}
@@ -36,7 +36,7 @@ module _ {K V S : Type 0} (same : K → K → Bool) (hash : S → K → ℕ) (c 
   abbrev machine : Machine K V K
   machine = Key standing_here
 
-  abbrev own : Plan (Node K V) (Lookup × Progress (Option ℕ))
+  abbrev own : Plan (Node K V) (Lookup × Advance (Option ℕ))
   own = lookup_plan (same key) lookup
 
   abbrev in_call : Plan (Node K V) (KeyCall K V K × Called (Node K V))
@@ -56,7 +56,7 @@ module _ {K V S : Type 0} (same : K → K → Bool) (hash : S → K → ℕ) (c 
 
   -- what is told of it
   pub record Came (n : Within K V S) (out : Out (Node K V)) : Type 0 where
-    pub end : Lookup × Progress (Option ℕ)
+    pub end : Lookup × Advance (Option ℕ)
     pub follows : FollowsBy (shown_of n) own out end
     pub view : n.seat.now.view ≡ called c.seat.now.view is.map machine (as_machine (looked standing_here end)) n.seat.now.view.looks
 
@@ -79,7 +79,7 @@ module _ {K V S : Type 0} (same : K → K → Bool) (hash : S → K → ℕ) (c 
       (λ op out n e made. let k = came op out n made in (k.end, k.follows)) (is_plain V (same key) lookup lookup.stands)
 
   -- how far it has come, by what the step tells
-  so_far : (n : Within K V S) (end : Lookup × Progress (Option ℕ)) → n.seat.now.view ≡ called c.seat.now.view is.map machine (as_machine (looked standing_here end)) n.seat.now.view.looks
+  so_far : (n : Within K V S) (end : Lookup × Advance (Option ℕ)) → n.seat.now.view ≡ called c.seat.now.view is.map machine (as_machine (looked standing_here end)) n.seat.now.view.looks
       → TellsSo (same key) (shown_of n) end → LookedSo same key end.0 end.1 n.seat.now.view
   so_far n (d, progress.Goes) view on = record {
     map = is.map;
@@ -96,7 +96,7 @@ module _ {K V S : Type 0} (same : K → K → Bool) (hash : S → K → ℕ) (c 
   so_far n (d, progress.Refused fault) view none = none
 
   -- and what its call has told
-  told_so : (n : Within K V S) (end : Lookup × Progress (Option ℕ)) → n.seat.now.view ≡ called c.seat.now.view is.map machine (as_machine (looked standing_here end)) n.seat.now.view.looks
+  told_so : (n : Within K V S) (end : Lookup × Advance (Option ℕ)) → n.seat.now.view ≡ called c.seat.now.view is.map machine (as_machine (looked standing_here end)) n.seat.now.view.looks
       → HasTold (looking_told end.1) c.seat.now.view n.seat.now.view
   told_so n (d, progress.Goes) view = ap (λ (v : View K V S). v.calls) view
   told_so n (d, progress.Waits) view = ap (λ (v : View K V S). v.calls) view
@@ -104,13 +104,13 @@ module _ {K V S : Type 0} (same : K → K → Bool) (hash : S → K → ℕ) (c 
   told_so n (d, progress.Done (Some word)) view = ap (λ (v : View K V S). v.calls) view
   told_so n (d, progress.Refused fault) view = ap (λ (v : View K V S). v.calls) view
 
-  pub has_looked : (n : Within K V S) (end : Lookup × Progress (Option ℕ)) → Steps (HasMade same hash) shown_of c own n end
+  pub has_looked : (n : Within K V S) (end : Lookup × Advance (Option ℕ)) → Steps (HasMade same hash) shown_of c own n end
       → LookedSo same key end.0 end.1 n.seat.now.view × StaysThere c.seat.now.view n.seat.now.view × IsSameSeat c n × HasTold (looking_told end.1) c.seat.now.view n.seat.now.view
   has_looked n end st =
       let k = was_made (CanMake same hash) (HasMade same hash) shown_of c own n end (is_do V (same key) lookup lookup.stands is.on) st in
       let t = came k.0 k.1 n k.3 in
       let one : t.end ≡ end = follows_one (shown_of n) own k.1 t.end end t.follows k.4 in
-      let view = t.view ∙ ap (λ (e : Lookup × Progress (Option ℕ)). called c.seat.now.view is.map machine (as_machine (looked standing_here e)) n.seat.now.view.looks) one in (
+      let view = t.view ∙ ap (λ (e : Lookup × Advance (Option ℕ)). called c.seat.now.view is.map machine (as_machine (looked standing_here e)) n.seat.now.view.looks) one in (
         so_far n end view (tells (same key) (shown_of n) lookup k.1 end is.on (follows_rest (shown_of n) own k.1 end k.4)),
         record { slot = ap (λ (v : View K V S). stand_of v) view; map = ap (λ (v : View K V S). v.map) view },
         k.3.seat,

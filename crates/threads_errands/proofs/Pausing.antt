@@ -9,8 +9,8 @@ use Rattle.seize_words.specs.declared.fault.Fault.{Fault}
 use Rattle.map_tables.specs.declared.node.Node.{Node}
 use Rattle.map_tables.specs.declared.node.Node.TheVariants.{Pair}
 use Rattle.threads_rule.specs.Given.ActsActs.{Wanted}
-use Rattle.papaya_raw.specs.declared.machines.asking.Reply.{Reply}
-use Rattle.papaya_raw.specs.declared.machines.asking.Reply.TheVariants as reply
+use Rattle.papaya_raw.specs.declared.machines.asking.MachineReply.{MachineReply}
+use Rattle.papaya_raw.specs.declared.machines.asking.MachineReply.TheVariants as reply
 use Rattle.papaya_raw.specs.declared.machines.asking.Takes.TheVariants.{Choices}
 use Rattle.papaya_raw.specs.declared.machines.asking.Told.{Told}
 use Rattle.papaya_raw.specs.declared.machines.asking.Told.TheVariants as tells
@@ -24,7 +24,7 @@ use Rattle.threads_rule.specs.Views.Looks.{shown_in}
 use Rattle.threads_rule.specs.Views.Rule.{stand_of}
 use Rattle.threads_rule.specs.Views.Told.{newest_told}
 use Rattle.threads_rule.specs.declared.view.View.{View}
-use Rattle.threads_rule.specs.declared.view.Work.TheVariants.{Nothing}
+use Rattle.threads_rule.specs.declared.view.SeatWork.TheVariants.{Nothing}
 use Rattle.threads_errands.specs.Asking.{HasAnswered, HasGone, IsOfCall, MakingSays, MayTest, NoneSaid, PausedSo, TestSays, WasTold, makes_pair, removes_if, reply_of, told_at}
 use Rattle.threads_rule.specs.Errands.Calling.{HasEnded, IsAsking, IsGoing, IsNoQuestion, IsUnderWay, TellsSo, outcome_of}
 use Rattle.threads_rule.specs.CallKinds.Kinds.{Kind, Stage, IsFit, IsTold, IsUntold, ShowsPair, stage_after}
@@ -73,7 +73,7 @@ module _ {K V S : Type 0} (k : Kind) (s : Stage) (hasher : S) (machine : Machine
     told = told_last u v w (outcome_of answer) them (subst (λ (t : Progress (Node K V)). HasTold t v w) e has);
   }
 
-module _ {K V S : Type 0} (same : K → K → Bool) (hash : S → K → ℕ) (says : Option (K × V) → Reply V → Type 0) where
+module _ {K V S : Type 0} (same : K → K → Bool) (hash : S → K → ℕ) (says : Option (K × V) → MachineReply V → Type 0) where
   -- one step,
   pub gone_once : (v w : View K V S) → (HasStepped same hash v w ⊎ WasTold says v w) → HasGone same hash says 1 v w
   gone_once v w step = (v, refl, step)
@@ -96,7 +96,7 @@ module _ {K V S : Type 0} (same : K → K → Bool) (hash : S → K → ℕ) (sa
   )
 
 -- what is told is said of more
-pub gone_as : {K V S : Type 0} (same : K → K → Bool) (hash : S → K → ℕ) (says more : Option (K × V) → Reply V → Type 0) → ((pair : Option (K × V)) (told : Reply V) → says pair told → more pair told) → (n : ℕ) (v w : View K V S)
+pub gone_as : {K V S : Type 0} (same : K → K → Bool) (hash : S → K → ℕ) (says more : Option (K × V) → MachineReply V → Type 0) → ((pair : Option (K × V)) (told : MachineReply V) → says pair told → more pair told) → (n : ℕ) (v w : View K V S)
     → HasGone same hash says n v w → HasGone same hash more n v w
 gone_as same hash says more is zero v w gone = gone
 gone_as same hash says more is (suc n) v w gone = (
@@ -148,7 +148,7 @@ asks_no_more s hasher (kinds.Sweep r) value v u w (pause.Asks (Some word)) is = 
 asks_no_more s hasher (kinds.Count r) value v u w (pause.Asks (Some word)) is = absurd is.asks
 
 -- a yes and a no leave a call as far as it has come
-pub same_stage : {V : Type 0} (s : Stage) (word : ℕ) (said : Reply V) → IsFit Choices s.told (Some word) said → stage_after s (Some word) said ≡ s
+pub same_stage : {V : Type 0} (s : Stage) (word : ℕ) (said : MachineReply V) → IsFit Choices s.told (Some word) said → stage_after s (Some word) said ≡ s
 same_stage s word reply.Yes fit = refl
 same_stage s word reply.No fit = refl
 same_stage s word (reply.Insert value) fit = absurd fit.0
@@ -156,14 +156,14 @@ same_stage s word reply.Remove fit = absurd fit
 same_stage s word reply.Abort fit = absurd fit
 
 -- what a call is told leaves its seat where it is, and its calls as they were
-pub stays_told : {K V S : Type 0} (machine : Machine K V K) (said : Reply V) (v w : View K V S) → w ≡ replied v machine said → StaysThere v w
+pub stays_told : {K V S : Type 0} (machine : Machine K V K) (said : MachineReply V) (v w : View K V S) → w ≡ replied v machine said → StaysThere v w
 stays_told {K} {V} {S} machine said v w e = record { slot = ap (λ (u : View K V S). stand_of u) e; map = ap (λ (u : View K V S). u.map) e }
 
-pub calls_told : {K V S : Type 0} (machine : Machine K V K) (said : Reply V) (v w : View K V S) → w ≡ replied v machine said → IsOfThem v w
+pub calls_told : {K V S : Type 0} (machine : Machine K V K) (said : MachineReply V) (v w : View K V S) → w ≡ replied v machine said → IsOfThem v w
 calls_told {K} {V} {S} machine said v w e = λ told. ap (λ (u : View K V S). newest_told told u.calls) e
 
 -- what is made is what the closure has given
-pub made_so : {K V : Type 0} (makes : V → Type 0) (value : V) → makes value → (pair : Option (K × V)) (said : Reply V) → MakingSays (λ (made : V). made ≡ value) pair said → MakingSays makes pair said
+pub made_so : {K V : Type 0} (makes : V → Type 0) (value : V) → makes value → (pair : Option (K × V)) (said : MachineReply V) → MakingSays (λ (made : V). made ≡ value) pair said → MakingSays makes pair said
 made_so makes value is None (reply.Insert made) e = subst makes (sym e) is
 made_so makes value is None reply.Remove e = absurd e
 made_so makes value is None reply.Abort e = absurd e
@@ -176,7 +176,7 @@ pub ended_on : {K V S : Type 0} (answer : Result Answer Fault) (u v w : View K V
 ended_on answer u v w them ended = record { free = ended.free; told = told_last u v w (outcome_of answer) them ended.told }
 
 -- so it has run one call more, which has asked so
-pub answered : {K V S : Type 0} (same : K → K → Bool) (hash : S → K → ℕ) (says : Option (K × V) → Reply V → Type 0) (wanted : Wanted K V) (answer : Result Answer Fault) (u v w : View K V S) (n : ℕ)
+pub answered : {K V S : Type 0} (same : K → K → Bool) (hash : S → K → ℕ) (says : Option (K × V) → MachineReply V → Type 0) (wanted : Wanted K V) (answer : Result Answer Fault) (u v w : View K V S) (n : ℕ)
     → Begins same hash wanted u v → HasEnded answer v w → StaysThere v w → HasGone same hash says n v w → HasAnswered same hash says wanted answer u w
 answered same hash says wanted answer u v w n begins ended stays gone = record {
   free = ended.free;
@@ -185,7 +185,7 @@ answered same hash says wanted answer u v w n begins ended stays gone = record {
   asked = (v, n, begins, gone);
 }
 
-module _ {K V S : Type 0} (says : Option (K × V) → Reply V → Type 0) (v w : View K V S) (told : WasTold says v w) where
+module _ {K V S : Type 0} (says : Option (K × V) → MachineReply V → Type 0) (v w : View K V S) (told : WasTold says v w) where
   pub stays_there_told : StaysThere v w
   stays_there_told = stays_told told.0 told.2 v w told.6
 

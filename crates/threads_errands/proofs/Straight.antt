@@ -1,8 +1,8 @@
 -- Straight code for the lookup of a seat's call: it may be run, and comes to what the seat knows then.
 use Rattle.std.specs.Prelude.{Option}
 use Rattle.std.proofs.Common.{ℕ, Bool, refl, ◌∙◌}
-use Rattle.seize.specs.declared.progress.Progress.{Progress}
-use Rattle.seize.specs.declared.progress.Progress.TheVariants as progress
+use Rattle.seize.specs.declared.advance.Advance.{Advance}
+use Rattle.seize.specs.declared.advance.Advance.TheVariants as progress
 use Rattle.map_tables.specs.declared.resize_mode.ResizeMode.{ResizeMode}
 use Rattle.map_machines.specs.Lookup.{lookup_plan, looking}
 use Rattle.map_machines.specs.declared.lookup.Lookup.{Lookup}
@@ -27,7 +27,7 @@ module _ {K V S : Type 0} (same : K → K → Bool) (hash : S → K → ℕ) (ke
   abbrev IsAt : Lookup → Within K V S → Type 0
   IsAt lookup c = LooksFor key lookup c.seat.now.view
 
-  goes_on : (told : Progress (Option ℕ)) (d : Lookup) (v : View K V S) → LookGoes told → LookedSo same key d told v → LooksFor key d v
+  goes_on : (told : Advance (Option ℕ)) (d : Lookup) (v : View K V S) → LookGoes told → LookedSo same key d told v → LooksFor key d v
   goes_on progress.Goes d v so is = is
   goes_on progress.Waits d v so is = absurd is
   goes_on (progress.Done found) d v so is = absurd so

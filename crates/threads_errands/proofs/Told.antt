@@ -5,7 +5,7 @@ use Rattle.map_tables.specs.declared.node.Node.{Node}
 use Rattle.map_tables.specs.declared.node.Node.TheVariants.{Pair}
 use Rattle.seize_words.specs.OneMemory.Word.{block_in}
 use Rattle.papaya_raw.specs.Machine.{machine_replied}
-use Rattle.papaya_raw.specs.declared.machines.asking.Reply.{Reply}
+use Rattle.papaya_raw.specs.declared.machines.asking.MachineReply.{MachineReply}
 use Rattle.papaya_raw.specs.declared.machines.machine.Machine.{Machine}
 use Rattle.papaya_raw.specs.declared.machines.machine.Machine.TheVariants as kinds
 use Rattle.threads_rule.specs.Views.Begun.{replied}
@@ -16,7 +16,7 @@ use Rattle.threads_rule.specs.Errands.Calling.{IsAsking, IsUnderWay, MachineAsks
 use Rattle.threads_rule.specs.CallKinds.Kinds.{Kind, Stage, IsFit, stage_after}
 use Rattle.threads_rule.proofs.CallKinds.Telling.{taken}
 
-module _ {K V : Type 0} (k : Kind) (s : Stage) (shown : ℕ → Option (Node K V)) (pair : Option ℕ) (reply : Reply V) where
+module _ {K V : Type 0} (k : Kind) (s : Stage) (shown : ℕ → Option (Node K V)) (pair : Option ℕ) (reply : MachineReply V) where
   -- the machine takes what fits
   machine_takes : (machine : Machine K V K) → MachineAsks k s shown pair machine → IsFit k.takes s.told pair reply
       → MachineGoesOn k (stage_after s pair reply) (machine_replied machine reply).0 × ((machine_replied machine reply).1 ≡ Ok tt)
@@ -25,7 +25,7 @@ module _ {K V : Type 0} (k : Kind) (s : Stage) (shown : ℕ → Option (Node K V
   machine_takes (kinds.Sweep r) asks fit = absurd asks
   machine_takes (kinds.Count r) asks fit = absurd asks
 
-module _ {K V S : Type 0} (k : Kind) (s : Stage) (hasher : S) (pair : Option ℕ) (reply : Reply V) (machine : Machine K V K) (v : View K V S) (is : IsAsking k s hasher pair machine v) (fit : IsFit k.takes s.told pair reply) where
+module _ {K V S : Type 0} (k : Kind) (s : Stage) (hasher : S) (pair : Option ℕ) (reply : MachineReply V) (machine : Machine K V K) (v : View K V S) (is : IsAsking k s hasher pair machine v) (fit : IsFit k.takes s.told pair reply) where
   -- it is not handed back,
   pub takes_it : (machine_replied machine reply).1 ≡ Ok tt
   takes_it = (machine_takes k s (shown_in v.held) pair reply machine is.asks fit).1

@@ -14,8 +14,8 @@ use Rattle.papaya_raw.specs.declared.machines.answer.Missing.TheVariants as miss
 use Rattle.papaya_raw.specs.declared.machines.asking.Takes.TheVariants as takes
 use Rattle.papaya_raw.specs.declared.machines.asking.Asking.TheVariants as asking
 use Rattle.papaya_raw.specs.declared.machines.asking.Gap.{Gap}
-use Rattle.papaya_raw.specs.declared.machines.asking.Reply.{Reply}
-use Rattle.papaya_raw.specs.declared.machines.asking.Reply.TheVariants as reply
+use Rattle.papaya_raw.specs.declared.machines.asking.MachineReply.{MachineReply}
+use Rattle.papaya_raw.specs.declared.machines.asking.MachineReply.TheVariants as reply
 use Rattle.papaya_raw.specs.declared.machines.call.Calling.TheVariants.{Asks}
 use Rattle.papaya_raw.specs.declared.machines.machine.Machine.{Machine}
 use Rattle.papaya_raw.specs.declared.machines.machine.Machine.TheVariants.{Key, Count}
@@ -26,7 +26,7 @@ use Rattle.threads_rule.specs.Views.Begun.{replied}
 use Rattle.threads_rule.specs.Views.Looks.{shown_in}
 use Rattle.threads_rule.specs.declared.view.Map.{Map}
 use Rattle.threads_rule.specs.declared.view.View.{View}
-use Rattle.threads_rule.specs.declared.view.Work.TheVariants.{Nothing, Calls}
+use Rattle.threads_rule.specs.declared.view.SeatWork.TheVariants.{Nothing, Calls}
 use Rattle.threads_rule.specs.Errands.Calling.{HasEnded, IsAsking, outcome_of}
 use Rattle.threads_rule.specs.CallKinds.Kinds.{Kind, Stage, IsFit}
 use Rattle.threads_rule.specs.Errands.Looking.{Begins, HasRun, StaysThere}
@@ -65,9 +65,9 @@ told_at (pause.Ended answer) = outcome_of answer
 
 module _ {K V S : Type 0} where
   -- its call has asked, and was told something that is said of the pair with which it has asked
-  abbrev pub WasTold : (Option (K × V) → Reply V → Type 0) → View K V S → View K V S → Type 0
+  abbrev pub WasTold : (Option (K × V) → MachineReply V → Type 0) → View K V S → View K V S → Type 0
   WasTold says v w =
-      (machine : Machine K V K) × (pair : Option (K × V)) × (told : Reply V) × (v.work ≡ Calls machine) × AsksWith (shown_in v.held) pair machine × says pair told
+      (machine : Machine K V K) × (pair : Option (K × V)) × (told : MachineReply V) × (v.work ≡ Calls machine) × AsksWith (shown_in v.held) pair machine × says pair told
       × (w ≡ replied v machine told)
 
   -- it has asked, or has ended
@@ -77,23 +77,23 @@ module _ {K V S : Type 0} where
 
   module _ (same : K → K → Bool) (hash : S → K → ℕ) where
     -- so many steps of its call, or answers to what that has asked
-    abbrev pub HasGone : (Option (K × V) → Reply V → Type 0) → ℕ → View K V S → View K V S → Type 0
+    abbrev pub HasGone : (Option (K × V) → MachineReply V → Type 0) → ℕ → View K V S → View K V S → Type 0
     HasGone says zero v w = w ≡ v
     HasGone says (suc n) v w = (u : View K V S) × HasGone says n v u × (HasStepped same hash u w ⊎ WasTold says u w)
 
     -- It has begun to do this, and its call was told what is said of the pairs with which it has asked.
-    abbrev pub HasAsked : (Option (K × V) → Reply V → Type 0) → Wanted K V → View K V S → View K V S → Type 0
+    abbrev pub HasAsked : (Option (K × V) → MachineReply V → Type 0) → Wanted K V → View K V S → View K V S → Type 0
     HasAsked says wanted v w = (u : View K V S) × (n : ℕ) × Begins same hash wanted v u × HasGone says n u w
 
     -- what such a call has come to that has ended
-    pub record HasAnswered (says : Option (K × V) → Reply V → Type 0) (wanted : Wanted K V) (answer : Result Answer Fault) (v w : View K V S) : Type 0 where
+    pub record HasAnswered (says : Option (K × V) → MachineReply V → Type 0) (wanted : Wanted K V) (answer : Result Answer Fault) (v w : View K V S) : Type 0 where
       pub free : w.work ≡ Nothing
       pub stays : StaysThere v w
       pub ran : HasRun same hash wanted (outcome_of answer) v w
       pub asked : HasAsked says wanted v w
 
 -- nothing was told
-abbrev pub NoneSaid : {K V : Type 0} → Option (K × V) → Reply V → Type 0
+abbrev pub NoneSaid : {K V : Type 0} → Option (K × V) → MachineReply V → Type 0
 NoneSaid pair told = ⊥
 
 -- a test may answer so of a pair
@@ -101,17 +101,17 @@ abbrev pub MayTest : {F K V : Type 0} → Shared F (Bor K × (Bor V × Unit {0})
 MayTest {F} {K} {V} g f key value answer = (p : Bor K) × (q : Bor V) × FnReturns g f (p, (q, tt)) answer × (p.now ≡ key) × (q.now ≡ value)
 
 -- a yes removes the pair
-abbrev pub reply_of : {V : Type 0} → Bool → Reply V
+abbrev pub reply_of : {V : Type 0} → Bool → MachineReply V
 reply_of true = reply.Yes
 reply_of false = reply.No
 
 -- what a test says of a pair: yes removes it
-abbrev pub TestSays : {K V : Type 0} → (K → V → Bool → Type 0) → Option (K × V) → Reply V → Type 0
+abbrev pub TestSays : {K V : Type 0} → (K → V → Bool → Type 0) → Option (K × V) → MachineReply V → Type 0
 TestSays test (Some pair) reply.Yes = test pair.0 pair.1 true
 TestSays test (Some pair) reply.No = test pair.0 pair.1 false
 TestSays test pair told = ⊥
 
 -- what is stored where the key is missing is what was made
-abbrev pub MakingSays : {K V : Type 0} → (V → Type 0) → Option (K × V) → Reply V → Type 0
+abbrev pub MakingSays : {K V : Type 0} → (V → Type 0) → Option (K × V) → MachineReply V → Type 0
 MakingSays makes None (reply.Insert value) = makes value
 MakingSays makes pair told = ⊥

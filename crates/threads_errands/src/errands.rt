@@ -6,8 +6,8 @@ ghost use Rattle.threads_rule.specs.Errands.Calling.{HasCalled, MayCall, MayDo, 
 ghost use Rattle.threads_rule.specs.CallKinds.Kinds.{Stage};
 ghost use Rattle.threads_rule.specs.Errands.Looking.{HasFound, MayLook};
 ghost use Rattle.threads_rule.specs.Errands.Making.{CameTo, MayBegin};
-ghost use Rattle.threads_rule.specs.declared.view.Work.TheVariants.{Nothing as NoWork};
-ghost use Rattle.seize_views.specs.declared.view.View.TheVariants.{Rests};
+ghost use Rattle.threads_rule.specs.declared.view.SeatWork.TheVariants.{Nothing as NoWork};
+ghost use Rattle.seize_views.specs.declared.view.SlotView.TheVariants.{Rests};
 
 use crate::finding::{goes_on, sees};
 use crate::within::{Ran, Within};

@@ -39,9 +39,9 @@ impl<S> Plans<S> for Brand {
 }
 
 /// The making of a map begins.
-pub struct Making<B>(PhantomData<B>);
+pub struct MapMakingBegins<B>(PhantomData<B>);
 
-impl<K, V, S, B: Plans<S>> Turn<Fixed, View<K, V, S>> for Making<B> {
+impl<K, V, S, B: Plans<S>> Turn<Fixed, View<K, V, S>> for MapMakingBegins<B> {
     ghost use Rattle.threads_rule.specs.Errands.Making.{BeginsMaking};
 
     ghost to = { λ _. BeginsMaking B.plans };
@@ -58,16 +58,16 @@ impl<K: Eq, V, S: Hashes<K>> Turn<Fixed, View<K, V, S>> for Stepping {
 
 /// What a call is told, which is under way.
 pub trait Says<K, V> {
-    ghost use Rattle.papaya_raw.specs.declared.machines.asking.Reply.{Reply};
+    ghost use Rattle.papaya_raw.specs.declared.machines.asking.MachineReply.{MachineReply};
     ghost use Rattle.papaya_raw.specs.declared.machines.machine.Machine.{Machine};
 
     ghost machine: { Machine K V K };
 
-    ghost reply: { Reply V };
+    ghost reply: { MachineReply V };
 }
 
 impl<K, V> Says<K, V> for Brand {
-    ghost use Rattle.papaya_raw.specs.declared.machines.asking.Reply.TheVariants.{Abort};
+    ghost use Rattle.papaya_raw.specs.declared.machines.asking.MachineReply.TheVariants.{Abort};
     ghost use Rattle.threads_errands.specs.Asking.{counts_none};
 
     ghost machine = { counts_none };
@@ -82,7 +82,7 @@ impl<K, V, S, B: Says<K, V>> Turn<Fixed, View<K, V, S>> for Telling<B> {
     ghost use Rattle.std.specs.Prelude.{◌≡◌, Some};
     ghost use Rattle.threads_rule.specs.Views.Begun.{replied};
     ghost use Rattle.threads_rule.specs.declared.view.Map.{Map};
-    ghost use Rattle.threads_rule.specs.declared.view.Work.TheVariants.{Calls};
+    ghost use Rattle.threads_rule.specs.declared.view.SeatWork.TheVariants.{Calls};
 
     ghost to = { λ _ v w. (v.work ≡ Calls B.machine) × (w ≡ replied v B.machine B.reply) };
 }

@@ -7,9 +7,9 @@ impl<K: Eq, V, S: Hashes<K>> Content<Node<K, V>> for OfMaps<S> {
     ghost use Rattle.std.specs.Prelude.{List, Option};
     ghost use Rattle.threads_rule.specs.Views.Notes.{beside_of, notes_of};
     ghost use Rattle.threads_rule.specs.declared.view.Map.{Map};
-    ghost use Rattle.threads_rule.specs.declared.view.Run.{Run};
+    ghost use Rattle.threads_rule.specs.declared.view.BegunCall.{BegunCall};
 
-    ghost Beside = { Option (Map S) × List (Run K V) };
+    ghost Beside = { Option (Map S) × List (BegunCall K V) };
 
     ghost notes = { notes_of };
 

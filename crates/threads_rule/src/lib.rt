@@ -9,4 +9,4 @@ mod view;
 
 pub use law::{calls_begin, calls_go_on, leanings_begin, makings_go_on, rows_go_on};
 pub use maps::OfMaps;
-pub use view::{Map, Run, View, Work};
+pub use view::{BegunCall, Map, SeatWork, View};

@@ -7,13 +7,13 @@ use std::collections::LinkedList;
 /// What a seat knows.
 pub struct View<K, V, S> {
     /// Which slot it holds, and which row it has under way there, while it has nothing else under way.
-    pub slot: seize_views::View<Node<K, V>>,
+    pub slot: seize_views::SlotView<Node<K, V>>,
     /// The seat that it leans on and the slot of that one, if it leans on one: it holds no slot then, and has calls under way within the section of that one.
     pub under: Option<(u64, u64)>,
     /// The map that it knows, if it knows one.
     pub map: Option<Map<S>>,
     /// What it has under way.
-    pub work: Work<K, V, S>,
+    pub work: SeatWork<K, V, S>,
     /// The blocks that its last step looks at after its operation, with their values.
     pub looks: LinkedList<(u64, Node<K, V>)>,
     /// Of these, those that are known to be held for it: its section holds them, or its call has them as its own.
@@ -21,11 +21,11 @@ pub struct View<K, V, S> {
     /// What it has begun last on its slot.
     pub began: seize_views::Began,
     /// The calls that it has begun, the newest first.
-    pub calls: LinkedList<Run<K, V>>,
+    pub calls: LinkedList<BegunCall<K, V>>,
 }
 
 /// A call that a seat has begun.
-pub struct Run<K, V> {
+pub struct BegunCall<K, V> {
     /// As it began.
     pub began: Machine<K, V>,
     /// What its last step has told: what it has answered, once it has ended.
@@ -43,7 +43,7 @@ pub struct Map<S> {
 }
 
 /// What a seat has under way, beside a row.
-pub enum Work<K, V, S> {
+pub enum SeatWork<K, V, S> {
     /// Nothing.
     Nothing,
     /// A call on the map that it knows, within the section of its slot.

@@ -1,13 +1,13 @@
 //! Two threads store what they make where a key is missing, and remove what a test says yes of.
 ghost use Rattle.std.specs.Prelude.{◌≡◌};
 ghost use Rattle.threads_calls.specs.Given.SeizeViewsDeclared.view.Has.TheVariants.{Nothing};
-ghost use Rattle.threads_calls.specs.Given.SeizeViewsDeclared.view.View.TheVariants.{Inside};
+ghost use Rattle.threads_calls.specs.Given.SeizeViewsDeclared.view.SlotView.TheVariants.{Inside};
 
 use crate::resting::{Hashing, Resting};
 use std::sync::Wait;
 use std::test::Fail;
 use std::thread;
-use threads_calls::{Fixed, Session, memory_for};
+use threads_calls::{Fixed, SessionBase, memory_for};
 
 /// Batches of 32 blocks, and one root.
 const CHOSEN: Fixed = Fixed {
@@ -19,7 +19,11 @@ const CHOSEN: Fixed = Fixed {
 const KEYS: u64 = 400;
 
 /// How many of the keys it has stored with this value because they were missing, if none was refused.
-fn stores<R: Wait>(rt: &R, session: &mut Session<'_, u64, u64, Hashing>, value: u64) -> Option<u64>
+fn stores<R: Wait>(
+    rt: &R,
+    session: &mut SessionBase<'_, u64, u64, Hashing>,
+    value: u64,
+) -> Option<u64>
     requires { session.old.caller.seat.view.slot ≡ Inside session.old.slot Nothing }
     ensures { session.new.caller.seat.view.slot ≡ Inside session.new.slot Nothing }
 {
@@ -36,7 +40,11 @@ fn stores<R: Wait>(rt: &R, session: &mut Session<'_, u64, u64, Hashing>, value: 
 }
 
 /// How many pairs of this value it has removed, if none was refused.
-fn removes<R: Wait>(rt: &R, session: &mut Session<'_, u64, u64, Hashing>, value: u64) -> Option<u64>
+fn removes<R: Wait>(
+    rt: &R,
+    session: &mut SessionBase<'_, u64, u64, Hashing>,
+    value: u64,
+) -> Option<u64>
     requires { session.old.caller.seat.view.slot ≡ Inside session.old.slot Nothing }
     ensures { session.new.caller.seat.view.slot ≡ Inside session.new.slot Nothing }
 {
@@ -83,7 +91,7 @@ fn sweeps<R: Wait>(rt: &R, resting: Resting<'_>) -> Option<(u64, u64)> {
 fn a_key_has_the_value_of_one_of_two_that_make_one(rt: HostRuntime) -> Result<(), Fail> {
     let hashing = Hashing::default();
     let home = memory_for::<u64, u64, Hashing>(rt.alloc(), 64, &CHOSEN)?;
-    let Ok(mut first) = Session::open(&home.blocks, &hashing, &CHOSEN, 64, 4) else {
+    let Ok(mut first) = SessionBase::open(&home.blocks, &hashing, &CHOSEN, 64, 4) else {
         return Err(Fail::new("no map was made"));
     };
     let second = Resting {
@@ -106,7 +114,7 @@ fn a_key_has_the_value_of_one_of_two_that_make_one(rt: HostRuntime) -> Result<()
 fn a_pair_of_which_two_say_yes_is_removed_once(rt: HostRuntime) -> Result<(), Fail> {
     let hashing = Hashing::default();
     let home = memory_for::<u64, u64, Hashing>(rt.alloc(), 64, &CHOSEN)?;
-    let Ok(mut first) = Session::open(&home.blocks, &hashing, &CHOSEN, 64, 4) else {
+    let Ok(mut first) = SessionBase::open(&home.blocks, &hashing, &CHOSEN, 64, 4) else {
         return Err(Fail::new("no map was made"));
     };
     let second = Resting {

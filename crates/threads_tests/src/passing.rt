@@ -1,14 +1,14 @@
 //! Two threads look keys up under one session, each by its pass, while a third one replaces the pairs.
 ghost use Rattle.std.specs.Prelude.{◌≡◌};
 ghost use Rattle.threads_calls.specs.Given.SeizeViewsDeclared.view.Has.TheVariants.{Nothing};
-ghost use Rattle.threads_calls.specs.Given.SeizeViewsDeclared.view.View.TheVariants.{Inside};
+ghost use Rattle.threads_calls.specs.Given.SeizeViewsDeclared.view.SlotView.TheVariants.{Inside};
 
 use crate::resting::{Hashing, Resting};
 use std::sync::Wait;
 use std::test::Fail;
 use std::thread;
 use std::thread::Threads;
-use threads_calls::{Fixed, Pass, Session, memory_for};
+use threads_calls::{Fixed, MapPassSeat, SessionBase, memory_for};
 
 /// Batches of 32 blocks, and one root.
 const CHOSEN: Fixed = Fixed {
@@ -28,7 +28,7 @@ fn value_of(key: u64, turn: u64) -> u64 {
 }
 
 /// Stores each key with its value of this turn, and says whether none was refused.
-fn stores<R: Wait>(rt: &R, session: &mut Session<'_, u64, u64, Hashing>, turn: u64) -> bool
+fn stores<R: Wait>(rt: &R, session: &mut SessionBase<'_, u64, u64, Hashing>, turn: u64) -> bool
     requires { session.old.caller.seat.view.slot ≡ Inside session.old.slot Nothing }
     ensures { session.new.caller.seat.view.slot ≡ Inside session.new.slot Nothing }
 {
@@ -62,8 +62,8 @@ fn replaces<R: Wait>(rt: &R, resting: Resting<'_>) -> bool {
 /// Looks two keys up by one pass, and says whether both values are theirs: the first one is read once the second one has been found.
 fn reads<R: Wait>(
     rt: &R,
-    session: &Session<'_, u64, u64, Hashing>,
-    pass: &mut Pass<u64, u64, Hashing>,
+    session: &SessionBase<'_, u64, u64, Hashing>,
+    pass: &mut MapPassSeat<u64, u64, Hashing>,
     key: u64,
 ) -> bool
     requires own { pass.old.seat.base ≡ session.now.caller.blocks.now.words.id.views_name }
@@ -80,7 +80,7 @@ fn reads<R: Wait>(
 }
 
 /// Reads all keys so, by a pass of its own.
-fn all_read<R: Wait>(rt: &R, session: &Session<'_, u64, u64, Hashing>) -> bool
+fn all_read<R: Wait>(rt: &R, session: &SessionBase<'_, u64, u64, Hashing>) -> bool
     requires inside { session.now.caller.seat.view.slot ≡ Inside session.now.slot Nothing }
 {
     let mut pass = session.pass();
@@ -96,7 +96,7 @@ fn all_read<R: Wait>(rt: &R, session: &Session<'_, u64, u64, Hashing>) -> bool
 /// Two threads read all keys so, under one session.
 fn both_read<R: Threads + Wait + Sync>(
     rt: &R,
-    session: &Session<'_, u64, u64, Hashing>,
+    session: &SessionBase<'_, u64, u64, Hashing>,
 ) -> (bool, bool)
     requires inside { session.now.caller.seat.view.slot ≡ Inside session.now.slot Nothing }
 {
@@ -108,7 +108,7 @@ fn both_read<R: Threads + Wait + Sync>(
 fn two_threads_look_up_under_one_session(rt: HostRuntime) -> Result<(), Fail> {
     let hashing = Hashing::default();
     let home = memory_for::<u64, u64, Hashing>(rt.alloc(), 64, &CHOSEN)?;
-    let Ok(mut session) = Session::open(&home.blocks, &hashing, &CHOSEN, 64, 4) else {
+    let Ok(mut session) = SessionBase::open(&home.blocks, &hashing, &CHOSEN, 64, 4) else {
         return Err(Fail::new("no map was made"));
     };
     let other = Resting {

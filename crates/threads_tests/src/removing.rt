@@ -1,13 +1,13 @@
 //! Two threads store pairs of the same keys where these are missing, and remove them.
 ghost use Rattle.std.specs.Prelude.{◌≡◌};
 ghost use Rattle.threads_calls.specs.Given.SeizeViewsDeclared.view.Has.TheVariants.{Nothing};
-ghost use Rattle.threads_calls.specs.Given.SeizeViewsDeclared.view.View.TheVariants.{Inside};
+ghost use Rattle.threads_calls.specs.Given.SeizeViewsDeclared.view.SlotView.TheVariants.{Inside};
 
 use crate::resting::{Hashing, Resting};
 use std::sync::Wait;
 use std::test::Fail;
 use std::thread;
-use threads_calls::{Attempt, Fixed, Session, memory_for};
+use threads_calls::{Attempt, Fixed, SessionBase, memory_for};
 
 /// Batches of 32 blocks, and one root.
 const CHOSEN: Fixed = Fixed {
@@ -19,7 +19,11 @@ const CHOSEN: Fixed = Fixed {
 const KEYS: u64 = 400;
 
 /// How many of the keys it has stored with this value because they were missing, if none was refused and each pair that was not stored came back.
-fn stores<R: Wait>(rt: &R, session: &mut Session<'_, u64, u64, Hashing>, value: u64) -> Option<u64>
+fn stores<R: Wait>(
+    rt: &R,
+    session: &mut SessionBase<'_, u64, u64, Hashing>,
+    value: u64,
+) -> Option<u64>
     requires { session.old.caller.seat.view.slot ≡ Inside session.old.slot Nothing }
     ensures { session.new.caller.seat.view.slot ≡ Inside session.new.slot Nothing }
 {
@@ -36,7 +40,7 @@ fn stores<R: Wait>(rt: &R, session: &mut Session<'_, u64, u64, Hashing>, value: 
 }
 
 /// How many pairs of the keys it has removed, if none was refused.
-fn removes<R: Wait>(rt: &R, session: &mut Session<'_, u64, u64, Hashing>) -> Option<u64>
+fn removes<R: Wait>(rt: &R, session: &mut SessionBase<'_, u64, u64, Hashing>) -> Option<u64>
     requires { session.old.caller.seat.view.slot ≡ Inside session.old.slot Nothing }
     ensures { session.new.caller.seat.view.slot ≡ Inside session.new.slot Nothing }
 {
@@ -53,7 +57,7 @@ fn removes<R: Wait>(rt: &R, session: &mut Session<'_, u64, u64, Hashing>) -> Opt
 }
 
 /// How many of the keys are there.
-fn counts<R: Wait>(rt: &R, session: &mut Session<'_, u64, u64, Hashing>) -> u64
+fn counts<R: Wait>(rt: &R, session: &mut SessionBase<'_, u64, u64, Hashing>) -> u64
     requires { session.old.caller.seat.view.slot ≡ Inside session.old.slot Nothing }
     ensures { session.new.caller.seat.view.slot ≡ Inside session.new.slot Nothing }
 {
@@ -112,7 +116,7 @@ fn sums(one: Option<Done>, other: Option<Done>) -> Option<(u64, u64)> {
 fn of_two_that_try_to_store_a_key_one_does(rt: HostRuntime) -> Result<(), Fail> {
     let hashing = Hashing::default();
     let home = memory_for::<u64, u64, Hashing>(rt.alloc(), 64, &CHOSEN)?;
-    let Ok(mut first) = Session::open(&home.blocks, &hashing, &CHOSEN, 64, 4) else {
+    let Ok(mut first) = SessionBase::open(&home.blocks, &hashing, &CHOSEN, 64, 4) else {
         return Err(Fail::new("no map was made"));
     };
     let second = Resting {
@@ -153,7 +157,7 @@ fn of_two_that_try_to_store_a_key_one_does(rt: HostRuntime) -> Result<(), Fail> 
 fn a_pair_that_two_threads_remove_is_removed_once(rt: HostRuntime) -> Result<(), Fail> {
     let hashing = Hashing::default();
     let home = memory_for::<u64, u64, Hashing>(rt.alloc(), 64, &CHOSEN)?;
-    let Ok(mut first) = Session::open(&home.blocks, &hashing, &CHOSEN, 64, 4) else {
+    let Ok(mut first) = SessionBase::open(&home.blocks, &hashing, &CHOSEN, 64, 4) else {
         return Err(Fail::new("no map was made"));
     };
     let second = Resting {

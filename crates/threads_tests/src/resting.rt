@@ -1,22 +1,22 @@
 //! A session as threads take it.
 ghost use Rattle.std.specs.Prelude.{◌≡◌};
-ghost use Rattle.threads_calls.specs.Given.SeizeViewsDeclared.view.View.TheVariants.{Rests};
+ghost use Rattle.threads_calls.specs.Given.SeizeViewsDeclared.view.SlotView.TheVariants.{Rests};
 
 use std::hash::{BuildHasherDefault, DefaultHasher};
-use threads_calls::Session;
+use threads_calls::SessionBase;
 
 /// The hasher of all tests.
 pub(crate) type Hashing = BuildHasherDefault<DefaultHasher>;
 
 /// A session that holds no slot.
 pub(crate) struct Resting<'a> {
-    pub(crate) session: Session<'a, u64, u64, Hashing>,
+    pub(crate) session: SessionBase<'a, u64, u64, Hashing>,
     ghost rests: { session.caller.seat.view.slot ≡ Rests },
 }
 
 impl<'a> Resting<'a> {
     /// The session.
-    pub(crate) fn session(self) -> Session<'a, u64, u64, Hashing>
+    pub(crate) fn session(self) -> SessionBase<'a, u64, u64, Hashing>
         ensures { result.caller.seat.view.slot ≡ Rests }
     {
         let Resting { session } = self;

@@ -1,13 +1,13 @@
 //! Two threads store pairs in one map, half of their keys the same.
 ghost use Rattle.std.specs.Prelude.{◌≡◌};
 ghost use Rattle.threads_calls.specs.Given.SeizeViewsDeclared.view.Has.TheVariants.{Nothing};
-ghost use Rattle.threads_calls.specs.Given.SeizeViewsDeclared.view.View.TheVariants.{Inside};
+ghost use Rattle.threads_calls.specs.Given.SeizeViewsDeclared.view.SlotView.TheVariants.{Inside};
 
 use crate::resting::{Hashing, Resting};
 use std::sync::Wait;
 use std::test::Fail;
 use std::thread;
-use threads_calls::{Fixed, Session, memory_for};
+use threads_calls::{Fixed, SessionBase, memory_for};
 
 /// Batches of 32 blocks, and one root.
 const CHOSEN: Fixed = Fixed {
@@ -19,7 +19,11 @@ const CHOSEN: Fixed = Fixed {
 const EACH: u64 = 400;
 
 /// Stores so many keys from this one on, each with its double, and answers how many of them have replaced a pair, if none was refused.
-fn stores<R: Wait>(rt: &R, session: &mut Session<'_, u64, u64, Hashing>, from: u64) -> Option<u64>
+fn stores<R: Wait>(
+    rt: &R,
+    session: &mut SessionBase<'_, u64, u64, Hashing>,
+    from: u64,
+) -> Option<u64>
     requires { session.old.caller.seat.view.slot ≡ Inside session.old.slot Nothing }
     ensures { session.new.caller.seat.view.slot ≡ Inside session.new.slot Nothing }
 {
@@ -37,7 +41,7 @@ fn stores<R: Wait>(rt: &R, session: &mut Session<'_, u64, u64, Hashing>, from: u
 }
 
 /// Whether it finds this key with its double.
-fn has<R: Wait>(rt: &R, session: &mut Session<'_, u64, u64, Hashing>, key: u64) -> bool
+fn has<R: Wait>(rt: &R, session: &mut SessionBase<'_, u64, u64, Hashing>, key: u64) -> bool
     requires { session.old.caller.seat.view.slot ≡ Inside session.old.slot Nothing }
     ensures { session.new.caller.seat.view.slot ≡ Inside session.new.slot Nothing }
 {
@@ -48,7 +52,7 @@ fn has<R: Wait>(rt: &R, session: &mut Session<'_, u64, u64, Hashing>, key: u64) 
 }
 
 /// How many of so many keys from this one on it finds with their doubles.
-fn counts<R: Wait>(rt: &R, session: &mut Session<'_, u64, u64, Hashing>, from: u64) -> u64
+fn counts<R: Wait>(rt: &R, session: &mut SessionBase<'_, u64, u64, Hashing>, from: u64) -> u64
     requires { session.old.caller.seat.view.slot ≡ Inside session.old.slot Nothing }
     ensures { session.new.caller.seat.view.slot ≡ Inside session.new.slot Nothing }
 {
@@ -81,7 +85,7 @@ fn works<R: Wait>(rt: &R, resting: Resting<'_>, from: u64) -> Option<(u64, u64)>
 fn a_key_that_two_threads_store_is_replaced_once(rt: HostRuntime) -> Result<(), Fail> {
     let hashing = Hashing::default();
     let home = memory_for::<u64, u64, Hashing>(rt.alloc(), 64, &CHOSEN)?;
-    let Ok(mut first) = Session::open(&home.blocks, &hashing, &CHOSEN, 64, 4) else {
+    let Ok(mut first) = SessionBase::open(&home.blocks, &hashing, &CHOSEN, 64, 4) else {
         return Err(Fail::new("no map was made"));
     };
     let second = Resting {

@@ -19,8 +19,8 @@ use Rattle.run_shows.specs.Given.RawCallPoints.{getting, removing, inserting, tr
 use Rattle.run_shows.specs.Given.RawMachine.{machine_plan, machine_replied, machine_asked, is_ready, sweep_told}
 use Rattle.run_shows.specs.Given.RawDeclared.machines.asking.Asking.TheVariants as asking
 use Rattle.run_shows.specs.Given.RawDeclared.machines.asking.Gap.{Gap}
-use Rattle.run_shows.specs.Given.RawDeclared.machines.asking.Reply.{Reply}
-use Rattle.run_shows.specs.Given.RawDeclared.machines.asking.Reply.TheVariants as reply
+use Rattle.run_shows.specs.Given.RawDeclared.machines.asking.MachineReply.{MachineReply}
+use Rattle.run_shows.specs.Given.RawDeclared.machines.asking.MachineReply.TheVariants as reply
 use Rattle.run_shows.specs.Given.RawDeclared.machines.asking.Takes.{Takes}
 use Rattle.run_shows.specs.Given.RawDeclared.machines.asking.Takes.TheVariants as takes
 use Rattle.run_shows.specs.Given.RawDeclared.machines.call.Calling.{Calling}
@@ -66,7 +66,7 @@ asked_machine (OverAll o) = refl
 
 -- a machine that does not take a reply is as it was
 module _ {K V Q : Type 0} (c : KeyCall K V Q) where
-  absent_refused : (takes : Takes) (gap : Gap) (said : Reply V) → is_err (absent_told takes c gap said).1 ≡ true → (absent_told takes c gap said).0 ≡ c
+  absent_refused : (takes : Takes) (gap : Gap) (said : MachineReply V) → is_err (absent_told takes c gap said).1 ≡ true → (absent_told takes c gap said).0 ≡ c
   absent_refused takes.Values gap (reply.Insert value) e = absurd (cc e)
   absent_refused takes.Changes gap (reply.Insert value) e = absurd (cc e)
   absent_refused takes.Changes gap reply.Remove e = absurd (cc e)
@@ -76,7 +76,7 @@ module _ {K V Q : Type 0} (c : KeyCall K V Q) where
   absent_refused takes.Choices gap reply e = refl
   absent_refused takes.Nothing gap reply e = refl
 
-  present_refused : (takes : Takes) (word : ℕ) (reply : Reply V) → is_err (present_told takes c word reply).1 ≡ true → (present_told takes c word reply).0 ≡ c
+  present_refused : (takes : Takes) (word : ℕ) (reply : MachineReply V) → is_err (present_told takes c word reply).1 ≡ true → (present_told takes c word reply).0 ≡ c
   present_refused takes.Values word (reply.Insert value) e = absurd (cc e)
   present_refused takes.Changes word (reply.Insert value) e = absurd (cc e)
   present_refused takes.Changes word reply.Remove e = absurd (cc e)
@@ -88,25 +88,25 @@ module _ {K V Q : Type 0} (c : KeyCall K V Q) where
   present_refused takes.Choices word _ e = refl
   present_refused takes.Nothing word reply e = refl
 
-  key_refused : (stands : Calling) (reply : Reply V) → is_err (told_at stands c reply).1 ≡ true → (told_at stands c reply).0 ≡ c
+  key_refused : (stands : Calling) (reply : MachineReply V) → is_err (told_at stands c reply).1 ≡ true → (told_at stands c reply).0 ≡ c
   key_refused (at.Asks (asking.Absent gap)) reply e = absent_refused c.replies.takes gap reply e
   key_refused (at.Asks (asking.Present word)) reply e = present_refused c.replies.takes word reply e
   key_refused _ reply e = refl
 
-sweep_refused : {V : Type 0} (stands : Sweeping) (c : Sweep) (reply : Reply V) → is_err (sweep_told stands c reply).1 ≡ true → (sweep_told stands c reply).0 ≡ c
+sweep_refused : {V : Type 0} (stands : Sweeping) (c : Sweep) (reply : MachineReply V) → is_err (sweep_told stands c reply).1 ≡ true → (sweep_told stands c reply).0 ≡ c
 sweep_refused (sweeping.Asks word) c reply.Yes e = absurd (cc e)
 sweep_refused (sweeping.Asks word) c reply.No e = absurd (cc e)
 sweep_refused (sweeping.Asks word) c _ e = refl
 sweep_refused _ c reply e = refl
 
-pub refused_same : {K V : Type 0} (machine : Machine K V K) (reply : Reply V) → is_err (machine_replied machine reply).1 ≡ true → (machine_replied machine reply).0 ≡ machine
+pub refused_same : {K V : Type 0} (machine : Machine K V K) (reply : MachineReply V) → is_err (machine_replied machine reply).1 ≡ true → (machine_replied machine reply).0 ≡ machine
 refused_same (kinds.Key c) reply e = ap kinds.Key (key_refused c c.stands reply e)
 refused_same (kinds.Sweep c) reply e = ap kinds.Sweep (sweep_refused c.stands c reply e)
 refused_same (kinds.Reserve c) reply e = refl
 refused_same (kinds.Count c) reply e = refl
 
 -- what goes on as it was may have been told anything
-pub told_nothing : {K V : Type 0} (same : K → K → Bool) (batch_size roots : ℕ) (slot : ℕ → ℕ) (standing : Standing K) (i : ℕ) (reply : Reply V) (u : UnderWay K V K)
+pub told_nothing : {K V : Type 0} (same : K → K → Bool) (batch_size roots : ℕ) (slot : ℕ → ℕ) (standing : Standing K) (i : ℕ) (reply : MachineReply V) (u : UnderWay K V K)
     → ToldOfKind V same same batch_size roots slot standing i u reply u
 told_nothing same batch_size roots slot standing i reply (OnKey k) = inr refl
 told_nothing same batch_size roots slot standing i reply (OverAll o) = inr refl
@@ -240,7 +240,7 @@ module _ {K V S : Type 0} (same : K → K → Bool) (hash : S → K → ℕ) (ba
     abbrev here : (s.maps m ≡ Some it.0) × (s.calls m i ≡ Some it.1)
     here = both it (some_is (call_at s i m) may).1
 
-    pub call_told : (reply : Reply V) → (told : Answer K V) × (n : Scene K V) × Led same hash batch_size roots slot (TellsCall i m reply) s told n × Stands n
+    pub call_told : (reply : MachineReply V) → (told : Answer K V) × (n : Scene K V) × Led same hash batch_size roots slot (TellsCall i m reply) s told n × Stands n
     call_told reply = by (is_err (machine_replied (machine_of it.1) reply).1) refl
       where
         by : (q : Bool) → is_err (machine_replied (machine_of it.1) reply).1 ≡ q → (told : Answer K V) × (n : Scene K V) × Led same hash batch_size roots slot (TellsCall i m reply) s told n × Stands n

@@ -6,8 +6,8 @@ use Rattle.std.proofs.lemmas.Bool.{cases_eq}
 use Rattle.run_shows.specs.Given.SeizeWordsMem.{Took, value_at}
 use Rattle.run_shows.specs.Given.SeizeWordsPlan.{Steps}
 use Rattle.run_shows.specs.Given.SeizeWorld.{with_at}
-use Rattle.run_shows.specs.Given.SeizeDeclared.progress.Progress.{Progress as Counted}
-use Rattle.run_shows.specs.Given.SeizeDeclared.progress.Progress.TheVariants as counted_as
+use Rattle.run_shows.specs.Given.SeizeDeclared.advance.Advance.{Advance as Counted}
+use Rattle.run_shows.specs.Given.SeizeDeclared.advance.Advance.TheVariants as counted_as
 use Rattle.run_shows.specs.Given.SeizeDeclared.rows.settle.Settled.{Settled}
 use Rattle.run_shows.specs.Given.SeizeDeclared.rows.settle.Settled.TheVariants as settled
 use Rattle.seize_acts.proofs.Acts.Answers.{was_stepped}
@@ -24,7 +24,7 @@ use Rattle.run_shows.specs.Given.SweepsSweep.{sweep_plan}
 use Rattle.run_shows.specs.Given.RawCall.{call_plan}
 use Rattle.run_shows.specs.Given.RawMachine.{machine_plan, machine_replied, machine_asked, called, reserved, swept, counted}
 use Rattle.run_shows.specs.Given.RawProgress.{of_counting}
-use Rattle.run_shows.specs.Given.RawDeclared.machines.asking.Reply.{Reply}
+use Rattle.run_shows.specs.Given.RawDeclared.machines.asking.MachineReply.{MachineReply}
 use Rattle.run_shows.specs.Given.RawDeclared.machines.machine.Machine.{Machine}
 use Rattle.run_shows.specs.Given.RawDeclared.machines.machine.Machine.TheVariants as kinds
 use Rattle.run_shows.specs.Given.RawDeclared.machines.progress.Answer.TheVariants as answers
@@ -89,7 +89,7 @@ module _ {K V : Type 0} where
       by (progress.Refused fault) g = absurd (cc (g, is))
 
   -- by a reply, or as it is asked, a counting alone is a counting then
-  told_counting : (u : UnderWay K V K) (reply : Reply V) (c : Sum) → kinds.Count c ≡ (machine_replied (machine_of u) reply).0 → u ≡ Counting c
+  told_counting : (u : UnderWay K V K) (reply : MachineReply V) (c : Sum) → kinds.Count c ≡ (machine_replied (machine_of u) reply).0 → u ≡ Counting c
   told_counting (OnKey k) reply c e = absurd (cc e)
   told_counting (ForRoom r) reply c e = absurd (cc e)
   told_counting (Counting c0) reply c e = ap Counting (sym (cc e))

@@ -5,8 +5,8 @@ use Rattle.std.proofs.Common.{◌≡◌, ℕ, Bool, true, false, [], ◌∷◌, 
 use Rattle.std.proofs.lemmas.Bool.{cases_eq}
 use Rattle.run_shows.specs.Given.SeizeWordsMem.{Mem}
 use Rattle.run_shows.specs.Given.SeizeWorld.{World, Row, Rests, with_at}
-use Rattle.run_shows.specs.Given.SeizeDeclared.progress.Progress.{Progress}
-use Rattle.run_shows.specs.Given.SeizeDeclared.progress.Progress.TheVariants as progress
+use Rattle.run_shows.specs.Given.SeizeDeclared.advance.Advance.{Advance}
+use Rattle.run_shows.specs.Given.SeizeDeclared.advance.Advance.TheVariants as progress
 use Rattle.run_shows.specs.Given.SeizeDeclared.rows.settle.Settled.{Settled}
 use Rattle.run_shows.specs.Given.SeizeDeclared.rows.settle.Settled.TheVariants as settled
 use Rattle.seize_acts.specs.Acts.Acts.{row_steps}
@@ -189,7 +189,7 @@ module _ {K V S : Type 0} (same : K → K → Bool) (hash : S → K → ℕ) (ba
 
     -- what a making tells
     made_agree : (i : ℕ) (b : Beginning K) (machine : NewMap) (w v : World (Node K V)) → w.memory ≡ v.memory → ((j : ℕ) → w.row j ≡ s.world.row j) → ((j : ℕ) → v.row j ≡ t.world.row j)
-        → (end : Progress Setting) → MakingCame same hash batch_size roots slot s i b w machine n end → MakingCame same hash batch_size roots slot t i b v machine o end → AreAlike n o
+        → (end : Advance Setting) → MakingCame same hash batch_size roots slot s i b w machine n end → MakingCame same hash batch_size roots slot t i b v machine o end → AreAlike n o
     made_agree i b machine w v memory rows rows2 progress.Goes is is2 = to _ _ is is2 (record {
       memory = memory;
       maps = alike.maps;
@@ -295,15 +295,15 @@ module _ {K V S : Type 0} (same : K → K → Bool) (hash : S → K → ℕ) (ba
     )
     by_act (StepsMaking i g) may told told2 (b, makes, m2, machine, end, computed, told_is, did, came) (b2, makes2, m3, machine2, end2, computed2, told_is2, did2, came2) =
         let one : b ≡ b2 = same_some b b2 (sym makes ∙ alike.makers i ∙ makes2) in
-        let step : ◌≡◌ {A = Mem (Node K V) × (NewMap × Progress Setting)} (m2, (machine, end)) (m3, (machine2, end2)) = same_some (m2, (machine, end)) (m3, (machine2, end2))
+        let step : ◌≡◌ {A = Mem (Node K V) × (NewMap × Advance Setting)} (m2, (machine, end)) (m3, (machine2, end2)) = same_some (m2, (machine, end)) (m3, (machine2, end2))
         (sym computed ∙ ap (λ (x : Mem (Node K V)). stepped x g (new_map_plan {K = K} {V = V} b.machine)) alike.memory
         ∙ ap (λ (x : Beginning K). stepped t.world.memory g (new_map_plan {K = K} {V = V} x.machine)) one ∙ computed2) in (
-          made_agree i b machine did.step.w2 did2.step.w2 (did.step.memory ∙ ap (λ (x : Mem (Node K V) × (NewMap × Progress Setting)). x.0) step ∙ sym did2.step.memory)
+          made_agree i b machine did.step.w2 did2.step.w2 (did.step.memory ∙ ap (λ (x : Mem (Node K V) × (NewMap × Advance Setting)). x.0) step ∙ sym did2.step.memory)
               (λ j. ap (λ (r : ℕ → Row). r j) (events_rows batch_size did.step.events s.world did.step.w2 did.step.users did.step.runs))
               (λ j. ap (λ (r : ℕ → Row). r j) (events_rows batch_size did2.step.events t.world did2.step.w2 did2.step.users did2.step.runs)) end came
-              (subst (λ (x : Mem (Node K V) × (NewMap × Progress Setting)). MakingCame same hash batch_size roots slot t i b did2.step.w2 x.1.0 o x.1.1) (sym step)
+              (subst (λ (x : Mem (Node K V) × (NewMap × Advance Setting)). MakingCame same hash batch_size roots slot t i b did2.step.w2 x.1.0 o x.1.1) (sym step)
               (subst (λ (x : Beginning K). MakingCame same hash batch_size roots slot t i x did2.step.w2 machine2 o end2) (sym one) came2)),
-          told_is ∙ ap (λ (x : Mem (Node K V) × (NewMap × Progress Setting)). OfMaking x.1.1) step ∙ sym told_is2,
+          told_is ∙ ap (λ (x : Mem (Node K V) × (NewMap × Advance Setting)). OfMaking x.1.1) step ∙ sym told_is2,
         )
     by_act (BeginsEnding i m) may told told2 (it, stands, told_is, is) (it2, stands2, told_is2, is2) = (
       to _ _ is is2 (record {

@@ -6,8 +6,8 @@ use Rattle.std.proofs.lemmas.List.{append-nil}
 use Rattle.run_shows.specs.Given.SeizeWordsMem.{Mem}
 use Rattle.run_shows.specs.Given.SeizeLaw.{Ended}
 use Rattle.run_shows.specs.Given.SeizeWorld.{World, with_at, with_effect}
-use Rattle.run_shows.specs.Given.SeizeDeclared.progress.Progress.{Progress}
-use Rattle.run_shows.specs.Given.SeizeDeclared.progress.Progress.TheVariants as progress
+use Rattle.run_shows.specs.Given.SeizeDeclared.advance.Advance.{Advance}
+use Rattle.run_shows.specs.Given.SeizeDeclared.advance.Advance.TheVariants as progress
 use Rattle.run_shows.specs.Given.SeizeDeclared.rows.settle.Settled.{Settled}
 use Rattle.run_shows.specs.Given.SeizeDeclared.rows.settle.Settled.TheVariants as settled
 use Rattle.seize_acts.proofs.Acts.Answers.{same_some}
@@ -86,7 +86,7 @@ module _ {K V S : Type 0} (same : K → K → Bool) (hash : S → K → ℕ) (ba
   to : (x : Scene K V) → n ≡ x → Is x lists → Then
   to x is so = (lists, subst (λ (y : Scene K V). Is y lists) (sym is) so)
 
-  made : (i : ℕ) (b : Beginning K) → s.makers i ≡ Some b → (m2 : Mem (Node K V)) (machine : NewMap) (end : Progress Setting)
+  made : (i : ℕ) (b : Beginning K) → s.makers i ≡ Some b → (m2 : Mem (Node K V)) (machine : NewMap) (end : Advance Setting)
       (did : MakingStepsAmong V same same batch_size roots slot s.world s.maps s.calls s.makers s.enders i b m2 (machine, end)) → MakingCame same hash batch_size roots slot s i b did.step.w2 machine n end → Then
   made i b makes m2 machine progress.Goes did is =
       to _ is (makings_leave_it V same same batch_size roots slot s.world s.maps s.calls s.makers s.enders lists all left i b makes m2 (machine, progress.Goes) did)

@@ -3,8 +3,8 @@ use Rattle.std.specs.Prelude.{◌≡◌, ℕ, Bool, [], ◌∷◌, ◌++◌, Som
 use Rattle.std.proofs.Common.{refl}
 use Rattle.run_shows.specs.Given.SeizeWorld.{with_at, with_effect}
 use Rattle.run_shows.specs.Given.SeizeLaw.{Ended}
-use Rattle.run_shows.specs.Given.SeizeDeclared.progress.Progress.{Progress}
-use Rattle.run_shows.specs.Given.SeizeDeclared.progress.Progress.TheVariants as progress
+use Rattle.run_shows.specs.Given.SeizeDeclared.advance.Advance.{Advance}
+use Rattle.run_shows.specs.Given.SeizeDeclared.advance.Advance.TheVariants as progress
 use Rattle.run_shows.specs.Given.SeizeDeclared.rows.settle.Settled.{Settled}
 use Rattle.run_shows.specs.Given.SeizeDeclared.rows.settle.Settled.TheVariants as settled
 use Rattle.seize_acts.specs.Acts.Answers.{Grant, then_on}
@@ -50,7 +50,7 @@ module _ {K V S : Type 0} (same : K → K → Bool) (hash : S → K → ℕ) (ba
 
   -- by what a making tells
   module _ (b : Beginning K) (m2 : Mem (Node K V)) (machine : NewMap) where
-    made : (told : Progress Setting) (did : MakingStepsAmong V same same batch_size roots slot s.world s.maps s.calls s.makers s.enders i b m2 (machine, told))
+    made : (told : Advance Setting) (did : MakingStepsAmong V same same batch_size roots slot s.world s.maps s.calls s.makers s.enders i b m2 (machine, told))
         → MakingToldAmong V same same batch_size roots slot s.world s.maps s.calls s.makers s.enders i b did.step.w2 (machine, told)
         → (n : Scene K V) × MakingCame same hash batch_size roots slot s i b did.step.w2 machine n told × Stands n
     made progress.Goes did together = (record s { world = did.step.w2; makers = with_at s.makers i (Some (record b { machine = machine })) }, refl, together)
@@ -59,7 +59,7 @@ module _ {K V S : Type 0} (same : K → K → Bool) (hash : S → K → ℕ) (ba
         (record s { world = did.step.w2; maps = with_at s.maps b.map (Some standing); makers = with_at s.makers i None }, (standing, is_made, refl), together)
     made (progress.Refused fault) did together = (record s { world = did.step.w2; makers = with_at s.makers i None }, refl, together)
 
-  making_came : (g : Grant) (b : Beginning K) → s.makers i ≡ Some b → (m2 : Mem (Node K V)) (machine : NewMap) (told : Progress Setting)
+  making_came : (g : Grant) (b : Beginning K) → s.makers i ≡ Some b → (m2 : Mem (Node K V)) (machine : NewMap) (told : Advance Setting)
       → making_steps same hash batch_size roots slot s g b ≡ Some (m2, (machine, told))
       → (answer : Answer K V) × (n : Scene K V) × Led same hash batch_size roots slot (StepsMaking i g) s answer n × Stands n
   making_came g b makes m2 machine told computed =

@@ -10,8 +10,8 @@ use Rattle.run_shows.specs.Given.SeizeLeave.{leave_plan}
 use Rattle.run_shows.specs.Given.SeizeRegister.{register_plan}
 use Rattle.run_shows.specs.Given.SeizeSettle.{settle_plan}
 use Rattle.run_shows.specs.Given.SeizeWorld.{World, Row, Rests, Registers, Enters, Settles, Leaves, Defers, Frees, Vacant, Inside, Request, Register', Enter', Leave', LeaveOwned, Refresh, Unregister', Retire, Flush, Defer', Begins, left_row, with_use, after_step, settles_on, leaves_on, registers_on, defers_on}
-use Rattle.run_shows.specs.Given.SeizeDeclared.progress.Progress.{Progress}
-use Rattle.run_shows.specs.Given.SeizeDeclared.progress.Progress.TheVariants as progress
+use Rattle.run_shows.specs.Given.SeizeDeclared.advance.Advance.{Advance}
+use Rattle.run_shows.specs.Given.SeizeDeclared.advance.Advance.TheVariants as progress
 use Rattle.run_shows.specs.Given.SeizeDeclared.rows.defer.Defer.{Defer}
 use Rattle.run_shows.specs.Given.SeizeDeclared.rows.enter.Enter.{Enter}
 use Rattle.run_shows.specs.Given.SeizeDeclared.rows.enter.Unregister.{Unregister}
@@ -46,12 +46,12 @@ module _ {T : Type 0} (defers : T → Option ℕ) (i : ℕ) where
         ap (λ (u : World T). u.row i) (sym at) ∙ here.1 ∙ ap (λ (p : Mem T × R). row p.1) one ∙ sym there.1 ∙ ap (λ (u : World T). u.row i) at2,
       )
 
-  abbrev registered_row : Register × Progress ℕ → Row
+  abbrev registered_row : Register × Advance ℕ → Row
   registered_row (end, progress.Done s) = Rests
   registered_row (end, progress.Refused fault) = Rests
   registered_row (end, _) = Registers end
 
-  registers_to : (c : Register) (u : World T) (m : Mem T) (r : Register × Progress ℕ) → ((registers_on u i c m r).memory ≡ m) × ((registers_on u i c m r).row i ≡ registered_row r)
+  registers_to : (c : Register) (u : World T) (m : Mem T) (r : Register × Advance ℕ) → ((registers_on u i c m r).memory ≡ m) × ((registers_on u i c m r).row i ≡ registered_row r)
   registers_to c u m (end, progress.Done s) = (refl, with_here u.row i Rests)
   registers_to c u m (end, progress.Refused fault) = (refl, with_here u.row i Rests)
   registers_to c u m (end, progress.Goes) = (refl, with_here u.row i (Registers end))
@@ -67,11 +67,11 @@ module _ {T : Type 0} (defers : T → Option ℕ) (i : ℕ) where
   settles_to c u m (end, settled.Waits) = (refl, with_here u.row i (Settles end))
   settles_to c u m (end, settled.Gave value) = (refl, with_here u.row i (Settles end))
 
-  abbrev deferred_row : ℕ → Defer × Progress Unit → Row
+  abbrev deferred_row : ℕ → Defer × Advance Unit → Row
   deferred_row s (end, progress.Done x) = Rests
   deferred_row s (end, _) = Defers s end
 
-  defers_to : (s : ℕ) (u : World T) (m : Mem T) (r : Defer × Progress Unit) → ((defers_on u i s m r).memory ≡ m) × ((defers_on u i s m r).row i ≡ deferred_row s r)
+  defers_to : (s : ℕ) (u : World T) (m : Mem T) (r : Defer × Advance Unit) → ((defers_on u i s m r).memory ≡ m) × ((defers_on u i s m r).row i ≡ deferred_row s r)
   defers_to s u m (end, progress.Done x) = (refl, with_here u.row i Rests)
   defers_to s u m (end, progress.Goes) = (refl, with_here u.row i (Defers s end))
   defers_to s u m (end, progress.Waits) = (refl, with_here u.row i (Defers s end))
@@ -84,14 +84,14 @@ module _ {T : Type 0} (defers : T → Option ℕ) (i : ℕ) where
   row_step_alike Rests g w v w2 v2 memory e f = absurd (cc e)
   row_step_alike (Registers c) g w v w2 v2 memory e f = stepped_alike (register_plan c) (λ u m r. registers_on u i c m r) registered_row (registers_to c) g w v w2 v2 memory e f
   row_step_alike (Enters c) g w v w2 v2 memory e f =
-      stepped_alike {R = Enter × Progress Unit} (enter_plan c) (λ u m r. with_use (after_step u i m Rests (Entered c.slot ∷ [])) c.slot (Inside 0)) (λ r. Rests) (λ u m r. (refl, with_here u.row i Rests)) g w v w2 v2
+      stepped_alike {R = Enter × Advance Unit} (enter_plan c) (λ u m r. with_use (after_step u i m Rests (Entered c.slot ∷ [])) c.slot (Inside 0)) (λ r. Rests) (λ u m r. (refl, with_here u.row i Rests)) g w v w2 v2
       memory e f
   row_step_alike (Settles c) g w v w2 v2 memory e f = stepped_alike (settle_plan defers c) (λ u m r. settles_on u i c m r) settled_row (settles_to c) g w v w2 v2 memory e f
   row_step_alike (Leaves c) g w v w2 v2 memory e f =
       stepped_alike (leave_plan defers c) (λ u m r. leaves_on u i c m r) left_to (λ u m r. (refl, with_here u.row i (left_row r.0 r.1))) g w v w2 v2 memory e f
   row_step_alike (Defers s c) g w v w2 v2 memory e f = stepped_alike (defer_plan c) (λ u m r. defers_on u i s m r) (deferred_row s) (defers_to s) g w v w2 v2 memory e f
   row_step_alike (Frees c) g w v w2 v2 memory e f =
-      stepped_alike {R = Unregister × Progress Unit} (unregister_plan c) (λ u m r. with_use (after_step u i m Rests []) c.slot Vacant) (λ r. Rests) (λ u m r. (refl, with_here u.row i Rests)) g w v w2 v2 memory e f
+      stepped_alike {R = Unregister × Advance Unit} (unregister_plan c) (λ u m r. with_use (after_step u i m Rests []) c.slot Vacant) (λ r. Rests) (λ u m r. (refl, with_here u.row i Rests)) g w v w2 v2 memory e f
 
   -- a row that begins is said by what is asked
   pub row_begin_alike : (size : ℕ) (request : Request) (w v w2 v2 : World T) → IsOfSlots request → Begins defers size i request w w2 → Begins defers size i request v v2 → w2.row i ≡ v2.row i

@@ -4,8 +4,8 @@ use Rattle.std.proofs.Common.{◌≡◌, ℕ, Bool, List, [], ◌∷◌, refl, s
 use Rattle.run_shows.specs.Given.SeizeWordsMem.{Mem}
 use Rattle.run_shows.specs.Given.SeizeLaw.{Ended}
 use Rattle.run_shows.specs.Given.SeizeWorld.{with_at, with_effect}
-use Rattle.run_shows.specs.Given.SeizeDeclared.progress.Progress.{Progress}
-use Rattle.run_shows.specs.Given.SeizeDeclared.progress.Progress.TheVariants as progress
+use Rattle.run_shows.specs.Given.SeizeDeclared.advance.Advance.{Advance}
+use Rattle.run_shows.specs.Given.SeizeDeclared.advance.Advance.TheVariants as progress
 use Rattle.run_shows.specs.Given.SeizeDeclared.rows.settle.Settled.{Settled}
 use Rattle.run_shows.specs.Given.SeizeDeclared.rows.settle.Settled.TheVariants as settled
 use Rattle.seize_acts.proofs.Acts.Answers.{was_stepped}
@@ -54,7 +54,7 @@ module _ {K V S : Type 0} (same : K → K → Bool) (hash : S → K → ℕ) (ba
   of_call m i u here v p there has = subst (λ (x : UnderWay K V K). copier_of x ≡ Some p) (one_some (s.calls m i) v u there here) has
 
   -- by what a making tells
-  made : (i : ℕ) (b : Beginning K) → s.makers i ≡ Some b → (m2 : Mem (Node K V)) (machine : NewMap) (end : Progress Setting)
+  made : (i : ℕ) (b : Beginning K) → s.makers i ≡ Some b → (m2 : Mem (Node K V)) (machine : NewMap) (end : Advance Setting)
       (did : MakingStepsAmong V same same batch_size roots slot s.world s.maps s.calls s.makers s.enders i b m2 (machine, end)) → MakingCame same hash batch_size roots slot s i b did.step.w2 machine n end → AreTheirs n
   made i b makes m2 machine progress.Goes did is = to _ is (makings_keep_theirs V same same batch_size roots slot s.world s.maps s.calls s.makers s.enders all theirs i b makes m2 (machine, progress.Goes) did.step)
   made i b makes m2 machine progress.Waits did never = absurd never

@@ -20,8 +20,8 @@ use Rattle.run_shows.specs.Given.ResizeCopierStates as copying
 use Rattle.run_shows.specs.Given.ResizeDeclared.copier.Copier.{Copier}
 use Rattle.run_shows.specs.Given.ResizeDeclared.copier.Copying.{Copying}
 use Rattle.run_shows.specs.Given.ResizeDeclared.copier.Copying.TheVariants as copies
-use Rattle.run_shows.specs.Given.ResizeDeclared.outcome.Outcome.{Outcome}
-use Rattle.run_shows.specs.Given.ResizeDeclared.outcome.Outcome.TheVariants as outcome
+use Rattle.run_shows.specs.Given.ResizeDeclared.yielding.Yielding.{Yielding}
+use Rattle.run_shows.specs.Given.ResizeDeclared.yielding.Yielding.TheVariants as outcome
 use Rattle.run_shows.specs.Given.RawCall.{copied}
 use Rattle.run_shows.specs.Given.RawCallPoints.{getting}
 use Rattle.run_shows.specs.Given.RawDeclared.machines.call.KeyCall.{KeyCall}
@@ -41,7 +41,7 @@ use Rattle.owner_facts.proofs.Alone.Handed.RootTurns.{IsPromoted, first_moves, f
 use Rattle.many_acts.specs.Carries.Theirs.{IsDueAt, IsNext, IsAhead, next_of_them}
 use Rattle.many_acts.proofs.Carries.Known.{HasCut, KnowsTables, CopierKnows}
 
-module _ {K V : Type 0} (hash : K → ℕ) (p : Copier) (m m2 : Mem (Node K V)) (end : Copier × Outcome (Node K V) Table) where
+module _ {K V : Type 0} (hash : K → ℕ) (p : Copier) (m m2 : Mem (Node K V)) (end : Copier × Yielding (Node K V) Table) where
   -- what is due next is due next still
   due_stays : (b : ℕ) (stands : Copying) → (IsRowOfCopier stands → ⊥) → Steps Took value_at m (copier_plan_at hash p stands) m2 end → IsDueAt p stands b
       → (q : Copier) × (end ≡ (q, outcome.Goes)) × IsDueAt q q.stands b
@@ -71,7 +71,7 @@ module _ {K V : Type 0} (same : K → K → Bool) (hash : K → ℕ) (setting : 
   root_named link some read = (link_made c blocks link c.first (root_leads same hash setting.mode setting.root w.memory c blocks map.map link read) (map.map.rule.common.rooted some)).0
 
 module _ {K V : Type 0} (same : K → K → Bool) (hash : K → ℕ) (setting : Setting) (w : World (Node K V)) (c : Chart K) (blocks : Blocks) (map : IsMapIn same hash setting w c blocks)
-    (caller : ℕ) (p : Copier) (knows : CopierKnows same hash w caller setting c blocks p) (m2 : Mem (Node K V)) (end : Copier × Outcome (Node K V) Table) where
+    (caller : ℕ) (p : Copier) (knows : CopierKnows same hash w caller setting c blocks p) (m2 : Mem (Node K V)) (end : Copier × Yielding (Node K V) Table) where
   -- it is due next, or ahead of it
   abbrev pub IsItsNext : Copier → ℕ → Type 0
   IsItsNext q b = IsDueAt q q.stands b ⊎ ((is_incremental setting.mode ≡ false) × IsAhead c.past blocks.table (next_of_them q q.stands) q.target.turn b)

@@ -5,8 +5,8 @@ use Rattle.run_shows.specs.Given.SeizeWordsMem.{Mem, Took, value_at}
 use Rattle.run_shows.specs.Given.SeizeWordsOp.{Out, Found, Stored, Exchanged, Made, Taken, Roomed}
 use Rattle.run_shows.specs.Given.SeizeWordsPlan.{Steps}
 use Rattle.run_shows.proofs.Given.SeizeWordsOneOwner.Operations.{loaded}
-use Rattle.run_shows.specs.Given.SeizeDeclared.progress.Progress.{Progress}
-use Rattle.run_shows.specs.Given.SeizeDeclared.progress.Progress.TheVariants as progress
+use Rattle.run_shows.specs.Given.SeizeDeclared.advance.Advance.{Advance}
+use Rattle.run_shows.specs.Given.SeizeDeclared.advance.Advance.TheVariants as progress
 use Rattle.run_shows.specs.Given.SeizeDeclared.rows.defer.Defer.{Defer}
 use Rattle.run_shows.specs.Given.SeizeDeclared.rows.defer.Deferring.TheVariants as at
 use Rattle.run_shows.specs.Given.SeizeDeclared.rows.settle.Settle.{Settle}
@@ -51,8 +51,8 @@ module _ {T : Type 0} (defers : T → Option ℕ) where
         (k.0, ap (λ (x : World T). x.row i) h.3 ∙ k.1, k.2)
 
   -- a row that puts a block behind another one is under way
-  defers_row : (w : World T) (i s : ℕ) (m : Mem T) (end : Defer × Progress Unit) (d : Defer) → end ≡ (d, progress.Goes) → (defers_on w i s m end).row i ≡ Defers s d
-  defers_row w i s m end d is = subst (λ (x : Defer × Progress Unit). (defers_on w i s m x).row i ≡ Defers s d) (sym is) (with_here w.row i (Defers s d))
+  defers_row : (w : World T) (i s : ℕ) (m : Mem T) (end : Defer × Advance Unit) (d : Defer) → end ≡ (d, progress.Goes) → (defers_on w i s m end).row i ≡ Defers s d
+  defers_row w i s m end d is = subst (λ (x : Defer × Advance Unit). (defers_on w i s m x).row i ≡ Defers s d) (sym is) (with_here w.row i (Defers s d))
 
   pub row_defers : (w w2 : World T) (i s block : ℕ) (word : At) → Steps' defers i (Defers s (deferring block word)) w w2 → (e : Defer) × (w2.row i ≡ Defers s e)
   row_defers w w2 i s block word h =

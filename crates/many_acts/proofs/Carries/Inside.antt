@@ -8,8 +8,8 @@ use Rattle.run_shows.specs.Given.TablesDeclared.node.Node.{Node}
 use Rattle.run_shows.specs.Given.TablesDeclared.table.Table.{Table}
 use Rattle.run_shows.specs.Given.ResizeCopier.{copier_plan}
 use Rattle.run_shows.specs.Given.ResizeDeclared.copier.Copier.{Copier}
-use Rattle.run_shows.specs.Given.ResizeDeclared.outcome.Outcome.{Outcome}
-use Rattle.run_shows.specs.Given.ResizeDeclared.outcome.Outcome.TheVariants as outcome
+use Rattle.run_shows.specs.Given.ResizeDeclared.yielding.Yielding.{Yielding}
+use Rattle.run_shows.specs.Given.ResizeDeclared.yielding.Yielding.TheVariants as outcome
 use Rattle.run_shows.specs.Given.ReservesReserve as reserves
 use Rattle.run_shows.specs.Given.ReservesDeclared.reserve.Reserve.{Reserve}
 use Rattle.run_shows.specs.Given.ReservesDeclared.reserve.Reserving.{Reserving}
@@ -37,7 +37,7 @@ use Rattle.owner_facts.specs.Given.CallersTogether.{OnKey, ForRoom, OverAll, Cal
 use Rattle.many_acts.specs.Carries.Theirs.{copier_of_call, copier_of_room, copier_of_sweep}
 
 -- it goes on, and has neither ended nor been refused
-abbrev pub IsOn : {T R : Type 0} → Outcome T R → Type 0
+abbrev pub IsOn : {T R : Type 0} → Yielding T R → Type 0
 IsOn (outcome.Done end) = ⊥
 IsOn (outcome.Refused fault) = ⊥
 IsOn _ = Unit {0}
@@ -52,16 +52,16 @@ module _ {K V Q : Type 0} (same : K → K → Bool) (hash : K → ℕ) (asks : Q
 
   -- the step is that of this copier
   abbrev pub CallCopies : Copier → Type 0
-  CallCopies x = (e : Copier × Outcome (Node K V) Table) × Steps Took value_at m (copier_plan hash x) m2 e × (IsOn e.1 → CallGoesOn e.0 end)
+  CallCopies x = (e : Copier × Yielding (Node K V) Table) × Steps Took value_at m (copier_plan hash x) m2 e × (IsOn e.1 → CallGoesOn e.0 end)
 
-  by_helped : (goal : Table) (e : Copier × Outcome (Node K V) Table) → IsOn e.1 → CallGoesOn e.0 (helped p goal e)
+  by_helped : (goal : Table) (e : Copier × Yielding (Node K V) Table) → IsOn e.1 → CallGoesOn e.0 (helped p goal e)
   by_helped goal (q, outcome.Goes) on = (refl, λ v. refl)
   by_helped goal (q, outcome.Waits) on = (refl, λ v. refl)
   by_helped goal (q, outcome.Gave value) on = (refl, λ v. refl)
   by_helped goal (q, outcome.Done table) on = absurd on
   by_helped goal (q, outcome.Refused fault) on = absurd on
 
-  by_copied : (e : Copier × Outcome (Node K V) Table) → IsOn e.1 → CallGoesOn e.0 (copied p e)
+  by_copied : (e : Copier × Yielding (Node K V) Table) → IsOn e.1 → CallGoesOn e.0 (copied p e)
   by_copied (q, outcome.Goes) on = (refl, λ v. refl)
   by_copied (q, outcome.Waits) on = (refl, λ v. refl)
   by_copied (q, outcome.Gave value) on = (refl, λ v. refl)
@@ -96,14 +96,14 @@ none_promotes (at.Helps copier goal) is = absurd (cc is)
 none_promotes (at.Copies copier) is = absurd (cc is)
 none_promotes _ is = refl
 
-module _ {K V : Type 0} (Q : Type 0) (hash : K → ℕ) (p : Reserve) (m m2 : Mem (Node K V)) (end : Reserve × Outcome (Node K V) Unit) where
-  abbrev RoomGoesOn : Copier → Reserve × Outcome (Node K V) Unit → Type 0
+module _ {K V : Type 0} (Q : Type 0) (hash : K → ℕ) (p : Reserve) (m m2 : Mem (Node K V)) (end : Reserve × Yielding (Node K V) Unit) where
+  abbrev RoomGoesOn : Copier → Reserve × Yielding (Node K V) Unit → Type 0
   RoomGoesOn q e = (copier_of_room e.0.stands ≡ Some q) × ((v : CallForRoom) → next_for_room {K = K} {V = V} {Q = Q} v e.1 ≡ Some (ForRoom v))
 
   abbrev pub RoomCopies : Copier → Type 0
-  RoomCopies x = (e : Copier × Outcome (Node K V) Table) × Steps Took value_at m (copier_plan hash x) m2 e × (IsOn e.1 → RoomGoesOn e.0 end)
+  RoomCopies x = (e : Copier × Yielding (Node K V) Table) × Steps Took value_at m (copier_plan hash x) m2 e × (IsOn e.1 → RoomGoesOn e.0 end)
 
-  by_room : (e : Copier × Outcome (Node K V) Table) → IsOn e.1 → RoomGoesOn e.0 (reserves.copied p e)
+  by_room : (e : Copier × Yielding (Node K V) Table) → IsOn e.1 → RoomGoesOn e.0 (reserves.copied p e)
   by_room (q, outcome.Goes) on = (refl, λ v. refl)
   by_room (q, outcome.Waits) on = (refl, λ v. refl)
   by_room (q, outcome.Gave value) on = (refl, λ v. refl)
@@ -134,9 +134,9 @@ module _ {K V : Type 0} (Q : Type 0) (hash : K → ℕ) (p : Sweep) (m m2 : Mem 
   SweepGoesOn q e = (copier_of_sweep e.0.stands ≡ Some q) × ((v : CallOverAll) → next_over_all {K = K} {V = V} {Q = Q} v e.1 ≡ Some (OverAll v))
 
   abbrev pub SweepCopies : Copier → Type 0
-  SweepCopies x = (e : Copier × Outcome (Node K V) Table) × Steps Took value_at m (copier_plan hash x) m2 e × (IsOn e.1 → SweepGoesOn e.0 end)
+  SweepCopies x = (e : Copier × Yielding (Node K V) Table) × Steps Took value_at m (copier_plan hash x) m2 e × (IsOn e.1 → SweepGoesOn e.0 end)
 
-  by_sweep : (e : Copier × Outcome (Node K V) Table) → IsOn e.1 → SweepGoesOn e.0 (sweeps.copied p e)
+  by_sweep : (e : Copier × Yielding (Node K V) Table) → IsOn e.1 → SweepGoesOn e.0 (sweeps.copied p e)
   by_sweep (q, outcome.Goes) on = (refl, λ v. refl)
   by_sweep (q, outcome.Waits) on = (refl, λ v. refl)
   by_sweep (q, outcome.Gave value) on = (refl, λ v. refl)

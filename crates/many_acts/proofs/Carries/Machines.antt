@@ -6,8 +6,8 @@ use Rattle.run_shows.specs.Given.SeizeWordsPlan.{Plan, Steps}
 use Rattle.run_shows.specs.Given.SeizeWorld.{World}
 use Rattle.seize_acts.proofs.Given.SeizeRuleRows.Leaving.{steps_back}
 use Rattle.run_shows.specs.Given.TablesDeclared.node.Node.{Node}
-use Rattle.run_shows.specs.Given.ResizeDeclared.outcome.Outcome.{Outcome}
-use Rattle.run_shows.specs.Given.ResizeDeclared.outcome.Outcome.TheVariants as outcome
+use Rattle.run_shows.specs.Given.ResizeDeclared.yielding.Yielding.{Yielding}
+use Rattle.run_shows.specs.Given.ResizeDeclared.yielding.Yielding.TheVariants as outcome
 use Rattle.run_shows.specs.Given.ReservesReserve.{reserve_plan}
 use Rattle.run_shows.specs.Given.ReservesDeclared.reserve.Reserve.{Reserve}
 use Rattle.run_shows.specs.Given.SweepsSweep.{sweep_plan}
@@ -61,14 +61,14 @@ module _ {T : Type 0} where
   called_back (called_as.Done answer) = refl
   called_back (called_as.Refused fault) = refl
 
-  abbrev as_outcome : Progress T → Outcome T Unit
+  abbrev as_outcome : Progress T → Yielding T Unit
   as_outcome progress.Waits = outcome.Waits
   as_outcome (progress.Gave value) = outcome.Gave value
   as_outcome (progress.Done answer) = outcome.Done tt
   as_outcome (progress.Refused fault) = outcome.Refused fault
   as_outcome _ = outcome.Goes
 
-  outcome_back : (x : Outcome T Unit) → as_outcome (of_outcome x) ≡ x
+  outcome_back : (x : Yielding T Unit) → as_outcome (of_outcome x) ≡ x
   outcome_back outcome.Goes = refl
   outcome_back outcome.Waits = refl
   outcome_back (outcome.Gave value) = refl
@@ -121,7 +121,7 @@ module _ {K V Q : Type 0} (asks : Q → K → Bool) (same : K → K → Bool) (h
       (same_key d.0.0 p2 (sym (ap (λ (x : Machine K V Q × Progress (Node K V)). x.0) d.2) ∙ is))
       (one_back of_called as_called called_back d.0.1 end (sym (ap (λ (x : Machine K V Q × Progress (Node K V)). x.1) d.2) ∙ tells)) d.1
 
-  room_steps : (p p2 : Reserve) (end : Outcome (Node K V) Unit) → machine ≡ kinds.Reserve p2 → told ≡ of_outcome end
+  room_steps : (p p2 : Reserve) (end : Yielding (Node K V) Unit) → machine ≡ kinds.Reserve p2 → told ≡ of_outcome end
       → Steps Took value_at m (machine_plan asks same hash (kinds.Reserve p)) m2 (machine, told) → Steps Took value_at m (reserve_plan hash p) m2 (p2, end)
   room_steps p p2 end is tells s =
       let d = steps_back reserved m m2 (reserve_plan hash p) (machine, told) s in

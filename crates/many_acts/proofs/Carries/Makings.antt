@@ -6,7 +6,7 @@ use Rattle.run_shows.specs.Given.SeizeWordsMem.{Mem, Took, value_at, word_at}
 use Rattle.run_shows.specs.Given.SeizeWordsOp.{Out, Make, Found, Stored, Exchanged, Made, Taken, Roomed}
 use Rattle.run_shows.specs.Given.SeizeSequence.{IsUsers}
 use Rattle.run_shows.specs.Given.SeizeWorld.{World, Row, Hand, NoBlock, Making, InUse, Parting, Cutting, Event, Begin, Step, Makes, Drops, Links, Parts, Unlinks, Rewrites, Operates, Ends, LeavesOver, Relinks, Clears, Chooses, Happens, Runs, made_by, with_at}
-use Rattle.run_shows.specs.Given.SeizeDeclared.progress.Progress.TheVariants as progress
+use Rattle.run_shows.specs.Given.SeizeDeclared.advance.Advance.TheVariants as progress
 use Rattle.seize_acts.specs.Acts.Reclaimed.{IsStillHad}
 use Rattle.seize_acts.proofs.Given.SeizeMemoryWords.Named.{made_one}
 use Rattle.seize_acts.proofs.Given.SeizeMemoryWords.There.{live_pos}
@@ -18,7 +18,7 @@ use Rattle.run_shows.specs.Given.TablesNodes.{deferred_word}
 use Rattle.run_shows.specs.Given.TablesDeclared.node.Node.{Node}
 use Rattle.run_shows.specs.Given.ResizeDeclared.new_map.NewMap.{NewMap}
 use Rattle.run_shows.specs.Given.TablesDeclared.setting.Setting.{Setting}
-use Rattle.run_shows.specs.Given.SeizeDeclared.progress.Progress.{Progress}
+use Rattle.run_shows.specs.Given.SeizeDeclared.advance.Advance.{Advance}
 use Rattle.run_shows.specs.Given.RuleInWorld.{AllUsers, IsOut}
 use Rattle.run_shows.proofs.Given.RuleWords.LinksSeen.{link_some, root_leads}
 use Rattle.run_shows.proofs.Given.RuleWorld.Hands.{at_cases}
@@ -92,7 +92,7 @@ module _ {K V : Type 0} (size b : ℕ) where
 module _ {K Q : Type 0} (V : Type 0) (same : K → K → Bool) (asks : Q → K → Bool) (batch_size roots : ℕ) (slot : ℕ → ℕ)
     (w : World (Node K V)) (maps : ℕ → Option (Standing K)) (calls : ℕ → ℕ → Option (UnderWay K V Q)) (makers : ℕ → Option (Beginning K)) (enders : ℕ → Option (Finishing K V)) where
   module _ (all : EndingsTogether V same asks batch_size roots slot w maps calls makers enders) (theirs : AllAreTheirs w maps calls enders) (i : ℕ) (b : Beginning K)
-      (m2 : Mem (Node K V)) (end : NewMap × Progress Setting) (st : StepsOfMaking V same asks batch_size roots slot w maps calls makers i b m2 end) (maps2 : ℕ → Option (Standing K)) where
+      (m2 : Mem (Node K V)) (end : NewMap × Advance Setting) (st : StepsOfMaking V same asks batch_size roots slot w maps calls makers i b m2 end) (maps2 : ℕ → Option (Standing K)) where
     rows_are : (j : ℕ) → st.w2.row j ≡ w.row j
     rows_are j = ap (λ (f : ℕ → Row). f j) (events_rows batch_size st.events w st.w2 st.users st.runs)
 

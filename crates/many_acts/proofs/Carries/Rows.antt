@@ -19,7 +19,7 @@ use Rattle.run_shows.specs.Given.ResizeCopierStates.{standing}
 use Rattle.run_shows.specs.Given.ResizeDeclared.copier.Copier.{Copier}
 use Rattle.run_shows.specs.Given.ResizeDeclared.copier.Copying.{Copying}
 use Rattle.run_shows.specs.Given.ResizeDeclared.copier.Copying.TheVariants as copies
-use Rattle.run_shows.specs.Given.ResizeDeclared.outcome.Outcome.{Outcome}
+use Rattle.run_shows.specs.Given.ResizeDeclared.yielding.Yielding.{Yielding}
 use Rattle.owner_facts.specs.Given.PointsTold.{IsRowOfCopier}
 use Rattle.owner_facts.specs.Given.CallersRows.{row_of_copier}
 use Rattle.many_acts.specs.Carries.Theirs.{IsDueAt, IsAhead, next_of_them}
@@ -32,7 +32,7 @@ IsItsRow b row = (d : Settle) × (row ≡ Settles d) × (d.pending ≡ b * 2048)
 
 module _ {K V : Type 0} (copier : Copier) (rest : ℕ) where
   -- it is within the retirement of this block
-  abbrev IsWithin : ℕ → Copier × Outcome (Node K V) Table → Type 0
+  abbrev IsWithin : ℕ → Copier × Yielding (Node K V) Table → Type 0
   IsWithin b end = IsItsRow b (row_of_copier end.0.stands)
 
   by_settle : (b : ℕ) (end : Settle × Settled (Node K V)) → IsRetiring deferred_word (b * 2048) end → IsWithin b (retired copier rest end)
@@ -42,7 +42,7 @@ module _ {K V : Type 0} (copier : Copier) (rest : ℕ) where
   by_settle b (d, settled.Done) is = absurd is
 
   -- it goes on, up to the same target, and comes to the same table next, if to one
-  abbrev ComesNext : Copier × Outcome (Node K V) Table → Type 0
+  abbrev ComesNext : Copier × Yielding (Node K V) Table → Type 0
   ComesNext end = IsOn end.1 × (end.0.target ≡ copier.target) × (rest ≢ 0 → next_of_them end.0 end.0.stands ≡ rest)
 
   by_retired : (end : Settle × Settled (Node K V)) → ComesNext (retired copier rest end)
@@ -62,18 +62,18 @@ module _ {K V : Type 0} (copier : Copier) (rest : ℕ) where
       next true e = absurd (cc e)
       next false e = refl
 
-module _ {K V : Type 0} (hash : K → ℕ) (p : Copier) (m m2 : Mem (Node K V)) (end : Copier × Outcome (Node K V) Table) where
+module _ {K V : Type 0} (hash : K → ℕ) (p : Copier) (m m2 : Mem (Node K V)) (end : Copier × Yielding (Node K V) Table) where
   -- by the first step of a retirement that is due
   pub row_within : (b : ℕ) (stands : Copying) → IsRowOfCopier stands → IsDueAt p stands b → Steps Took value_at m (copier_plan_at hash p stands) m2 end → IsItsRow b (row_of_copier end.0.stands)
   row_within b (copies.Retires settle rest) row due s =
       let k = steps_back (retired p rest) m m2 (settle_plan deferred_word settle) end s in
-      subst (λ (e : Copier × Outcome (Node K V) Table). IsItsRow b (row_of_copier e.0.stands)) (sym k.2)
+      subst (λ (e : Copier × Yielding (Node K V) Table). IsItsRow b (row_of_copier e.0.stands)) (sym k.2)
       (by_settle p rest b k.0 (retires_first deferred_word p.setting.slot p.setting.batch_size (b * 2048) m m2 k.0
       (subst (λ (x : Settle). Steps Took value_at m (settle_plan deferred_word x) m2 k.0) due k.1)))
   row_within b _ row due s = absurd row
 
   -- by any step of one
-  abbrev GoesNext : Copying → Copier × Outcome (Node K V) Table → Type 0
+  abbrev GoesNext : Copying → Copier × Yielding (Node K V) Table → Type 0
   GoesNext stands e = IsOn e.1 × (e.0.target ≡ p.target) × (next_of_them p stands ≢ 0 → next_of_them e.0 e.0.stands ≡ next_of_them p stands)
 
   pub row_goes : (stands : Copying) → IsRowOfCopier stands → Steps Took value_at m (copier_plan_at hash p stands) m2 end → GoesNext stands end

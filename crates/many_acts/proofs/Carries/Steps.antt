@@ -10,7 +10,7 @@ use Rattle.run_shows.specs.Given.TablesDeclared.node.Node.{Node}
 use Rattle.run_shows.specs.Given.TablesDeclared.table.Table.{Table}
 use Rattle.run_shows.specs.Given.ResizeCopier.{copier_plan}
 use Rattle.run_shows.specs.Given.ResizeDeclared.copier.Copier.{Copier}
-use Rattle.run_shows.specs.Given.ResizeDeclared.outcome.Outcome.{Outcome}
+use Rattle.run_shows.specs.Given.ResizeDeclared.yielding.Yielding.{Yielding}
 use Rattle.run_shows.specs.Given.RuleChart.{Chart}
 use Rattle.run_shows.specs.Given.RuleInWorld.{IsMapIn, Went}
 use Rattle.run_shows.specs.Given.RuleWords.{Blocks}
@@ -45,7 +45,7 @@ module _ {K Q : Type 0} (V : Type 0) (same : K → K → Bool) (asks : Q → K �
     pub record StepsBy (x : Copier) : Type 0 where
       pub no_row : IsRowOfCopier x.stands → ⊥
       pub knows : CopierKnows same s.hash w i (in_slot s.setting (slot i)) s.chart (seen_by s.blocks (s.sights (slot i))) x
-      pub end : Copier × Outcome (Node K V) Table
+      pub end : Copier × Yielding (Node K V) Table
       pub steps : Steps Took value_at w.memory (copier_plan s.hash x) m2 end
       pub goes : IsOn end.1 → (u2 : UnderWay K V Q) × (next ≡ Some u2) × (copier_of u2 ≡ Some end.0)
 
@@ -71,9 +71,9 @@ module _ {K Q : Type 0} (V : Type 0) (same : K → K → Bool) (asks : Q → K �
 
       due_then : (b : ℕ) → GoesOwing same s.hash (in_slot s.setting (slot i)) w s.chart (seen_by s.blocks (s.sights (slot i))) map_here i x st.knows m2 st.end b → DueThen b
       due_then b (q, is, hands) =
-          let on = st.goes (subst (λ (e : Copier × Outcome (Node K V) Table). IsOn e.1) (sym is) tt) in
+          let on = st.goes (subst (λ (e : Copier × Yielding (Node K V) Table). IsOn e.1) (sym is) tt) in
           owes_after V same asks size slot w maps calls enders all m s here i u has m2 Told went blocks2 grown sights2 next on.0 q on.1
-          (on.2 ∙ ap (λ (e : Copier × Outcome (Node K V) Table). Some e.0) is) b (to_hand q b hands)
+          (on.2 ∙ ap (λ (e : Copier × Yielding (Node K V) Table). Some e.0) is) b (to_hand q b hands)
 
       keeps_by : (b : ℕ) → IsToHandOver w maps m i x b → DueThen b
       keeps_by b hands =

@@ -8,7 +8,7 @@ use Rattle.run_shows.specs.Given.SweepsSweepPoints.{next_at}
 use Rattle.run_shows.specs.Given.ResizeDeclared.copier.Copier.{Copier}
 use Rattle.run_shows.specs.Given.RawCallAsks.{told_at}
 use Rattle.run_shows.specs.Given.RawMachine.{is_ready, machine_asked, machine_replied, sweep_told}
-use Rattle.run_shows.specs.Given.RawDeclared.machines.asking.Reply.{Reply}
+use Rattle.run_shows.specs.Given.RawDeclared.machines.asking.MachineReply.{MachineReply}
 use Rattle.run_shows.specs.Given.RawDeclared.machines.call.Calling.{Calling}
 use Rattle.run_shows.specs.Given.RawDeclared.machines.call.Calling.TheVariants as calling
 use Rattle.run_shows.specs.Given.RawDeclared.machines.call.KeyCall.{KeyCall}
@@ -21,7 +21,7 @@ use Rattle.run_shows.specs.Scenes.Replying.{unless_stopped}
 
 -- a sweep that copies asks nothing, and is not ready
 module _ (p : Copier) where
-  of_sweep_told : {V : Type 0} (stands : Sweeping) (c : Sweep) (reply : Reply V) → c.stands ≡ stands → copier_of_sweep stands ≡ Some p → copier_of_sweep (sweep_told stands c reply).0.stands ≡ Some p
+  of_sweep_told : {V : Type 0} (stands : Sweeping) (c : Sweep) (reply : MachineReply V) → c.stands ≡ stands → copier_of_sweep stands ≡ Some p → copier_of_sweep (sweep_told stands c reply).0.stands ≡ Some p
   of_sweep_told (sweeping.Copies copier) c reply is has = ap (λ (x : Sweeping). copier_of_sweep x) is ∙ has
   of_sweep_told _ c reply is has = absurd (cc has)
 
@@ -49,12 +49,12 @@ module _ {K V Q : Type 0} where
 
   module _ (p : Copier) where
     -- nor does a call
-    call_told : (stands : Calling) (c : KeyCall K V Q) (reply : Reply V) → c.stands ≡ stands → copier_of_call stands ≡ Some p → copier_of_call (told_at stands c reply).0.stands ≡ Some p
+    call_told : (stands : Calling) (c : KeyCall K V Q) (reply : MachineReply V) → c.stands ≡ stands → copier_of_call stands ≡ Some p → copier_of_call (told_at stands c reply).0.stands ≡ Some p
     call_told (calling.Helps copier goal) c reply is has = ap (λ (x : Calling). copier_of_call x) is ∙ has
     call_told (calling.Copies copier) c reply is has = ap (λ (x : Calling). copier_of_call x) is ∙ has
     call_told _ c reply is has = absurd (cc has)
 
-    replied_on : (x : Machine K V Q) (reply : Reply V) → copier_in x ≡ Some p → copier_in (machine_replied x reply).0 ≡ Some p
+    replied_on : (x : Machine K V Q) (reply : MachineReply V) → copier_in x ≡ Some p → copier_in (machine_replied x reply).0 ≡ Some p
     replied_on (kinds.Key c) reply has = call_told c.stands c reply refl has
     replied_on (kinds.Reserve c) reply has = has
     replied_on (kinds.Count c) reply has = has
@@ -66,7 +66,7 @@ module _ {K V Q : Type 0} where
     asked_on (kinds.Count c) has = has
     asked_on (kinds.Sweep c) has = sweep_asked p c.stands c refl has
 
-    pub told_on : (u next : UnderWay K V Q) (reply : Reply V) → machine_of next ≡ (machine_replied (machine_of u) reply).0 → copier_of u ≡ Some p → copier_of next ≡ Some p
+    pub told_on : (u next : UnderWay K V Q) (reply : MachineReply V) → machine_of next ≡ (machine_replied (machine_of u) reply).0 → copier_of u ≡ Some p → copier_of next ≡ Some p
     told_on u next reply is has = of_machine next ∙ ap (λ (x : Machine K V Q). copier_in x) is ∙ replied_on (machine_of u) reply (sym (of_machine u) ∙ has)
 
     pub next_on : (u next : UnderWay K V Q) → machine_of next ≡ (machine_asked (machine_of u)).0 → copier_of u ≡ Some p → copier_of next ≡ Some p

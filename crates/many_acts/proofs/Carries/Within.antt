@@ -20,7 +20,7 @@ use Rattle.run_shows.specs.Given.TablesDeclared.setting.Setting.{Setting}
 use Rattle.run_shows.specs.Given.TablesDeclared.table.Table.{Table}
 use Rattle.run_shows.specs.Given.ResizeCopier.{copier_plan}
 use Rattle.run_shows.specs.Given.ResizeDeclared.copier.Copier.{Copier}
-use Rattle.run_shows.specs.Given.ResizeDeclared.outcome.Outcome.{Outcome}
+use Rattle.run_shows.specs.Given.ResizeDeclared.yielding.Yielding.{Yielding}
 use Rattle.owner_facts.specs.Given.PointsTold.{IsRowOfCopier}
 use Rattle.run_shows.proofs.Given.RuleWorld.Hands.{at_cases}
 use Rattle.owner_facts.specs.Given.CallersOverAll.{gone_on, row_of_sweep}
@@ -153,7 +153,7 @@ module _ {K Q : Type 0} (V : Type 0) (same : K → K → Bool) (asks : Q → K �
     pub record RowsBy (x : Copier) : Type 0 where
       pub row : IsRowOfCopier x.stands
       pub m2 : Mem (Node K V)
-      pub end : Copier × Outcome (Node K V) Table
+      pub end : Copier × Yielding (Node K V) Table
       pub steps : Steps Took value_at w.memory (copier_plan s.hash x) m2 end
       pub goes : IsOn end.1 → (u2 : UnderWay K V Q) × (next ≡ Some u2) × (copier_of u2 ≡ Some end.0) × ((w2.row i ≡ Rests) ⊎ (w2.row i ≡ row_of_copier end.0.stands))
 

@@ -5,8 +5,8 @@ use Rattle.run_shows.specs.Given.SeizeWordsMem.{Mem, word_at}
 use Rattle.run_shows.specs.Given.SeizeWordsDeclared.at.At.TheVariants.{Root, Used}
 use Rattle.run_shows.specs.Given.SeizeLaw.{reachable}
 use Rattle.run_shows.specs.Given.SeizeWorld.{World, InUse, Event, Runs, with_at}
-use Rattle.run_shows.specs.Given.SeizeDeclared.progress.Progress.{Progress}
-use Rattle.run_shows.specs.Given.SeizeDeclared.progress.Progress.TheVariants as progress
+use Rattle.run_shows.specs.Given.SeizeDeclared.advance.Advance.{Advance}
+use Rattle.run_shows.specs.Given.SeizeDeclared.advance.Advance.TheVariants as progress
 use Rattle.run_shows.specs.Given.SeizeDeclared.rows.settle.Settled.{Settled}
 use Rattle.run_shows.specs.Given.SeizeDeclared.rows.settle.Settled.TheVariants as settled
 use Rattle.seize_acts.proofs.Given.SeizeAloneHistories.Reached.{Reached as IsReached}
@@ -41,7 +41,7 @@ module _ {K V S : Type 0} (same : K → K → Bool) (hash : S → K → ℕ) (ba
   reached : IsReached deferred_word batch_size s.world
   reached = came_reached batch_size s.world all.makings.standing.came
 
-  cut_off : (i : ℕ) (d : Beginning K) (m2 : Mem (Node K V)) (end : NewMap × Progress Setting)
+  cut_off : (i : ℕ) (d : Beginning K) (m2 : Mem (Node K V)) (end : NewMap × Advance Setting)
       (st : StepsOfMaking V same same batch_size roots slot s.world s.maps s.calls s.makers i d m2 end)
       → (0 < b → IsFirstTable st.w2 end b → (o : ℕ) × (st.w2.hand b ≡ InUse o)) → IsCutOff b s.world st.w2
   cut_off i d m2 end st = making_cut_off V same same batch_size roots slot s.world s.maps s.calls s.makers i d m2 end st b reached
@@ -49,7 +49,7 @@ module _ {K V S : Type 0} (same : K → K → Bool) (hash : S → K → ℕ) (ba
   to : (x : Scene K V) → n ≡ x → IsCutOff b s.world x.world → IsCutOff b s.world n.world
   to x is so = subst (λ (y : Scene K V). IsCutOff b s.world y.world) (sym is) so
 
-  made : (i : ℕ) (d : Beginning K) (m2 : Mem (Node K V)) (machine : NewMap) (end : Progress Setting)
+  made : (i : ℕ) (d : Beginning K) (m2 : Mem (Node K V)) (machine : NewMap) (end : Advance Setting)
       (did : MakingStepsAmong V same same batch_size roots slot s.world s.maps s.calls s.makers s.enders i d m2 (machine, end))
       → MakingCame same hash batch_size roots slot s i d did.step.w2 machine n end → IsCutOff b s.world n.world
   made i d m2 machine progress.Goes did is = to _ is (cut_off i d m2 (machine, progress.Goes) did.step (λ some first. absurd first))

@@ -4,7 +4,7 @@ use Rattle.std.proofs.Common.{◌≡◌, ◌⊎◌, ◌<◌, ℕ, Bool, inl, inr
 use Rattle.run_shows.specs.Given.SeizeWordsMem.{Mem, word_at}
 use Rattle.run_shows.specs.Given.SeizeWordsDeclared.at.At.TheVariants.{Root}
 use Rattle.run_shows.specs.Given.SeizeWorld.{World, InUse, Cutting}
-use Rattle.run_shows.specs.Given.SeizeDeclared.progress.Progress.{Progress}
+use Rattle.run_shows.specs.Given.SeizeDeclared.advance.Advance.{Advance}
 use Rattle.seize_acts.proofs.Given.SeizeMemoryWords.There.{live_pos}
 use Rattle.seize_acts.proofs.Given.SeizeAloneHistories.Reached.{Reached, runs_reached}
 use Rattle.run_shows.specs.Given.TablesNodes.{deferred_word}
@@ -37,7 +37,7 @@ module _ {K Q : Type 0} (V : Type 0) (same : K → K → Bool) (asks : Q → K �
 
 module _ {K Q : Type 0} (V : Type 0) (same : K → K → Bool) (asks : Q → K → Bool) (batch_size roots : ℕ) (slot : ℕ → ℕ)
     (w : World (Node K V)) (maps : ℕ → Option (Standing K)) (calls : ℕ → ℕ → Option (UnderWay K V Q)) (makers : ℕ → Option (Beginning K)) (i : ℕ) (d : Beginning K)
-    (m2 : Mem (Node K V)) (end : NewMap × Progress Setting) (st : StepsOfMaking V same asks batch_size roots slot w maps calls makers i d m2 end)
+    (m2 : Mem (Node K V)) (end : NewMap × Advance Setting) (st : StepsOfMaking V same asks batch_size roots slot w maps calls makers i d m2 end)
     (b : ℕ) (r : Reached deferred_word batch_size w) where
   -- if its map's first table is in use
   pub making_cut_off : (0 < b → IsFirstTable st.w2 end b → (o : ℕ) × (st.w2.hand b ≡ InUse o)) → IsCutOff b w st.w2

@@ -1,7 +1,7 @@
 -- An act is what one caller does at once, as plain data: it begins something, takes one step of what it has under way, or tells its call something.
 use Rattle.std.specs.Prelude.{ℕ, Bool, [], Option, Some, None, Result}
 use Rattle.run_shows.specs.Given.SeizeWorld.{Request}
-use Rattle.run_shows.specs.Given.SeizeDeclared.progress.Progress.{Progress as Told}
+use Rattle.run_shows.specs.Given.SeizeDeclared.advance.Advance.{Advance as Told}
 use Rattle.run_shows.specs.Given.SeizeDeclared.rows.settle.Settled.{Settled}
 use Rattle.seize_acts.specs.Acts.Answers.{Grant}
 use Rattle.run_shows.specs.Given.TablesDeclared.node.Node.{Node}
@@ -11,7 +11,7 @@ use Rattle.run_shows.specs.Given.ReservesReserve.{reserving}
 use Rattle.run_shows.specs.Given.ReservesDeclared.sweep.Purpose.{Purpose}
 use Rattle.run_shows.specs.Given.RawCallAsks.{computing, updating, updating_or_inserting, trying_to_insert_with, removing_if}
 use Rattle.run_shows.specs.Given.RawCallPoints.{getting, removing, inserting, trying_to_insert}
-use Rattle.run_shows.specs.Given.RawDeclared.machines.asking.Reply.{Reply}
+use Rattle.run_shows.specs.Given.RawDeclared.machines.asking.MachineReply.{MachineReply}
 use Rattle.run_shows.specs.Given.RawDeclared.machines.call.KeyCall.{KeyCall}
 use Rattle.run_shows.specs.Given.RawDeclared.machines.progress.Progress.{Progress}
 use Rattle.run_shows.specs.Given.TablesDeclared.node.Node.TheVariants as node
@@ -53,7 +53,7 @@ UnlessToCount _ Asked = Asked
 pub data Act (K V S : Type 0) : Type 0 where
   BeginsCall : ℕ → ℕ → Wanted K V → Act K V S  -- this caller begins to do this on this map
   StepsCall : ℕ → ℕ → Grant → Act K V S  -- its call on this map takes its next step
-  TellsCall : ℕ → ℕ → Reply V → Act K V S  -- its call on this map is told this
+  TellsCall : ℕ → ℕ → MachineReply V → Act K V S  -- its call on this map is told this
   AsksCall : ℕ → ℕ → Act K V S  -- or is asked for its next pair
   StopsCall : ℕ → ℕ → Act K V S  -- or is given up, if it is a walk that is ready
   -- this caller begins to make this map, with this hasher and setting, and a first table of so many places, or none for 0
@@ -68,7 +68,7 @@ pub data Act (K V S : Type 0) : Type 0 where
 pub data Answer (K V : Type 0) : Type 0 where
   Nothing : Answer K V
   OfCall : Progress (Node K V) → Answer K V
-  OfReply : Result Unit (Reply V) → Answer K V  -- whether it was taken: one that was not comes back
+  OfReply : Result Unit (MachineReply V) → Answer K V  -- whether it was taken: one that was not comes back
   OfAsking : Bool → Answer K V  -- whether the call was ready
   OfMaking : Told Setting → Answer K V
   OfEnding : Settled (Node K V) → Answer K V

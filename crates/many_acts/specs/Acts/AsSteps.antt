@@ -11,8 +11,8 @@ use Rattle.run_shows.specs.Given.SeizeReclaimAll.{reclaim_all_plan}
 use Rattle.run_shows.specs.Given.SeizeRegister.{register_plan}
 use Rattle.run_shows.specs.Given.SeizeSettle.{settle_plan}
 use Rattle.run_shows.specs.Given.SeizeWorld.{World, with_at, Row, Rests, Registers, Enters, Settles, Leaves, Defers, Frees}
-use Rattle.run_shows.specs.Given.SeizeDeclared.progress.Progress.{Progress}
-use Rattle.run_shows.specs.Given.SeizeDeclared.progress.Progress.TheVariants as progress
+use Rattle.run_shows.specs.Given.SeizeDeclared.advance.Advance.{Advance}
+use Rattle.run_shows.specs.Given.SeizeDeclared.advance.Advance.TheVariants as progress
 use Rattle.run_shows.specs.Given.SeizeDeclared.rows.reclaim_all.ReclaimAll.{ReclaimAll}
 use Rattle.run_shows.specs.Given.SeizeDeclared.rows.settle.Settled.{Settled}
 use Rattle.run_shows.specs.Given.SeizeDeclared.rows.settle.Settled.TheVariants as settled
@@ -24,7 +24,7 @@ use Rattle.run_shows.specs.Given.ResizeNewMap.{new_map_plan}
 use Rattle.run_shows.specs.Given.ResizeDeclared.new_map.NewMap.{NewMap}
 use Rattle.run_shows.specs.Given.RawEndMap.{end_map_plan}
 use Rattle.run_shows.specs.Given.RawMachine.{machine_plan}
-use Rattle.run_shows.specs.Given.RawDeclared.machines.asking.Reply.{Reply}
+use Rattle.run_shows.specs.Given.RawDeclared.machines.asking.MachineReply.{MachineReply}
 use Rattle.run_shows.specs.Given.RawDeclared.machines.end_map.EndMap.{EndMap}
 use Rattle.run_shows.specs.Given.RawDeclared.machines.progress.Progress.{Progress as CallProgress}
 use Rattle.run_shows.specs.Given.TellsSeen.{seen_of}
@@ -108,7 +108,7 @@ module _ {K V S : Type 0} (by_hasher : S → K → ℕ) (hash : ℕ → K → �
 
 module _ {K V : Type 0} (same : K → K → Bool) (hash : ℕ → K → ℕ) where
   -- The scene to which a step of the making of a map, or of the end of one, has come, by what it says.
-  abbrev pub MadeTo : (s : Scene K V) (old new : Held K V) (i : ℕ) (b : Beginning K) (opening : NewMap) (w2 : World (Node K V)) (told : Progress Setting)
+  abbrev pub MadeTo : (s : Scene K V) (old new : Held K V) (i : ℕ) (b : Beginning K) (opening : NewMap) (w2 : World (Node K V)) (told : Advance Setting)
       → MakingComesTo same hash s old new i b opening w2 told → Scene K V → Type 0
   MadeTo s old new i b opening w2 progress.Goes comes n = n ≡ record s { world = w2; makers = with_at s.makers i (Some (record b { machine = opening })) }
   MadeTo s old new i b opening w2 progress.Waits comes n = ⊥
@@ -132,7 +132,7 @@ module _ {K V S : Type 0} (same : K → K → Bool) (by_hasher : S → K → ℕ
       (told : CallProgress (Node K V)) × (answer ≡ OfCall told) × (leads : StepLeads same hash i told s old new)
       × ((map : ℕ) (u : UnderWay K V K) (here : s.calls map i ≡ Some u) → (let to = leads map u here in n ≡ scene_after same s old new map i to.0 u to.1 told to.4))
   LeadsAs (TellsCall i m reply) s answer n old new =
-      (result : Result Unit (Reply V)) × (answer ≡ OfReply result) × (leads : ReplyLeads same hash i reply result s old new)
+      (result : Result Unit (MachineReply V)) × (answer ≡ OfReply result) × (leads : ReplyLeads same hash i reply result s old new)
       × ((map : ℕ) (u : UnderWay K V K) (here : s.calls map i ≡ Some u) → (is_err result ≡ true → (leads map u here).1 ≡ u) × (n ≡ scene_with map i (leads map u here).1 s))
   LeadsAs (AsksCall i m) s answer n old new =
       (ready : Bool) × (answer ≡ OfAsking ready) × (leads : AskLeads same hash i ready s old new)
@@ -144,7 +144,7 @@ module _ {K V S : Type 0} (same : K → K → Bool) (by_hasher : S → K → ℕ
       (new.memory ≡ old.memory) × IsAt same hash new (scene_making i (making_begun (by_hasher hasher) old.roots map given places) s)
       × (n ≡ scene_making i (making_begun (by_hasher hasher) old.roots map given places) s)
   LeadsAs (StepsMaking i g) s answer n old new =
-      (told : Progress Setting) × (answer ≡ OfMaking told) × (leads : MakingLeads same hash i told s old new)
+      (told : Advance Setting) × (answer ≡ OfMaking told) × (leads : MakingLeads same hash i told s old new)
       × ((b : Beginning K) (here : s.makers i ≡ Some b) → (let to = leads b here in MadeTo same hash s old new i b to.0 to.2.step.w2 told to.3 n))
   LeadsAs (BeginsEnding i m) s answer n old new = (to : EndingBeginsTo same (IsAt same hash new) m i s old new) × (n ≡ ending_begun m i to.0 s)
   LeadsAs (StepsEnding i g) s answer n old new =

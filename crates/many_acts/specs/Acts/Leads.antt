@@ -5,8 +5,8 @@ use Rattle.std.specs.Option.{is_none}
 use Rattle.std.specs.Result.{is_err}
 use Rattle.run_shows.specs.Given.SeizeWordsMem.{Mem, value_at}
 use Rattle.run_shows.specs.Given.SeizeWorld.{World, Begin, Step, Happens, with_at}
-use Rattle.run_shows.specs.Given.SeizeDeclared.progress.Progress.{Progress}
-use Rattle.run_shows.specs.Given.SeizeDeclared.progress.Progress.TheVariants as progress
+use Rattle.run_shows.specs.Given.SeizeDeclared.advance.Advance.{Advance}
+use Rattle.run_shows.specs.Given.SeizeDeclared.advance.Advance.TheVariants as progress
 use Rattle.run_shows.specs.Given.SeizeDeclared.rows.settle.Settled.{Settled}
 use Rattle.run_shows.specs.Given.SeizeDeclared.rows.settle.Settled.TheVariants as settled
 use Rattle.seize_acts.specs.Acts.Acts.{rests, is_within, begun as row_begun, row_steps}
@@ -64,7 +64,7 @@ module _ {K V S : Type 0} (same : K → K → Bool) (hash : S → K → ℕ) (ba
   abbrev pub call_steps : Scene K V → Grant → Standing K × UnderWay K V K → Option (Mem (Node K V) × (Machine K V K × CallProgress (Node K V)))
   call_steps s g it = stepped s.world.memory g (machine_plan same same it.0.hash (machine_of it.1))
 
-  abbrev pub making_steps : Scene K V → Grant → Beginning K → Option (Mem (Node K V) × (NewMap × Progress Setting))
+  abbrev pub making_steps : Scene K V → Grant → Beginning K → Option (Mem (Node K V) × (NewMap × Advance Setting))
   making_steps s g b = stepped s.world.memory g (new_map_plan b.machine)
 
   abbrev pub ending_steps : Scene K V → Grant → Finishing K V → Option (Mem (Node K V) × (EndMap × Settled (Node K V)))
@@ -96,7 +96,7 @@ module _ {K V S : Type 0} (same : K → K → Bool) (hash : S → K → ℕ) (ba
   AllStand s = EndingsTogether V same same batch_size roots slot s.world s.maps s.calls s.makers s.enders
 
   -- By what it tells, a making goes on; or its map stands; or there is none.
-  abbrev pub MakingCame : Scene K V → ℕ → Beginning K → World (Node K V) → NewMap → Scene K V → Progress Setting → Type 0
+  abbrev pub MakingCame : Scene K V → ℕ → Beginning K → World (Node K V) → NewMap → Scene K V → Advance Setting → Type 0
   MakingCame s i b w2 machine n progress.Goes = n ≡ record s { world = w2; makers = with_at s.makers i (Some (record b { machine = machine })) }
   MakingCame s i b w2 machine n progress.Waits = ⊥
   MakingCame s i b w2 machine n (progress.Done setting) =
@@ -144,7 +144,7 @@ module _ {K V S : Type 0} (same : K → K → Bool) (hash : S → K → ℕ) (ba
       × (n ≡ record s { calls = with_call s.calls m i (unless_stopped (machine_asked (machine_of u)).1 u) })
   Led (BeginsMaking i map hasher given places) s told n = (told ≡ Nothing) × (n ≡ record s { makers = with_at s.makers i (Some (making_begun (hash hasher) roots map given places)) })
   Led (StepsMaking i g) s told n =
-      (b : Beginning K) × (s.makers i ≡ Some b) × (m2 : Mem (Node K V)) × (machine : NewMap) × (progress : Progress Setting)
+      (b : Beginning K) × (s.makers i ≡ Some b) × (m2 : Mem (Node K V)) × (machine : NewMap) × (progress : Advance Setting)
       × (making_steps s g b ≡ Some (m2, (machine, progress))) × (told ≡ OfMaking progress)
       × (did : MakingStepsAmong V same same batch_size roots slot s.world s.maps s.calls s.makers s.enders i b m2 (machine, progress))
       × MakingCame s i b did.step.w2 machine n progress

@@ -4,7 +4,7 @@ use Rattle.std.proofs.Common.{inl}
 use Rattle.run_shows.specs.Given.SeizeWordsMem.{Mem, Can, Took, value_at}
 use Rattle.run_shows.specs.Given.SeizeWordsPlan.{May, Steps}
 use Rattle.run_shows.specs.Given.SeizeWorld.{World, MayStep, Steps'}
-use Rattle.run_shows.specs.Given.SeizeDeclared.progress.Progress.{Progress}
+use Rattle.run_shows.specs.Given.SeizeDeclared.advance.Advance.{Advance}
 use Rattle.run_shows.specs.Given.SeizeDeclared.rows.settle.Settled.{Settled}
 use Rattle.seize_acts.specs.Acts.Acts.{row_steps}
 use Rattle.seize_acts.specs.Acts.Answers.{Grant}
@@ -45,7 +45,7 @@ module _ {K S : Type 0} (V : Type 0) (same : K → K → Bool) (hash : S → K �
         → (m2 : Mem (Node K V)) (end : Machine K V K × CallProgress (Node K V)) → Steps Took value_at s.world.memory (machine_plan same same standing.hash (machine_of u)) m2 end
         → (g : Grant) × (call_steps same hash batch_size roots slot s g (standing, u) ≡ Some (m2, end))
     pub makings : (i : ℕ) (b : Beginning K) → s.makers i ≡ Some b
-        → (m2 : Mem (Node K V)) (end : NewMap × Progress Setting) → Steps Took value_at s.world.memory (new_map_plan b.machine) m2 end
+        → (m2 : Mem (Node K V)) (end : NewMap × Advance Setting) → Steps Took value_at s.world.memory (new_map_plan b.machine) m2 end
         → (g : Grant) × (making_steps same hash batch_size roots slot s g b ≡ Some (m2, end))
     pub endings : (i : ℕ) (f : Finishing K V) → s.enders i ≡ Some f
         → (m2 : Mem (Node K V)) (end : EndMap × Settled (Node K V)) → Steps Took value_at s.world.memory (end_map_plan f.machine) m2 end

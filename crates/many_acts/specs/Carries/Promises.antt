@@ -3,8 +3,8 @@ use Rattle.std.specs.Prelude.{◌≡◌, ℕ, Bool, List, Option, Some, None}
 use Rattle.run_shows.specs.Given.SeizeWordsMem.{Mem, Took, value_at}
 use Rattle.run_shows.specs.Given.SeizeWordsPlan.{Steps}
 use Rattle.run_shows.specs.Given.SeizeWorld.{World, Request, Begin, Step, Ends, Happens, with_at}
-use Rattle.run_shows.specs.Given.SeizeDeclared.progress.Progress.{Progress}
-use Rattle.run_shows.specs.Given.SeizeDeclared.progress.Progress.TheVariants as progress
+use Rattle.run_shows.specs.Given.SeizeDeclared.advance.Advance.{Advance}
+use Rattle.run_shows.specs.Given.SeizeDeclared.advance.Advance.TheVariants as progress
 use Rattle.run_shows.specs.Given.SeizeDeclared.rows.reclaim_all.ReclaimAll.{ReclaimAll}
 use Rattle.run_shows.specs.Given.SeizeDeclared.rows.reclaim_all.Reclaiming.{Reclaiming}
 use Rattle.run_shows.specs.Given.SeizeDeclared.rows.settle.Settled.{Settled}
@@ -13,7 +13,7 @@ use Rattle.run_shows.specs.Given.TablesNodes.{deferred_word}
 use Rattle.run_shows.specs.Given.TablesDeclared.node.Node.{Node}
 use Rattle.run_shows.specs.Given.TablesDeclared.setting.Setting.{Setting}
 use Rattle.run_shows.specs.Given.ResizeDeclared.new_map.NewMap.{NewMap}
-use Rattle.run_shows.specs.Given.ResizeDeclared.outcome.Outcome.{Outcome}
+use Rattle.run_shows.specs.Given.ResizeDeclared.yielding.Yielding.{Yielding}
 use Rattle.run_shows.specs.Given.ReservesReserve.{reserve_plan}
 use Rattle.run_shows.specs.Given.ReservesDeclared.reserve.Reserve.{Reserve}
 use Rattle.run_shows.specs.Given.SweepsSweep.{sweep_plan}
@@ -78,7 +78,7 @@ module _ {K Q : Type 0} (V : Type 0) (same : K → K → Bool) (asks : Q → K �
   RoomsKeepTheirs =
       EndingsTogether V same asks batch_size roots slot w maps calls makers enders → AllAreTheirs w maps calls enders
       → (m : ℕ) (s : Standing K) → maps m ≡ Some s → (i : ℕ) (r : CallForRoom) → calls m i ≡ Some (ForRoom r) → (IsRowOfReserve r.reserve.stands → ⊥)
-      → (m2 : Mem (Node K V)) (p2 : Reserve) (end : Outcome (Node K V) Unit) → Steps Took value_at w.memory (reserve_plan s.hash r.reserve) m2 (p2, end)
+      → (m2 : Mem (Node K V)) (p2 : Reserve) (end : Yielding (Node K V) Unit) → Steps Took value_at w.memory (reserve_plan s.hash r.reserve) m2 (p2, end)
       → (st : RoomStepsAmong V same asks batch_size roots slot w maps calls makers enders m s i r m2 p2 end)
       → AllAreTheirs st.step.went.w2 (with_at maps m (Some (record s { chart = st.step.went.c2; blocks = st.step.blocks2; sights = st.step.sights2 })))
       (with_call calls m i (next_for_room (record { began = r.began; reserve = p2 }) end)) enders
@@ -107,7 +107,7 @@ module _ {K Q : Type 0} (V : Type 0) (same : K → K → Bool) (asks : Q → K �
   RoomRowsKeepTheirs =
       EndingsTogether V same asks batch_size roots slot w maps calls makers enders → AllAreTheirs w maps calls enders
       → (m : ℕ) (s : Standing K) → maps m ≡ Some s → (i : ℕ) (r : CallForRoom) → calls m i ≡ Some (ForRoom r) → IsRowOfReserve r.reserve.stands
-      → (m2 : Mem (Node K V)) (p2 : Reserve) (end : Outcome (Node K V) Unit) → Steps Took value_at w.memory (reserve_plan s.hash r.reserve) m2 (p2, end)
+      → (m2 : Mem (Node K V)) (p2 : Reserve) (end : Yielding (Node K V) Unit) → Steps Took value_at w.memory (reserve_plan s.hash r.reserve) m2 (p2, end)
       → (st : RoomRowsAmong V same asks batch_size roots slot w maps calls makers enders m s i r m2 p2 end)
       → AllAreTheirs st.step.w2 st.together.0 (with_call calls m i (next_for_room (record { began = r.began; reserve = p2 }) end)) enders
 
@@ -120,7 +120,7 @@ module _ {K Q : Type 0} (V : Type 0) (same : K → K → Bool) (asks : Q → K �
       → AllAreTheirs st.step.w2 st.together.0 (with_call calls m i (next_over_all (gone_on o p2) end)) enders
 
   -- A making has taken a step. All stand together then: the maps that stood, and that of the making, if it has come to it.
-  abbrev pub MakingKept : Beginning K → World (Node K V) → NewMap × Progress Setting → Type 0
+  abbrev pub MakingKept : Beginning K → World (Node K V) → NewMap × Advance Setting → Type 0
   MakingKept b w2 (n, progress.Done answer) =
       (s : Standing K) → IsMade V same asks batch_size roots slot b answer s → MapsTogether V same asks batch_size slot w2 (with_at maps b.map (Some s)) calls
       → AllAreTheirs w2 (with_at maps b.map (Some s)) calls enders
@@ -130,7 +130,7 @@ module _ {K Q : Type 0} (V : Type 0) (same : K → K → Bool) (asks : Q → K �
   abbrev pub MakingsKeepTheirs : Type 0
   MakingsKeepTheirs =
       EndingsTogether V same asks batch_size roots slot w maps calls makers enders → AllAreTheirs w maps calls enders
-      → (i : ℕ) (b : Beginning K) → makers i ≡ Some b → (m2 : Mem (Node K V)) (end : NewMap × Progress Setting)
+      → (i : ℕ) (b : Beginning K) → makers i ≡ Some b → (m2 : Mem (Node K V)) (end : NewMap × Advance Setting)
       → (st : StepsOfMaking V same asks batch_size roots slot w maps calls makers i b m2 end) → MakingKept b st.w2 end
 
   -- The end of a map begins, on which nobody has a call.

@@ -8,7 +8,7 @@ use Rattle.map_facts_late.specs.Given.TablesDeclared.node.Node.{Node}
 use Rattle.map_facts_late.specs.Given.TablesDeclared.node.Node.TheVariants as node
 use Rattle.map_facts_late.specs.Given.RawReplies.{value_told, owned, value_for, as_own, back, back_present, with_back}
 use Rattle.map_facts_late.specs.Given.RawDeclared.machines.asking.Replies.{Replies}
-use Rattle.map_facts_late.specs.Given.RawDeclared.machines.asking.Reply.TheVariants as reply
+use Rattle.map_facts_late.specs.Given.RawDeclared.machines.asking.MachineReply.TheVariants as reply
 use Rattle.map_facts_late.specs.Given.RawDeclared.machines.asking.Told.{Told}
 use Rattle.map_facts_late.specs.Given.RawDeclared.machines.asking.Told.TheVariants as tells
 use Rattle.map_facts_late.specs.Given.RawDeclared.machines.call.Calling.TheVariants as at

@@ -4,7 +4,7 @@ use Rattle.std.proofs.Common.{refl, ap, arith}
 use Rattle.seize_model.specs.Given.SeizeWordsMem.{Mem}
 use Rattle.map_facts_late.specs.Given.TablesDeclared.node.Node.{Node}
 use Rattle.map_facts_late.specs.Given.RawReplies.{untold}
-use Rattle.map_facts_late.specs.Given.RawDeclared.machines.asking.Reply.TheVariants as reply
+use Rattle.map_facts_late.specs.Given.RawDeclared.machines.asking.MachineReply.TheVariants as reply
 use Rattle.map_facts_late.specs.Given.RawDeclared.machines.asking.Takes.{Takes}
 use Rattle.map_facts_late.specs.Given.RawDeclared.machines.asking.Takes.TheVariants as takes
 use Rattle.map_facts_late.specs.Given.RawDeclared.machines.asking.Told.TheVariants as tells

@@ -17,10 +17,10 @@ use Rattle.map_facts_late.specs.Given.TablesDeclared.finding.Finding.{Finding}
 use Rattle.map_facts_late.specs.Given.TablesDeclared.finding.Finding.TheVariants as is
 use Rattle.map_facts_late.specs.Given.ResizeDeclared.copier.Copier.{Copier}
 use Rattle.map_facts_late.specs.Given.ResizeDeclared.new_table.NewTable.{NewTable}
-use Rattle.map_facts_late.specs.Given.ResizeDeclared.outcome.Outcome.{Outcome}
-use Rattle.map_facts_late.specs.Given.ResizeDeclared.outcome.Outcome.TheVariants as outcome
-use Rattle.seize_model.specs.Given.SeizeDeclared.progress.Progress.{Progress}
-use Rattle.seize_model.specs.Given.SeizeDeclared.progress.Progress.TheVariants as progress
+use Rattle.map_facts_late.specs.Given.ResizeDeclared.yielding.Yielding.{Yielding}
+use Rattle.map_facts_late.specs.Given.ResizeDeclared.yielding.Yielding.TheVariants as outcome
+use Rattle.seize_model.specs.Given.SeizeDeclared.advance.Advance.{Advance}
+use Rattle.seize_model.specs.Given.SeizeDeclared.advance.Advance.TheVariants as progress
 use Rattle.map_facts_late.specs.Given.RawDeclared.machines.answer.KeyAnswer.TheVariants as answers
 use Rattle.map_facts_late.specs.Given.RawDeclared.machines.answer.Called.{Called}
 use Rattle.map_facts_late.specs.Given.RawDeclared.machines.answer.Called.TheVariants as called
@@ -226,26 +226,26 @@ module _ {K V Q : Type 0} where
         (by_if p.helped (entering p table) (going (record p { helped = true }) (at.Helps (helping p.setting) table)) (refl, tt, tt) (refl, tt, tt)) (refl, tt, tt)
 
     -- a machine within it went on, and was refused for room alone
-    pub first_by : (e : NewTable × Progress Table) → MakesRoom e → GoesBy Read p (first_made p e)
+    pub first_by : (e : NewTable × Advance Table) → MakesRoom e → GoesBy Read p (first_made p e)
     first_by (n, progress.Goes) room = (refl, tt, tt)
     first_by (n, progress.Waits) room = (refl, tt, tt)
     first_by (n, progress.Done table) room = (refl, tt, tt)
     first_by (n, progress.Refused fault) room = ending_by (ends.Refused fault) room.1
 
-    pub next_by : (e : NewTable × Progress Table) → MakesRoom e → GoesBy Read p (next_made p e)
+    pub next_by : (e : NewTable × Advance Table) → MakesRoom e → GoesBy Read p (next_made p e)
     next_by (n, progress.Goes) room = (refl, tt, tt)
     next_by (n, progress.Waits) room = (refl, tt, tt)
     next_by (n, progress.Done table) room = went_on_by table
     next_by (n, progress.Refused fault) room = ending_by (ends.Refused fault) room.1
 
-    pub helped_by : (goal : Table) (e : Copier × Outcome (Node K V) Table) → CopiesRoom e → GoesBy Read p (helped p goal e)
+    pub helped_by : (goal : Table) (e : Copier × Yielding (Node K V) Table) → CopiesRoom e → GoesBy Read p (helped p goal e)
     helped_by goal (n, outcome.Goes) room = (refl, tt, tt)
     helped_by goal (n, outcome.Waits) room = (refl, tt, tt)
     helped_by goal (n, outcome.Gave value) room = (refl, tt, tt)
     helped_by goal (n, outcome.Done table) room = (refl, tt, tt)
     helped_by goal (n, outcome.Refused fault) room = ending_by (ends.Refused fault) room.1
 
-    pub copied_by : (e : Copier × Outcome (Node K V) Table) → CopiesRoom e → GoesBy Read p (copied p e)
+    pub copied_by : (e : Copier × Yielding (Node K V) Table) → CopiesRoom e → GoesBy Read p (copied p e)
     copied_by (n, outcome.Goes) room = (refl, tt, tt)
     copied_by (n, outcome.Waits) room = (refl, tt, tt)
     copied_by (n, outcome.Gave value) room = (refl, tt, tt)

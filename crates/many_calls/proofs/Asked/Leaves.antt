@@ -14,8 +14,8 @@ use Rattle.map_facts_late.specs.Given.RawDeclared.machines.answer.There.TheVaria
 use Rattle.map_facts_late.specs.Given.RawDeclared.machines.asking.Asking.{Asking}
 use Rattle.map_facts_late.specs.Given.RawDeclared.machines.asking.Asking.TheVariants as asking
 use Rattle.map_facts_late.specs.Given.RawDeclared.machines.asking.Gap.{Gap}
-use Rattle.map_facts_late.specs.Given.RawDeclared.machines.asking.Reply.{Reply}
-use Rattle.map_facts_late.specs.Given.RawDeclared.machines.asking.Reply.TheVariants as reply
+use Rattle.map_facts_late.specs.Given.RawDeclared.machines.asking.MachineReply.{MachineReply}
+use Rattle.map_facts_late.specs.Given.RawDeclared.machines.asking.MachineReply.TheVariants as reply
 use Rattle.map_facts_late.specs.Given.RawDeclared.machines.call.KeyCall.{KeyCall}
 use Rattle.map_facts_late.specs.Given.RawDeclared.machines.call.Calling.TheVariants as at
 use Rattle.map_facts_late.specs.Given.RuleChart.{Phase, Still, Holds, Chart}
@@ -58,21 +58,21 @@ module _ {K V : Type 0} (hash : K → ℕ) (fits : (k : K) → hash k < 2 ^ 64) 
   answers_as_told (answers.Removed word) look told = absurd look
 
 -- a question and its reply, if that is taken
-module _ {V : Type 0} (asked : List (Asked V)) (r : Reply V) where
+module _ {V : Type 0} (asked : List (Asked V)) (r : MachineReply V) where
   -- of a pair
   module _ (n : ℕ) where
-    none_still : (taken : Result Unit (Reply V)) (X : Option (Reply V) → Type 0) → X (last_told None asked)
+    none_still : (taken : Result Unit (MachineReply V)) (X : Option (MachineReply V) → Type 0) → X (last_told None asked)
         → X (last_told None (and_asked asked (Some n) r taken))
     none_still (Ok u) X h = h
     none_still (Err back) X h = h
 
-    none_back : (taken : Result Unit (Reply V)) (X : Option (Reply V) → Type 0) → X (last_told None (and_asked asked (Some n) r taken))
+    none_back : (taken : Result Unit (MachineReply V)) (X : Option (MachineReply V) → Type 0) → X (last_told None (and_asked asked (Some n) r taken))
         → X (last_told None asked)
     none_back (Ok u) X h = h
     none_back (Err back) X h = h
 
   -- of none
-  pairs_still : (taken : Result Unit (Reply V)) (n : ℕ) → last_told (Some n) asked ≡ None → last_told (Some n) (and_asked asked None r taken) ≡ None
+  pairs_still : (taken : Result Unit (MachineReply V)) (n : ℕ) → last_told (Some n) asked ≡ None → last_told (Some n) (and_asked asked None r taken) ≡ None
   pairs_still (Ok u) n h = h
   pairs_still (Err back) n h = h
 

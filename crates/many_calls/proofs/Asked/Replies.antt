@@ -16,8 +16,8 @@ use Rattle.map_facts_late.specs.Given.RawDeclared.machines.asking.Asking.{Asking
 use Rattle.map_facts_late.specs.Given.RawDeclared.machines.asking.Asking.TheVariants as asking
 use Rattle.map_facts_late.specs.Given.RawDeclared.machines.asking.Gap.{Gap}
 use Rattle.map_facts_late.specs.Given.RawDeclared.machines.asking.Gap.TheVariants as gaps
-use Rattle.map_facts_late.specs.Given.RawDeclared.machines.asking.Reply.{Reply}
-use Rattle.map_facts_late.specs.Given.RawDeclared.machines.asking.Reply.TheVariants as reply
+use Rattle.map_facts_late.specs.Given.RawDeclared.machines.asking.MachineReply.{MachineReply}
+use Rattle.map_facts_late.specs.Given.RawDeclared.machines.asking.MachineReply.TheVariants as reply
 use Rattle.map_facts_late.specs.Given.RawDeclared.machines.asking.Takes.{Takes}
 use Rattle.map_facts_late.specs.Given.RawDeclared.machines.asking.Takes.TheVariants as takes
 use Rattle.map_facts_late.specs.Given.RawDeclared.machines.asking.Told.TheVariants as tells
@@ -31,14 +31,14 @@ use Rattle.many_calls.specs.Asked.{Asked, last_told, IsToLeave, ChangesTold, IsW
 use Rattle.many_calls.proofs.Asked.By.{block_of_word}
 
 -- the last reply to the last question
-last_is : {V : Type 0} (n : ℕ) (told : Reply V) (asked : List (Asked V)) → last_told (Some n) (record { about = Some n; told = told } ∷ asked) ≡ Some told
+last_is : {V : Type 0} (n : ℕ) (told : MachineReply V) (asked : List (Asked V)) → last_told (Some n) (record { about = Some n; told = told } ∷ asked) ≡ Some told
 last_is n told asked = ap (λ (b : Bool). if b then Some told else last_told (Some n) asked) (eq-eqb n n refl)
 
 one_value : {V : Type 0} (v v2 : V) → tells.Value v ≡ tells.Value v2 → v ≡ v2
 one_value v v2 e = cc e
 
 -- the questions and replies, with this one, if it was taken
-abbrev pub and_asked : {V : Type 0} → List (Asked V) → Option ℕ → Reply V → Result Unit (Reply V) → List (Asked V)
+abbrev pub and_asked : {V : Type 0} → List (Asked V) → Option ℕ → MachineReply V → Result Unit (MachineReply V) → List (Asked V)
 and_asked asked about told (Ok taken) = record { about = about; told = told } ∷ asked
 and_asked asked about told (Err back) = asked
 
@@ -53,18 +53,18 @@ module _ {K V Q : Type 0} (hash : K → ℕ) (fits : (k : K) → hash k < 2 ^ 64
     (asked : List (Asked V)) (change : Change) (none : change ≡ Unchanged) (p : KeyCall K V Q) (fit : RepliesFit p.replies) (keeps : KeepsTold hash m c blocks its asked change p p.stands)
     (h : IsAsTold hash m c blocks its asked p.replies p.own) where
   -- what it keeps then, with the question and the reply, if that was taken
-  abbrev Then : Option ℕ → Reply V → KeyCall K V Q × Result Unit (Reply V) → Type 0
+  abbrev Then : Option ℕ → MachineReply V → KeyCall K V Q × Result Unit (MachineReply V) → Type 0
   Then about r x = KeepsTold hash m c blocks its (and_asked asked about r x.1) change x.0 x.0.stands
 
-  abbrev After : Option ℕ → Reply V → KeyCall K V Q → Type 0
+  abbrev After : Option ℕ → MachineReply V → KeyCall K V Q → Type 0
   After about r q = KeepsTold hash m c blocks its (record { about = about; told = r } ∷ asked) change q q.stands
 
   -- what it was told where it is to end
-  abbrev Ends : Option ℕ → Reply V → End → Type 0
+  abbrev Ends : Option ℕ → MachineReply V → End → Type 0
   Ends about r = EndsTold hash m c blocks its (record { about = about; told = r } ∷ asked) p.there p.missing p.replies.takes
 
   -- it ends, and has changed nothing
-  ends_so : (about : Option ℕ) (r : Reply V) (end : End) → Ends about r end → After about r (ending p end).0
+  ends_so : (about : Option ℕ) (r : MachineReply V) (end : End) → Ends about r end → After about r (ending p end).0
   ends_so about r end as_told = by (p.own == 0)
     where
       by : (b : Bool) → After about r (if b then over p end else going p (at.Drops end)).0
@@ -72,7 +72,7 @@ module _ {K V Q : Type 0} (hash : K → ℕ) (fits : (k : K) → hash k < 2 ^ 64
       by false = as_told
 
   -- it was told to leave it so, as it takes replies
-  leaves_as : (x : Takes) → p.replies.takes ≡ x → (about : Option ℕ) (r : Reply V) → IsToLeave (record { about = about; told = r } ∷ asked) x about
+  leaves_as : (x : Takes) → p.replies.takes ≡ x → (about : Option ℕ) (r : MachineReply V) → IsToLeave (record { about = about; told = r } ∷ asked) x about
       → IsToLeave (record { about = about; told = r } ∷ asked) p.replies.takes about
   leaves_as x e about r leave = subst (λ (y : Takes). IsToLeave (record { about = about; told = r } ∷ asked) y about) (sym e) leave
 
@@ -97,7 +97,7 @@ module _ {K V Q : Type 0} (hash : K → ℕ) (fits : (k : K) → hash k < 2 ^ 64
     stores_so gaps.Past = (as_absent, tt)
     stores_so gaps.Last = (as_absent, tt)
 
-  absent_so : (x : Takes) → p.replies.takes ≡ x → (gap : Gap) (r : Reply V) → Then None r (absent_told x p gap r)
+  absent_so : (x : Takes) → p.replies.takes ≡ x → (gap : Gap) (r : MachineReply V) → Then None r (absent_told x p gap r)
   absent_so takes.Values e gap (reply.Insert v) = stores_so v gap
   absent_so takes.Values e gap reply.Remove = keeps
   absent_so takes.Values e gap reply.Abort = keeps
@@ -143,7 +143,7 @@ module _ {K V Q : Type 0} (hash : K → ℕ) (fits : (k : K) → hash k < 2 ^ 64
     }
 
     -- a choice is not remembered
-    as_choice : p.replies.takes ≡ takes.Choices → (r : Reply V) → IsAsTold hash m c blocks its (record { about = Some n; told = r } ∷ asked) p.replies p.own
+    as_choice : p.replies.takes ≡ takes.Choices → (r : MachineReply V) → IsAsTold hash m c blocks its (record { about = Some n; told = r } ∷ asked) p.replies p.own
     as_choice choices r =
         let nothing = fit.choices_stay choices in
         record {
@@ -158,19 +158,19 @@ module _ {K V Q : Type 0} (hash : K → ℕ) (fits : (k : K) → hash k < 2 ^ 64
           present_removes = λ e. absurd (cc (nothing, e));
         }
 
-    abbrev Buries : Reply V → KeyCall K V Q → Type 0
+    abbrev Buries : MachineReply V → KeyCall K V Q → Type 0
     Buries r q = IsAsTold hash m c blocks its (record { about = Some n; told = r } ∷ asked) q.replies q.own
         → (last_told (Some n) (record { about = Some n; told = r } ∷ asked) ≡ Some reply.Remove) ⊎ (last_told (Some n) (record { about = Some n; told = r } ∷ asked) ≡ Some reply.Yes)
         → After (Some n) r (burying q word).0
 
-    buries_so : (r : Reply V) (q : KeyCall K V Q) → Buries r q
+    buries_so : (r : MachineReply V) (q : KeyCall K V Q) → Buries r q
     buries_so r q recalls removes = by (q.own == 0)
       where
         by : (b : Bool) → After (Some n) r (if b then going q (at.Tries word TOMBSTONE) else going q (at.Asks (asking.GivesUp word))).0
         by true = (recalls, inr (refl, n, names, removes))
         by false = (recalls, (n, names, removes))
 
-    present_so : (x : Takes) → p.replies.takes ≡ x → (r : Reply V) → Then (Some n) r (present_told x p word r)
+    present_so : (x : Takes) → p.replies.takes ≡ x → (r : MachineReply V) → Then (Some n) r (present_told x p word r)
     present_so takes.Values e (reply.Insert v) = (as_value v, λ some. refl)
     present_so takes.Values e reply.Remove = keeps
     present_so takes.Values e reply.Abort = keeps
@@ -190,7 +190,7 @@ module _ {K V Q : Type 0} (hash : K → ℕ) (fits : (k : K) → hash k < 2 ^ 64
     present_so takes.Choices e reply.Abort = keeps
     present_so takes.Nothing e r = keeps
 
-  pub replied_told : (x : Asking) → p.stands ≡ at.Asks x → (about : Option ℕ) → About hash m c blocks its asked x about → (r : Reply V) → Then about r (replied p r)
+  pub replied_told : (x : Asking) → p.stands ≡ at.Asks x → (about : Option ℕ) → About hash m c blocks its asked x about → (r : MachineReply V) → Then about r (replied p r)
   replied_told x here about is r = subst (λ (y : Calling). Then about r (told_at y p r)) (sym here) (by x about is)
     where
       by : (x : Asking) (about : Option ℕ) → About hash m c blocks its asked x about → Then about r (told_at (at.Asks x) p r)

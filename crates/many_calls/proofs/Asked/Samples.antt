@@ -6,8 +6,8 @@ use Rattle.seize_model.specs.Given.SeizeWordsMem.{Mem, value_at}
 use Rattle.map_facts_late.specs.Given.TablesDeclared.node.Node.{Node}
 use Rattle.map_facts_late.specs.Given.TablesDeclared.node.Node.TheVariants as node
 use Rattle.map_facts_late.specs.Given.RawDeclared.machines.answer.KeyAnswer.TheVariants as answers
-use Rattle.map_facts_late.specs.Given.RawDeclared.machines.asking.Reply.{Reply}
-use Rattle.map_facts_late.specs.Given.RawDeclared.machines.asking.Reply.TheVariants as reply
+use Rattle.map_facts_late.specs.Given.RawDeclared.machines.asking.MachineReply.{MachineReply}
+use Rattle.map_facts_late.specs.Given.RawDeclared.machines.asking.MachineReply.TheVariants as reply
 use Rattle.map_facts_late.specs.Given.RuleChart.{Still, Holds, Chart}
 use Rattle.map_facts_late.specs.Given.RuleWords.{Blocks, place_word}
 use Rattle.map_facts_late.specs.Given.PointsFactsCalls.{Change, Stored, Replaced, Removed}
@@ -23,10 +23,10 @@ module _ (m : Mem (Node ℕ ℕ)) (c : Chart ℕ) (blocks : Blocks) where
   abbrev Told : List (Asked ℕ) → Change → Type 0
   Told = ChangesTold (λ k. k) m c blocks (Some 7)
 
-  abbrev of_pair : Reply ℕ → Asked ℕ
+  abbrev of_pair : MachineReply ℕ → Asked ℕ
   of_pair told = record { about = Some 3; told = told }
 
-  abbrev of_none : Reply ℕ → Asked ℕ
+  abbrev of_none : MachineReply ℕ → Asked ℕ
   of_none told = record { about = None; told = told }
 
   -- it was told to remove pair 3, and did so

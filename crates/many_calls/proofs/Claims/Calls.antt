@@ -3,8 +3,8 @@ use Rattle.std.specs.Prelude.{ℕ, ◌==◌, if◌then◌else◌, Bool, true, fa
 use Rattle.seize_model.specs.Given.SeizeWordsMem.{Mem, value_at, Took}
 use Rattle.seize_model.specs.Given.SeizeWordsOp.{Out, Found, Exchanged, Made, Taken}
 use Rattle.seize_model.specs.Given.SeizeWordsPlan.{Then, Steps}
-use Rattle.seize_model.specs.Given.SeizeDeclared.progress.Progress.{Progress}
-use Rattle.seize_model.specs.Given.SeizeDeclared.progress.Progress.TheVariants as progress
+use Rattle.seize_model.specs.Given.SeizeDeclared.advance.Advance.{Advance}
+use Rattle.seize_model.specs.Given.SeizeDeclared.advance.Advance.TheVariants as progress
 use Rattle.seize_model.specs.Given.SeizeDeclared.rows.settle.Settled.{Settled}
 use Rattle.seize_model.specs.Given.SeizeDeclared.rows.settle.Settled.TheVariants as settled
 use Rattle.map_facts_late.specs.Given.TablesChunks.{is_incremental}
@@ -29,8 +29,8 @@ use Rattle.map_facts_late.specs.Given.ResizeDeclared.copier.Copying.TheVariants 
 use Rattle.map_facts_late.specs.Given.ResizeDeclared.dispose.Dispose.{Dispose}
 use Rattle.map_facts_late.specs.Given.ResizeDeclared.lookup.Lookup.{Lookup}
 use Rattle.map_facts_late.specs.Given.ResizeDeclared.new_table.NewTable.{NewTable}
-use Rattle.map_facts_late.specs.Given.ResizeDeclared.outcome.Outcome.{Outcome}
-use Rattle.map_facts_late.specs.Given.ResizeDeclared.outcome.Outcome.TheVariants as outcome
+use Rattle.map_facts_late.specs.Given.ResizeDeclared.yielding.Yielding.{Yielding}
+use Rattle.map_facts_late.specs.Given.ResizeDeclared.yielding.Yielding.TheVariants as outcome
 use Rattle.map_facts_late.specs.Given.RawDeclared.machines.answer.KeyAnswer.{KeyAnswer}
 use Rattle.map_facts_late.specs.Given.RawDeclared.machines.answer.End.{End}
 use Rattle.map_facts_late.specs.Given.RawDeclared.machines.answer.Called.{Called}
@@ -123,20 +123,20 @@ module _ {K V Q : Type 0} where
     counted_other removed = either (removed == 0) _ _ tt tt
 
     -- what machines within it tell
-    looked_other : (end : Lookup × Progress (Option ℕ)) → OtherStep (looked p end)
+    looked_other : (end : Lookup × Advance (Option ℕ)) → OtherStep (looked p end)
     looked_other (l, progress.Goes) = tt
     looked_other (l, progress.Waits) = tt
     looked_other (l, progress.Done (Some found)) = tt
     looked_other (l, progress.Done None) = tt
     looked_other (l, progress.Refused fault) = tt
 
-    first_other : (end : NewTable × Progress Table) → OtherStep (first_made p end)
+    first_other : (end : NewTable × Advance Table) → OtherStep (first_made p end)
     first_other (n, progress.Goes) = tt
     first_other (n, progress.Waits) = tt
     first_other (n, progress.Done table) = tt
     first_other (n, progress.Refused fault) = ending_other _
 
-    next_other : (end : NewTable × Progress Table) → OtherStep (next_made p end)
+    next_other : (end : NewTable × Advance Table) → OtherStep (next_made p end)
     next_other (n, progress.Goes) = tt
     next_other (n, progress.Waits) = tt
     next_other (n, progress.Done table) = on_other table
@@ -148,7 +148,7 @@ module _ {K V Q : Type 0} where
     disposed_other answer (d, settled.Gave value) = tt
     disposed_other answer (d, settled.Done) = tt
 
-    pub copied_other : (end : Copier × Outcome (Node K V) Table) → IsOther end.0.stands → OtherStep (copied p end)
+    pub copied_other : (end : Copier × Yielding (Node K V) Table) → IsOther end.0.stands → OtherStep (copied p end)
     copied_other (copier, outcome.Goes) other = other
     copied_other (copier, outcome.Waits) other = other
     copied_other (copier, outcome.Gave value) other = other

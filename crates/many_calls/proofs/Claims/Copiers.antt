@@ -5,8 +5,8 @@ use Rattle.seize_model.specs.Given.SeizeWordsMem.{Mem, value_at, with_word, Took
 use Rattle.seize_model.specs.Given.SeizeWordsOp.{Out, Found, Exchanged}
 use Rattle.seize_model.specs.Given.SeizeWordsPlan.{Steps}
 use Rattle.seize_model.specs.Given.SeizeWorld.{World}
-use Rattle.seize_model.specs.Given.SeizeDeclared.progress.Progress.{Progress}
-use Rattle.seize_model.specs.Given.SeizeDeclared.progress.Progress.TheVariants as progress
+use Rattle.seize_model.specs.Given.SeizeDeclared.advance.Advance.{Advance}
+use Rattle.seize_model.specs.Given.SeizeDeclared.advance.Advance.TheVariants as progress
 use Rattle.seize_model.proofs.Given.SeizeWordsOneOwner.Operations.{added}
 use Rattle.map_facts_late.specs.Given.ResizeCopier.{plan_at, copier_plan}
 use Rattle.map_facts_late.specs.Given.ResizeCopierClaims.{chunk, claimed, status_read}
@@ -25,7 +25,7 @@ use Rattle.map_facts_late.specs.Given.TablesDeclared.setting.Setting.{Setting}
 use Rattle.map_facts_late.specs.Given.TablesDeclared.status.TheConstants.Status.{PROMOTED, ABORTED}
 use Rattle.map_facts_late.specs.Given.TablesDeclared.table.Table.{Table}
 use Rattle.map_facts_late.specs.Given.TablesDeclared.table_words.TheConstants.{CLAIM}
-use Rattle.map_facts_late.specs.Given.ResizeDeclared.outcome.Outcome.{Outcome}
+use Rattle.map_facts_late.specs.Given.ResizeDeclared.yielding.Yielding.{Yielding}
 use Rattle.map_facts_late.specs.Given.ResizeDeclared.copier.Copier.{Copier}
 use Rattle.map_facts_late.specs.Given.ResizeDeclared.copier.Copying.{Copying as Point}
 use Rattle.map_facts_late.specs.Given.ResizeDeclared.copier.Copying.TheVariants as at
@@ -65,17 +65,17 @@ pair_put_other : (p : Copier) (word : ℕ) → IsOther (pair_put p word).stands
 pair_put_other p word = either (is_incremental p.setting.mode) _ _ tt (done_other p)
 
 module _ (K V : Type 0) (hash : K → ℕ) (p : Copier) where
-  abbrev pub OtherEnd : Copier × Outcome (Node K V) Table → Type 0
+  abbrev pub OtherEnd : Copier × Yielding (Node K V) Table → Type 0
   OtherEnd end = IsOther end.0.stands
 
-  remade_other : (end : NewTable × Progress Table) → OtherEnd (remade p end)
+  remade_other : (end : NewTable × Advance Table) → OtherEnd (remade p end)
   remade_other (making, progress.Goes) = tt
   remade_other (making, progress.Waits) = tt
   remade_other (making, progress.Done table) = tt
   remade_other (making, progress.Refused fault) = tt
 
   -- at the claiming itself a claim was found
-  claimed_other : (m m2 : Mem (Node K V)) (end : Copier × Outcome (Node K V) Table) → Steps Took value_at m (plan_at hash p at.Claims) m2 end → OtherEnd end
+  claimed_other : (m m2 : Mem (Node K V)) (end : Copier × Yielding (Node K V) Table) → Steps Took value_at m (plan_at hash p at.Claims) m2 end → OtherEnd end
   claimed_other m m2 end s =
       let d = added m (claimed p) (at_word p.target CLAIM) (chunk p) m2 end s in
       always_ends OtherEnd (value_at (with_word m (at_word p.target CLAIM) ((d.0 + chunk p) % 2 ^ 64))) (claimed p (Found d.0)) end (always_if OtherEnd (nat_lt d.0 p.source.len) _ _ tt (none_left_other p)) d.3
@@ -119,7 +119,7 @@ module _ (K V : Type 0) (hash : K → ℕ) (p : Copier) where
     successor_other table (Found link) = tt
     successor_other table _ = here
 
-  module _ (w : World (Node K V)) (caller : ℕ) (setting : Setting) (c : Chart K) (blocks : Blocks) (m m2 : Mem (Node K V)) (end : Copier × Outcome (Node K V) Table) where
+  module _ (w : World (Node K V)) (caller : ℕ) (setting : Setting) (c : Chart K) (blocks : Blocks) (m m2 : Mem (Node K V)) (end : Copier × Yielding (Node K V) Table) where
     -- whatever its step comes to
     pub copier_other : CopierKnows w caller setting c blocks p p.stands → (p.stands ≡ at.Sees → ⊥) → Steps Took value_at m (copier_plan hash p) m2 end → OtherEnd end
     copier_other knows unseeing s = by p.stands refl knows s

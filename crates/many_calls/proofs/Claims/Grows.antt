@@ -23,7 +23,7 @@ use Rattle.map_facts_late.specs.Given.ResizeCopierClaims.{chunk, claimed}
 use Rattle.map_facts_late.specs.Given.ResizeDeclared.copier.Copier.{Copier}
 use Rattle.map_facts_late.specs.Given.ResizeDeclared.copier.Copying.{Copying as Point}
 use Rattle.map_facts_late.specs.Given.ResizeDeclared.copier.Copying.TheVariants as at
-use Rattle.map_facts_late.specs.Given.ResizeDeclared.outcome.Outcome.{Outcome}
+use Rattle.map_facts_late.specs.Given.ResizeDeclared.yielding.Yielding.{Yielding}
 use Rattle.map_facts_late.specs.Given.RuleChart.{Chart}
 use Rattle.map_facts_late.specs.Given.RuleInWorld.{IsMapIn}
 use Rattle.map_facts_late.specs.Given.RuleWords.{Blocks}
@@ -57,7 +57,7 @@ claims_is _ e = absurd (cc e)
 
 module _ {K V : Type 0} (same : K → K → Bool) (hash : K → ℕ) (w : World (Node K V)) (caller : ℕ) (setting : Setting) (c : Chart K) (blocks : Blocks) (map : IsMapIn same hash setting w c blocks)
     (p : Copier) (knows : CopierKnows w caller setting c blocks p p.stands) (blocking : is_incremental p.setting.mode ≡ false)
-    (m2 : Mem (Node K V)) (end : Copier × Outcome (Node K V) Table) (steps : Steps Took value_at w.memory (copier_plan hash p) m2 end) (t : ℕ) (made : t < c.past) (known : blocks.table_known t ≡ true) where
+    (m2 : Mem (Node K V)) (end : Copier × Yielding (Node K V) Table) (steps : Steps Took value_at w.memory (copier_plan hash p) m2 end) (t : ℕ) (made : t < c.past) (known : blocks.table_known t ≡ true) where
   abbrev pub claim_at : At
   claim_at = claim_word same hash w caller setting c blocks map t made known
 

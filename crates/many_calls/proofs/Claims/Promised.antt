@@ -10,8 +10,8 @@ use Rattle.map_facts_late.specs.Given.TablesDeclared.table.Table.{Table}
 use Rattle.map_facts_late.specs.Given.ResizeCopier.{copier_plan}
 use Rattle.map_facts_late.specs.Given.ResizeDeclared.copier.Copier.{Copier}
 use Rattle.map_facts_late.specs.Given.ResizeDeclared.copier.Copying.TheVariants as copies
-use Rattle.map_facts_late.specs.Given.ResizeDeclared.outcome.Outcome.{Outcome}
-use Rattle.map_facts_late.specs.Given.ResizeDeclared.outcome.Outcome.TheVariants as outcome
+use Rattle.map_facts_late.specs.Given.ResizeDeclared.yielding.Yielding.{Yielding}
+use Rattle.map_facts_late.specs.Given.ResizeDeclared.yielding.Yielding.TheVariants as outcome
 use Rattle.map_facts_late.specs.Given.RawCall.{copied, plan_at, call_plan}
 use Rattle.map_facts_late.specs.Given.RawDeclared.machines.answer.Called.{Called}
 use Rattle.map_facts_late.specs.Given.RawDeclared.machines.call.KeyCall.{KeyCall}
@@ -36,7 +36,7 @@ not_to (at.Copies copier) t other to = subst IsOther to.0 other
 not_to _ t other to = to
 
 -- if it is, so is the copier within it
-inner_to : {K V Q : Type 0} (p : KeyCall K V Q) (t : ℕ) (end : Copier × Outcome (Node K V) Table) → IsToClaim t (copied p end).0.stands → (end.0.stands ≡ copies.Claims) × (end.0.target.turn ≡ t)
+inner_to : {K V Q : Type 0} (p : KeyCall K V Q) (t : ℕ) (end : Copier × Yielding (Node K V) Table) → IsToClaim t (copied p end).0.stands → (end.0.stands ≡ copies.Claims) × (end.0.target.turn ≡ t)
 inner_to p t (copier, outcome.Goes) to = to
 inner_to p t (copier, outcome.Waits) to = to
 inner_to p t (copier, outcome.Gave value) to = to
@@ -89,7 +89,7 @@ module _ {K V Q : Type 0} (same : K → K → Bool) (hash : K → ℕ) (asks : Q
       knows : CopierKnows w caller setting c blocks copier copier.stands × (copier.setting ≡ setting)
       knows = copier_knows copier is
 
-      abbrev inner : (e : Copier × Outcome (Node K V) Table) × Steps Took value_at w.memory (copier_plan hash copier) m2 e × ((p2, progress) ≡ copied p e)
+      abbrev inner : (e : Copier × Yielding (Node K V) Table) × Steps Took value_at w.memory (copier_plan hash copier) m2 e × ((p2, progress) ≡ copied p e)
       inner = within.inner same hash w caller setting c blocks blocking map m2 Told went (copied p) copier knows.0 knows.1 (p2, progress) may_outer outer
 
       stands_is : p2.stands ≡ (copied p inner.0).0.stands

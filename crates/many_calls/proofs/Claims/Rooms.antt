@@ -6,8 +6,8 @@ use Rattle.seize_model.specs.Given.SeizeWordsOp.{Out, Found}
 use Rattle.seize_model.specs.Given.SeizeWordsPlan.{May, Steps}
 use Rattle.seize_model.specs.Given.SeizeWordsDeclared.fault.Fault.TheVariants.{Capacity}
 use Rattle.seize_model.specs.Given.SeizeWorld.{World}
-use Rattle.seize_model.specs.Given.SeizeDeclared.progress.Progress.{Progress}
-use Rattle.seize_model.specs.Given.SeizeDeclared.progress.Progress.TheVariants as progress
+use Rattle.seize_model.specs.Given.SeizeDeclared.advance.Advance.{Advance}
+use Rattle.seize_model.specs.Given.SeizeDeclared.advance.Advance.TheVariants as progress
 use Rattle.map_facts_late.specs.Given.TablesChunks.{is_incremental}
 use Rattle.map_facts_late.specs.Given.TablesDeclared.node.Node.{Node}
 use Rattle.map_facts_late.specs.Given.TablesDeclared.setting.Setting.{Setting}
@@ -18,8 +18,8 @@ use Rattle.map_facts_late.specs.Given.ResizeSum.{sum_plan}
 use Rattle.map_facts_late.specs.Given.ResizeDeclared.copier.Copier.{Copier}
 use Rattle.map_facts_late.specs.Given.ResizeDeclared.copier.Copying.TheVariants as copies
 use Rattle.map_facts_late.specs.Given.ResizeDeclared.new_table.NewTable.{NewTable}
-use Rattle.map_facts_late.specs.Given.ResizeDeclared.outcome.Outcome.{Outcome}
-use Rattle.map_facts_late.specs.Given.ResizeDeclared.outcome.Outcome.TheVariants as outcome
+use Rattle.map_facts_late.specs.Given.ResizeDeclared.yielding.Yielding.{Yielding}
+use Rattle.map_facts_late.specs.Given.ResizeDeclared.yielding.Yielding.TheVariants as outcome
 use Rattle.map_facts_late.specs.Given.ResizeDeclared.sum.Sum.{Sum}
 use Rattle.map_facts_late.specs.Given.ReservesReserve.{standing, refusing, enough, summed, made, grown, copied, needed, root_read, next_read, plan_at, reserve_plan}
 use Rattle.map_facts_late.specs.Given.ReservesDeclared.reserve.Reserve.{Reserve}
@@ -54,18 +54,18 @@ not_to (at.Copies copier) t other to = subst IsOther to.0 other
 not_to _ t other to = to
 
 module _ {K V : Type 0} where
-  abbrev OtherStep : Reserve × Outcome (Node K V) Unit → Type 0
+  abbrev OtherStep : Reserve × Yielding (Node K V) Unit → Type 0
   OtherStep end = IsOtherRoom end.0.stands
 
   -- if it is to claim, so is the copier within it
-  inner_to : (p : Reserve) (t : ℕ) (end : Copier × Outcome (Node K V) Table) → RoomClaims t (copied p end).0.stands → (end.0.stands ≡ copies.Claims) × (end.0.target.turn ≡ t)
+  inner_to : (p : Reserve) (t : ℕ) (end : Copier × Yielding (Node K V) Table) → RoomClaims t (copied p end).0.stands → (end.0.stands ≡ copies.Claims) × (end.0.target.turn ≡ t)
   inner_to p t (copier, outcome.Goes) to = to
   inner_to p t (copier, outcome.Waits) to = to
   inner_to p t (copier, outcome.Gave value) to = to
   inner_to p t (copier, outcome.Done table) to = absurd to
   inner_to p t (copier, outcome.Refused fault) to = absurd to
 
-  copied_other : (p : Reserve) (end : Copier × Outcome (Node K V) Table) → IsOther end.0.stands → OtherStep (copied p end)
+  copied_other : (p : Reserve) (end : Copier × Yielding (Node K V) Table) → IsOther end.0.stands → OtherStep (copied p end)
   copied_other p (copier, outcome.Goes) other = other
   copied_other p (copier, outcome.Waits) other = other
   copied_other p (copier, outcome.Gave value) other = other
@@ -74,13 +74,13 @@ module _ {K V : Type 0} where
 
 -- what each answer of an operation leads to, beside its copying
 module _ (K V : Type 0) (hash : K → ℕ) (p : Reserve) (here : IsOtherRoom p.stands) where
-  made_other : (end : NewTable × Progress Table) → OtherStep (made {K = K} {V = V} p end)
+  made_other : (end : NewTable × Advance Table) → OtherStep (made {K = K} {V = V} p end)
   made_other (making, progress.Goes) = tt
   made_other (making, progress.Waits) = tt
   made_other (making, progress.Done table) = tt
   made_other (making, progress.Refused fault) = tt
 
-  grown_other : (table : Table) (end : NewTable × Progress Table) → OtherStep (grown {K = K} {V = V} p table end)
+  grown_other : (table : Table) (end : NewTable × Advance Table) → OtherStep (grown {K = K} {V = V} p table end)
   grown_other table (making, progress.Goes) = tt
   grown_other table (making, progress.Waits) = tt
   grown_other table (making, progress.Done next) = begun_other p.setting table next
@@ -94,7 +94,7 @@ module _ (K V : Type 0) (hash : K → ℕ) (p : Reserve) (here : IsOtherRoom p.s
       by false true = tt
       by false false = tt
 
-  summed_other : (table : Table) (end : Sum × Progress ℕ) → OtherStep {K = K} {V = V} (summed p table end)
+  summed_other : (table : Table) (end : Sum × Advance ℕ) → OtherStep {K = K} {V = V} (summed p table end)
   summed_other table (sum, progress.Goes) = tt
   summed_other table (sum, progress.Waits) = tt
   summed_other table (sum, progress.Done count) = enough_other table (needed p.additional count)
@@ -119,7 +119,7 @@ module _ (K V : Type 0) (hash : K → ℕ) (p : Reserve) (here : IsOtherRoom p.s
   other_plan (at.Refused fault) none = here
 
 module _ {K V : Type 0} where
-  room_other : (hash : K → ℕ) (p : Reserve) (m m2 : Mem (Node K V)) (end : Reserve × Outcome (Node K V) Unit) → (CopiesPairs p.stands → ⊥) → Steps Took value_at m (reserve_plan hash p) m2 end → OtherStep end
+  room_other : (hash : K → ℕ) (p : Reserve) (m m2 : Mem (Node K V)) (end : Reserve × Yielding (Node K V) Unit) → (CopiesPairs p.stands → ⊥) → Steps Took value_at m (reserve_plan hash p) m2 end → OtherStep end
   room_other hash p m m2 end none s = always_steps OtherStep m m2 (reserve_plan hash p) end (other_plan K V hash p (beside p.stands none) p.stands none) s
     where
       beside : (stands : Reserving) → (CopiesPairs stands → ⊥) → IsOtherRoom stands
@@ -152,7 +152,7 @@ module _ {K V : Type 0} (same : K → K → Bool) (hash : K → ℕ) (w : World 
           (late_knows same hash w caller setting c blocks map copier began copier.stands f.point (λ row. none (subst IsRowOfReserve (sym is) row)), f.setting_is)
 
   module _ (m2 : Mem (Node K V)) (Told : World (Node K V) → Chart K → Blocks → Type 0) (went : Went same hash setting caller w c blocks m2 Told)
-      (beside : (CopiesPairs p.stands → ⊥) → OnlyLinks hash setting.mode c went.c2) (p2 : Reserve) (end : Outcome (Node K V) Unit)
+      (beside : (CopiesPairs p.stands → ⊥) → OnlyLinks hash setting.mode c went.c2) (p2 : Reserve) (end : Yielding (Node K V) Unit)
       (may : May Can Took value_at w.memory (reserve_plan hash p)) (steps : Steps Took value_at w.memory (reserve_plan hash p) m2 (p2, end)) where
     abbrev Claims : Type 0
     Claims = ClaimsBy c went.c2 (λ t. RoomClaims t p.stands) (λ t. RoomClaims t p2.stands)
@@ -175,11 +175,11 @@ module _ {K V : Type 0} (same : K → K → Bool) (hash : K → ℕ) (w : World 
       knows : CopierKnows w caller setting c blocks copier copier.stands × (copier.setting ≡ setting)
       knows = copier_knows copier is
 
-      abbrev inner : (e : Copier × Outcome (Node K V) Table) × Steps Took value_at w.memory (copier_plan hash copier) m2 e × ((p2, end) ≡ copied p e)
+      abbrev inner : (e : Copier × Yielding (Node K V) Table) × Steps Took value_at w.memory (copier_plan hash copier) m2 e × ((p2, end) ≡ copied p e)
       inner = within.inner same hash w caller setting c blocks blocking map m2 Told went (copied p) copier knows.0 knows.1 (p2, end) may_outer outer
 
       stands_is : p2.stands ≡ (copied p inner.0).0.stands
-      stands_is = ap (λ (x : Reserve × Outcome (Node K V) Unit). x.0.stands) inner.2
+      stands_is = ap (λ (x : Reserve × Yielding (Node K V) Unit). x.0.stands) inner.2
 
       copying : Claims
       copying = record {

@@ -19,8 +19,8 @@ use Rattle.map_facts_late.specs.Given.ResizeCopierStates.{standing}
 use Rattle.map_facts_late.specs.Given.ResizeDeclared.copier.Copier.{Copier}
 use Rattle.map_facts_late.specs.Given.ResizeDeclared.copier.Copying.{Copying as Point}
 use Rattle.map_facts_late.specs.Given.ResizeDeclared.copier.Copying.TheVariants as at
-use Rattle.map_facts_late.specs.Given.ResizeDeclared.outcome.Outcome.{Outcome}
-use Rattle.map_facts_late.specs.Given.ResizeDeclared.outcome.Outcome.TheVariants.{Goes}
+use Rattle.map_facts_late.specs.Given.ResizeDeclared.yielding.Yielding.{Yielding}
+use Rattle.map_facts_late.specs.Given.ResizeDeclared.yielding.Yielding.TheVariants.{Goes}
 use Rattle.map_facts_late.specs.Given.RuleChart.{Chart}
 use Rattle.map_facts_late.specs.Given.RuleInWorld.{IsMapIn}
 use Rattle.map_facts_late.specs.Given.RuleWords.{Blocks}
@@ -40,7 +40,7 @@ sees_is _ e = absurd (cc e)
 
 module _ {K V : Type 0} (same : K → K → Bool) (hash : K → ℕ) (w : World (Node K V)) (caller : ℕ) (setting : Setting) (c : Chart K) (blocks : Blocks) (map : IsMapIn same hash setting w c blocks)
     (p : Copier) (knows : CopierKnows w caller setting c blocks p p.stands)
-    (m2 : Mem (Node K V)) (end : Copier × Outcome (Node K V) Table) (steps : Steps Took value_at w.memory (copier_plan hash p) m2 end) where
+    (m2 : Mem (Node K V)) (end : Copier × Yielding (Node K V) Table) (steps : Steps Took value_at w.memory (copier_plan hash p) m2 end) where
   -- the claim that it has seen, of its target
   pub record HasSeen : Type 0 where
     pub turn : ℕ
@@ -56,7 +56,7 @@ module _ {K V : Type 0} (same : K → K → Bool) (hash : K → ℕ) (w : World 
       → nat_lt found p.source.len ≡ true → end ≡ (standing p at.Claims, Goes) → HasSeen
   left u t found source target there same_memory below e = record {
     turn = t;
-    target = ap (λ (x : Copier × Outcome (Node K V) Table). x.0.target.turn) e ∙ turn_is hash w.memory c blocks setting.root map.map.shows p.target t target;
+    target = ap (λ (x : Copier × Yielding (Node K V) Table). x.0.target.turn) e ∙ turn_is hash w.memory c blocks setting.root map.map.shows p.target t target;
     made = target.made;
     known = target.known;
     claim = found;
@@ -75,7 +75,7 @@ module _ {K V : Type 0} (same : K → K → Bool) (hash : K → ℕ) (w : World 
       let seen = subst (CopierKnows w caller setting c blocks p) is knows in
       elim (ends_if (value_at w.memory) (nat_lt d.0 p.source.len) _ _ end d.3) as (λ _. HasSeen) [
         | inl (below, e) ↦ left seen.0 seen.1 d.0 seen.2 seen.3 d.1 d.2 below e
-        | inr (above, e) ↦ absurd (subst IsOther (ap (λ (x : Copier × Outcome (Node K V) Table). x.0.stands) (sym e) ∙ claims) (none_left_other p))
+        | inr (above, e) ↦ absurd (subst IsOther (ap (λ (x : Copier × Yielding (Node K V) Table). x.0.stands) (sym e) ∙ claims) (none_left_other p))
       ]
 
   -- it has looked there

@@ -11,8 +11,8 @@ use Rattle.map_facts_late.specs.Given.TablesDeclared.table.Table.{Table}
 use Rattle.map_facts_late.specs.Given.ResizeCopier.{copier_plan}
 use Rattle.map_facts_late.specs.Given.ResizeDeclared.copier.Copier.{Copier}
 use Rattle.map_facts_late.specs.Given.ResizeDeclared.copier.Copying.TheVariants as copies
-use Rattle.map_facts_late.specs.Given.ResizeDeclared.outcome.Outcome.{Outcome}
-use Rattle.map_facts_late.specs.Given.ResizeDeclared.outcome.Outcome.TheVariants as outcome
+use Rattle.map_facts_late.specs.Given.ResizeDeclared.yielding.Yielding.{Yielding}
+use Rattle.map_facts_late.specs.Given.ResizeDeclared.yielding.Yielding.TheVariants as outcome
 use Rattle.map_facts_late.specs.Given.SweepsSweep.{copied, plan_at, sweep_plan}
 use Rattle.map_facts_late.specs.Given.SweepsSweepPoints.{entering}
 use Rattle.map_facts_late.specs.Given.ReservesDeclared.sweep.Sweep.{Sweep}
@@ -51,7 +51,7 @@ to_claim (at.Refused fault) t to = absurd to
 
 module _ {K V : Type 0} (p : Sweep) (t : ℕ) where
   -- if it is to claim, so is the copier within it
-  inner_to : (end : Copier × Outcome (Node K V) Table) → SweepClaims t (copied p end).0.stands → (end.0.stands ≡ copies.Claims) × (end.0.target.turn ≡ t)
+  inner_to : (end : Copier × Yielding (Node K V) Table) → SweepClaims t (copied p end).0.stands → (end.0.stands ≡ copies.Claims) × (end.0.target.turn ≡ t)
   inner_to (copier, outcome.Goes) to = to
   inner_to (copier, outcome.Waits) to = to
   inner_to (copier, outcome.Gave value) to = to
@@ -100,7 +100,7 @@ module _ {K V : Type 0} (same : K → K → Bool) (hash : K → ℕ) (w : World 
       knows : CopierKnows w caller setting c blocks copier copier.stands × (copier.setting ≡ setting)
       knows = copier_knows copier is
 
-      abbrev inner : (e : Copier × Outcome (Node K V) Table) × Steps Took value_at w.memory (copier_plan hash copier) m2 e × ((p2, end) ≡ copied p e)
+      abbrev inner : (e : Copier × Yielding (Node K V) Table) × Steps Took value_at w.memory (copier_plan hash copier) m2 e × ((p2, end) ≡ copied p e)
       inner = within.inner same hash w caller setting c blocks blocking map m2 Told went (copied p) copier knows.0 knows.1 (p2, end) may_outer outer
 
       claims_inner : (t : ℕ) → SweepClaims t p2.stands → (inner.0.0.stands ≡ copies.Claims) × (inner.0.0.target.turn ≡ t)

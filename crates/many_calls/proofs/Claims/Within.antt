@@ -14,7 +14,7 @@ use Rattle.map_facts_late.specs.Given.TablesDeclared.table_words.TheConstants.{C
 use Rattle.map_facts_late.specs.Given.ResizeCopier.{copier_plan}
 use Rattle.map_facts_late.specs.Given.ResizeDeclared.copier.Copier.{Copier}
 use Rattle.map_facts_late.specs.Given.ResizeDeclared.copier.Copying.TheVariants as copies
-use Rattle.map_facts_late.specs.Given.ResizeDeclared.outcome.Outcome.{Outcome}
+use Rattle.map_facts_late.specs.Given.ResizeDeclared.yielding.Yielding.{Yielding}
 use Rattle.map_facts_late.specs.Given.RuleChart.{Chart}
 use Rattle.map_facts_late.specs.Given.RuleInWorld.{IsMapIn, Went}
 use Rattle.map_facts_late.specs.Given.RuleWords.{Blocks}
@@ -39,9 +39,9 @@ module _ {K V : Type 0} (same : K → K → Bool) (hash : K → ℕ) (w : World 
       later = let past = past_moved hash setting.mode c went.c2 same caller went.moved in omega (arith, made, past)
 
   -- the machine, whose steps are those of its copier
-  module _ {R : Type 0} (wrap : Copier × Outcome (Node K V) Table → R) (copier : Copier) (knows : CopierKnows w caller setting c blocks copier copier.stands) (setting_is : copier.setting ≡ setting)
+  module _ {R : Type 0} (wrap : Copier × Yielding (Node K V) Table → R) (copier : Copier) (knows : CopierKnows w caller setting c blocks copier copier.stands) (setting_is : copier.setting ≡ setting)
       (end : R) (may : May Can Took value_at w.memory (plan_as wrap (copier_plan hash copier))) (steps : Steps Took value_at w.memory (plan_as wrap (copier_plan hash copier)) m2 end) where
-    pub inner : (e : Copier × Outcome (Node K V) Table) × Steps Took value_at w.memory (copier_plan hash copier) m2 e × (end ≡ wrap e)
+    pub inner : (e : Copier × Yielding (Node K V) Table) × Steps Took value_at w.memory (copier_plan hash copier) m2 e × (end ≡ wrap e)
     inner = steps_back wrap w.memory m2 (copier_plan hash copier) end steps
 
     copier_blocking : is_incremental copier.setting.mode ≡ false

@@ -16,7 +16,7 @@ use Rattle.map_facts_late.specs.Given.TablesDeclared.trial.Trial.{Trial}
 use Rattle.map_facts_late.specs.Given.RawDeclared.machines.answer.KeyAnswer.TheVariants as answers
 use Rattle.map_facts_late.specs.Given.RawDeclared.machines.asking.Asking.TheVariants as asking
 use Rattle.map_facts_late.specs.Given.RawDeclared.machines.asking.Replies.{Replies}
-use Rattle.map_facts_late.specs.Given.RawDeclared.machines.asking.Reply.{Reply}
+use Rattle.map_facts_late.specs.Given.RawDeclared.machines.asking.MachineReply.{MachineReply}
 use Rattle.map_facts_late.specs.Given.RawDeclared.machines.asking.Takes.TheVariants as takes
 use Rattle.map_facts_late.specs.Given.RawDeclared.machines.asking.Told.TheVariants as tells
 use Rattle.map_facts_late.specs.Given.RawDeclared.machines.call.Calling.TheVariants as at
@@ -76,7 +76,7 @@ module _ {K V Q : Type 0} (same : K → K → Bool) (hash : K → ℕ) (lawful :
         gone : (o : ℕ) → WasAsked hash c blocks keys asked o → HasGone hash c blocks keys asked o
         gone o was = gone_by o (all o was)
 
-        never : (x : Option (Reply V)) → last_told (Some n) asked ≡ x → x ≡ None
+        never : (x : Option (MachineReply V)) → last_told (Some n) asked ≡ x → x ≡ None
         never None is = refl
         never (Some told) is = absurd (let left = (gone n (λ none. (let e = sym is ∙ none in cc e))).1 in cc (left, current))
 

@@ -15,8 +15,8 @@ use Rattle.map_facts_late.specs.Given.RawDeclared.machines.asking.Asking.TheVari
 use Rattle.map_facts_late.specs.Given.RawDeclared.machines.asking.Gap.{Gap}
 use Rattle.map_facts_late.specs.Given.RawDeclared.machines.asking.Gap.TheVariants as gaps
 use Rattle.map_facts_late.specs.Given.RawDeclared.machines.asking.Replies.{Replies}
-use Rattle.map_facts_late.specs.Given.RawDeclared.machines.asking.Reply.{Reply}
-use Rattle.map_facts_late.specs.Given.RawDeclared.machines.asking.Reply.TheVariants as reply
+use Rattle.map_facts_late.specs.Given.RawDeclared.machines.asking.MachineReply.{MachineReply}
+use Rattle.map_facts_late.specs.Given.RawDeclared.machines.asking.MachineReply.TheVariants as reply
 use Rattle.map_facts_late.specs.Given.RawDeclared.machines.asking.Takes.{Takes}
 use Rattle.map_facts_late.specs.Given.RawDeclared.machines.asking.Takes.TheVariants as takes
 use Rattle.map_facts_late.specs.Given.RawDeclared.machines.asking.Told.{Told}
@@ -34,17 +34,17 @@ use Rattle.many_calls.proofs.Asked.Replies.{and_asked, About}
 module _ {K V Q : Type 0} (hash : K → ℕ) (fits : (k : K) → hash k < 2 ^ 64) (m : Mem (Node K V)) (c : Chart K) (blocks : Blocks) (keys : K → Bool) (root : ℕ) (shows : Shows hash m c blocks root)
     (asked : List (Asked V)) (p : KeyCall K V Q) (before : AskedAt hash c blocks keys asked p.replies p.stands) where
   -- what it knows of the pairs that it was asked about, with the question and the reply, if that was taken
-  abbrev Then : Option ℕ → Reply V → KeyCall K V Q × Result Unit (Reply V) → Type 0
+  abbrev Then : Option ℕ → MachineReply V → KeyCall K V Q × Result Unit (MachineReply V) → Type 0
   Then about r x = AskedAt hash c blocks keys (and_asked asked about r x.1) x.0.replies x.0.stands
 
-  abbrev After : Option ℕ → Reply V → KeyCall K V Q → Type 0
+  abbrev After : Option ℕ → MachineReply V → KeyCall K V Q → Type 0
   After about r q = AskedAt hash c blocks keys (record { about = about; told = r } ∷ asked) q.replies q.stands
 
   abbrev At : Calling → Type 0
   At = AskedAt hash c blocks keys asked p.replies
 
   -- it ends
-  ends_so : (about : Option ℕ) (r : Reply V) (end : End) → After about r (ending p end).0
+  ends_so : (about : Option ℕ) (r : MachineReply V) (end : End) → After about r (ending p end).0
   ends_so about r end = by (p.own == 0)
     where
       by : (b : Bool) → After about r (if b then over p end else going p (at.Drops end)).0
@@ -59,7 +59,7 @@ module _ {K V Q : Type 0} (hash : K → ℕ) (fits : (k : K) → hash k < 2 ^ 64
     stores_so v gaps.Past = h
     stores_so v gaps.Last = h
 
-    absent_so : (x : Takes) (r : Reply V) → Then None r (absent_told x p gap r)
+    absent_so : (x : Takes) (r : MachineReply V) → Then None r (absent_told x p gap r)
     absent_so takes.Values (reply.Insert v) = stores_so v gap
     absent_so takes.Values reply.Remove = before
     absent_so takes.Values reply.Abort = before
@@ -84,27 +84,27 @@ module _ {K V Q : Type 0} (hash : K → ℕ) (fits : (k : K) → hash k < 2 ^ 64
         let is = one_pair hash fits m c blocks None asked root shows word its.0 n (its.1.0, its.1.1) names.0 (block_of_word hash fits m c blocks None asked root shows word its.0 Still its.2 its.3) block in
         subst (IsOfKeys hash c blocks keys asked) is its.1
 
-    abbrev AllOr : Reply V → Replies K V → Type 0
+    abbrev AllOr : MachineReply V → Replies K V → Type 0
     AllOr r replies =
         (o : ℕ) → WasAsked hash c blocks keys (record { about = Some n; told = r } ∷ asked) o
         → HasGone hash c blocks keys asked o ⊎ IsRecalled hash c blocks keys asked replies o
 
     -- it remembers this one, and the others have left
-    recalls_so : (r : Reply V) (told : Told V) → told ≢ tells.Nothing → AllOr r (with_present p word told).replies
+    recalls_so : (r : MachineReply V) (told : Told V) → told ≢ tells.Nothing → AllOr r (with_present p word told).replies
     recalls_so r told some o = by (n == o) (eqb-true n o)
       where
         by : (b : Bool) → (b ≡ true → n ≡ o) → ((if b then Some r else last_told (Some o) asked) ≢ None) → HasGone hash c blocks keys asked o ⊎ IsRecalled hash c blocks keys asked (with_present p word told).replies o
         by true one was = inr (subst (IsOfKeys hash c blocks keys asked) (one refl) of_keys, sym (block ∙ ap blocks.pair (one refl)), some)
         by false one was = inl (h.2 o was)
 
-    buries_so : (r : Reply V) (q : KeyCall K V Q) → q.replies.takes ≢ takes.Choices → AllOr r q.replies → After (Some n) r (burying q word).0
+    buries_so : (r : MachineReply V) (q : KeyCall K V Q) → q.replies.takes ≢ takes.Choices → AllOr r q.replies → After (Some n) r (burying q word).0
     buries_so r q more all = by (q.own == 0)
       where
         by : (b : Bool) → After (Some n) r (if b then going q (at.Tries word TOMBSTONE) else going q (at.Asks (asking.GivesUp word))).0
         by true = (more, all)
         by false = (more, all)
 
-    present_so : (x : Takes) → p.replies.takes ≡ x → (r : Reply V) → Then (Some n) r (present_told x p word r)
+    present_so : (x : Takes) → p.replies.takes ≡ x → (r : MachineReply V) → Then (Some n) r (present_told x p word r)
     present_so takes.Values e (reply.Insert v) = (h.0, recalls_so (reply.Insert v) (tells.Value v) (λ z. cc z))
     present_so takes.Values e reply.Remove = before
     present_so takes.Values e reply.Abort = before
@@ -118,7 +118,7 @@ module _ {K V Q : Type 0} (hash : K → ℕ) (fits : (k : K) → hash k < 2 ^ 64
     present_so takes.Choices e r = absurd (h.0 e)
     present_so takes.Nothing e r = before
 
-  pub replied_once : (x : Asking) → p.stands ≡ at.Asks x → (about : Option ℕ) → About hash m c blocks None asked x about → (r : Reply V) → Then about r (replied p r)
+  pub replied_once : (x : Asking) → p.stands ≡ at.Asks x → (about : Option ℕ) → About hash m c blocks None asked x about → (r : MachineReply V) → Then about r (replied p r)
   replied_once x here about is r = subst (λ (y : Calling). Then about r (told_at y p r)) (sym here) (by x about is (subst At here before))
     where
       by : (x : Asking) (about : Option ℕ) → About hash m c blocks None asked x about → At (at.Asks x) → Then about r (told_at (at.Asks x) p r)

@@ -4,7 +4,7 @@ use Rattle.many_calls.specs.Kind.{gets, removes, inserts, tries_to_insert, compu
 use Rattle.many_calls.specs.Pairs.{Given, Begun, IsTold, RemovesNone, KeepsGiven}
 use Rattle.map_facts_late.specs.Kinds.{ToldFits}
 use Rattle.map_facts_late.specs.Given.RawReplies.{untold}
-use Rattle.map_facts_late.specs.Given.RawDeclared.machines.asking.Reply.TheVariants as reply
+use Rattle.map_facts_late.specs.Given.RawDeclared.machines.asking.MachineReply.TheVariants as reply
 use Rattle.map_facts_late.specs.Given.RawDeclared.machines.asking.Takes.{Takes}
 use Rattle.map_facts_late.specs.Given.RawDeclared.machines.asking.Told.{Told}
 use Rattle.map_facts_late.specs.Given.RawDeclared.machines.asking.Told.TheVariants as tells

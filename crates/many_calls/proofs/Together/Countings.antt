@@ -3,8 +3,8 @@ use Rattle.std.specs.Prelude.{◌≡◌, ◌≢◌, ℕ, Option, Some, None, Boo
 use Rattle.std.proofs.Common.{refl, subst, arith, ◌≤◌}
 use Rattle.seize_model.specs.Given.SeizeWordsDeclared.fault.Fault.{Fault}
 use Rattle.seize_model.specs.Given.SeizeWorld.{World, Rests, with_at}
-use Rattle.seize_model.specs.Given.SeizeDeclared.progress.Progress.{Progress}
-use Rattle.seize_model.specs.Given.SeizeDeclared.progress.Progress.TheVariants as progress
+use Rattle.seize_model.specs.Given.SeizeDeclared.advance.Advance.{Advance}
+use Rattle.seize_model.specs.Given.SeizeDeclared.advance.Advance.TheVariants as progress
 use Rattle.map_facts_late.specs.Given.TablesDeclared.node.Node.{Node}
 use Rattle.map_facts_late.specs.Given.TablesDeclared.setting.Setting.{Setting}
 use Rattle.map_facts_late.specs.Given.ResizeSum.{summing}
@@ -62,10 +62,10 @@ module _ {K V Q : Type 0} (same : K → K → Bool) (hash : K → ℕ) (asks : Q
         (λ j other. fits_of same hash asks setting slot w c blocks sights calls s j)
         (λ blocking. few_without calls i c (s.few blocking) its_call) s.onto (λ none. rests)
 
-    abbrev Then : Sum × Progress ℕ → Type 0
+    abbrev Then : Sum × Advance ℕ → Type 0
     Then end = (end.1 ≢ progress.Waits) × ((fault : Fault) → end.1 ≢ progress.Refused fault) × Together V same hash asks setting slot w c blocks sights (with_at calls i (next_of_counting end.0 end.1))
 
-    told_then : (end : Sum × Progress ℕ) → SumTold its end → Then end
+    told_then : (end : Sum × Advance ℕ) → SumTold its end → Then end
     told_then (sum2, progress.Goes) facts = (λ e. cc e, λ fault e. cc e, goes_on sum2 facts)
     told_then (sum2, progress.Waits) never = absurd never
     told_then (sum2, progress.Done count) over = (λ e. cc e, λ fault e. cc e, ends)

@@ -20,8 +20,8 @@ use Rattle.map_facts_late.specs.Given.RawDeclared.machines.answer.Called.TheVari
 use Rattle.map_facts_late.specs.Given.RuleInWorld.{Moved}
 use Rattle.map_facts_late.specs.Given.RuleMaps.{spot_of}
 use Rattle.map_facts_late.specs.Given.RuleRule.{Rule}
-use Rattle.map_facts_late.specs.Given.ResizeDeclared.outcome.Outcome.{Outcome}
-use Rattle.map_facts_late.specs.Given.ResizeDeclared.outcome.Outcome.TheVariants as outcome
+use Rattle.map_facts_late.specs.Given.ResizeDeclared.yielding.Yielding.{Yielding}
+use Rattle.map_facts_late.specs.Given.ResizeDeclared.yielding.Yielding.TheVariants as outcome
 use Rattle.map_facts_late.specs.Given.ReservesDeclared.reserve.Reserving.{Reserving}
 use Rattle.map_facts_late.specs.Given.ReservesDeclared.reserve.Reserving.TheVariants as reserving
 use Rattle.map_facts_late.specs.ToldReserves.{IsRowOfReserve}
@@ -99,7 +99,7 @@ next_is after (called.Gave value) v e = cc e
 next_is after (called.Unstored value) v e = cc e
 next_is after (called.Asks asked) v e = cc e
 
-pub room_next_is : {K V Q : Type 0} (after : CallForRoom) (it : Outcome (Node K V) Unit) (v : UnderWay K V Q) → next_for_room after it ≡ Some v → v ≡ ForRoom after
+pub room_next_is : {K V Q : Type 0} (after : CallForRoom) (it : Yielding (Node K V) Unit) (v : UnderWay K V Q) → next_for_room after it ≡ Some v → v ≡ ForRoom after
 room_next_is after (outcome.Done end) v e = absurd (cc e)
 room_next_is after (outcome.Refused fault) v e = absurd (cc e)
 room_next_is after outcome.Goes v e = cc e

@@ -15,8 +15,8 @@ use Rattle.map_facts_late.specs.Given.RawDeclared.machines.asking.Asking.{Asking
 use Rattle.map_facts_late.specs.Given.RawDeclared.machines.asking.Asking.TheVariants as asking
 use Rattle.map_facts_late.specs.Given.RawDeclared.machines.asking.Gap.{Gap}
 use Rattle.map_facts_late.specs.Given.RawDeclared.machines.asking.Gap.TheVariants as gaps
-use Rattle.map_facts_late.specs.Given.RawDeclared.machines.asking.Reply.{Reply}
-use Rattle.map_facts_late.specs.Given.RawDeclared.machines.asking.Reply.TheVariants as reply
+use Rattle.map_facts_late.specs.Given.RawDeclared.machines.asking.MachineReply.{MachineReply}
+use Rattle.map_facts_late.specs.Given.RawDeclared.machines.asking.MachineReply.TheVariants as reply
 use Rattle.map_facts_late.specs.Given.RawDeclared.machines.asking.Takes.TheVariants as takes
 use Rattle.map_facts_late.specs.Given.RawDeclared.machines.asking.Told.{Told}
 use Rattle.map_facts_late.specs.Given.RawDeclared.machines.asking.Told.TheVariants as tells
@@ -84,7 +84,7 @@ module _ {K V Q : Type 0} (p : KeyCall K V Q) (x : Asking) (here : p.stands ≡ 
       by tells.Own to = to
       by tells.Removes to = to
 
-  claims_none : (r : Reply V) → ClaimsNone (replied p r).0
+  claims_none : (r : MachineReply V) → ClaimsNone (replied p r).0
   claims_none = replied_so p ClaimsNone (record {
     asks_on = λ to. subst (IsToClaim t) here to;
     stores = λ gap value e more. gap_none gap (with_absent p value);
@@ -97,15 +97,15 @@ module _ {K V Q : Type 0} (p : KeyCall K V Q) (x : Asking) (here : p.stands ≡ 
   })
 
 -- what it keeps with the reply, if that was taken
-kept_with : {K V Q : Type 0} (hash : K → ℕ) (m : Mem (Node K V)) (c : Chart K) (blocks : Blocks) (keys : K → Bool) (kind : Kind) (its : Option K) (asked : List (Asked V)) (change : Change) (about : Option ℕ) (r : Reply V)
-    (x : KeyCall K V Q × Result Unit (Reply V)) → KeepsTold hash m c blocks its (and_asked asked about r x.1) change x.0 x.0.stands
+kept_with : {K V Q : Type 0} (hash : K → ℕ) (m : Mem (Node K V)) (c : Chart K) (blocks : Blocks) (keys : K → Bool) (kind : Kind) (its : Option K) (asked : List (Asked V)) (change : Change) (about : Option ℕ) (r : MachineReply V)
+    (x : KeyCall K V Q × Result Unit (MachineReply V)) → KeepsTold hash m c blocks its (and_asked asked about r x.1) change x.0 x.0.stands
     → AsksOnce hash c blocks keys (and_asked asked about r x.1) its x.0.replies x.0.stands → IsOfKind kind x.0 x.0.stands → ToldWithin (and_asked asked about r x.1) kind
     → KeepsGiven hash m c blocks keys (and_told (IsTold kind its asked) about r x.1) change x.0 x.0.stands
 kept_with hash m c blocks keys kind its asked change about r (q, Ok taken) told once fit within = (told, once, fit, within)
 kept_with hash m c blocks keys kind its asked change about r (q, Err back) told once fit within = (told, once, fit, within)
 
 -- what it was told of none is what it recalls
-removes_as : {K V : Type 0} (kind : Kind) (its : Option K) (asked : List (Asked V)) (about : Option ℕ) (r : Reply V) (taken : Result Unit (Reply V)) → RemovesNone (and_told (IsTold kind its asked) about r taken)
+removes_as : {K V : Type 0} (kind : Kind) (its : Option K) (asked : List (Asked V)) (about : Option ℕ) (r : MachineReply V) (taken : Result Unit (MachineReply V)) → RemovesNone (and_told (IsTold kind its asked) about r taken)
     → last_told None (and_asked asked about r taken) ≡ Some reply.Remove
 removes_as kind its asked about r (Ok u) told = told
 removes_as kind its asked about r (Err back) told = told
@@ -201,7 +201,7 @@ module _ {K V Q : Type 0} (same : K → K → Bool) (hash : K → ℕ) (asks : Q
       about_as its asked (asking.Fills word) about is = is
       about_as its asked (asking.GivesUp word) about is = is
 
-      stand_so : (about : Option ℕ) → AsksAbout V same hash asks setting slot c seen x about → (r : Reply V) → Together V same hash asks setting slot w c blocks sights (with_at calls i (Some (OnKey (told_about u about r))))
+      stand_so : (about : Option ℕ) → AsksAbout V same hash asks setting slot c seen x about → (r : MachineReply V) → Together V same hash asks setting slot w c blocks sights (with_at calls i (Some (OnKey (told_about u about r))))
       stand_so about asked_about r =
           stands_by same hash asks setting slot w c blocks sights calls i (Some (OnKey told)) s.ground
           (fits_some same hash asks setting slot w c blocks (sights (slot i)) i (OnKey told) (s.inside i (OnKey u) has) (inl ((by_stand (s.stand i (OnKey u) has)).0, knows_then)))

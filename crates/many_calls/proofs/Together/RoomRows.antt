@@ -21,8 +21,8 @@ use Rattle.map_facts_late.specs.Given.ResizeCopierStates as copiers
 use Rattle.map_facts_late.specs.Given.ResizeDeclared.copier.Copier.{Copier}
 use Rattle.map_facts_late.specs.Given.ResizeDeclared.copier.Copying.{Copying}
 use Rattle.map_facts_late.specs.Given.ResizeDeclared.copier.Copying.TheVariants as copies
-use Rattle.map_facts_late.specs.Given.ResizeDeclared.outcome.Outcome.{Outcome}
-use Rattle.map_facts_late.specs.Given.ResizeDeclared.outcome.Outcome.TheVariants as outcome
+use Rattle.map_facts_late.specs.Given.ResizeDeclared.yielding.Yielding.{Yielding}
+use Rattle.map_facts_late.specs.Given.ResizeDeclared.yielding.Yielding.TheVariants as outcome
 use Rattle.map_facts_late.specs.Given.RuleChart.{Chart}
 use Rattle.map_facts_late.specs.Given.RuleWords.{Blocks}
 use Rattle.map_facts_late.specs.Given.PointsTold.{IsRowOfCopier}
@@ -92,7 +92,7 @@ module _ {K V Q : Type 0} (same : K → K → Bool) (hash : K → ℕ) (asks : Q
   then_at p = record { began = r.began; reserve = p }
 
   -- what the step came to
-  record Led (m2 : Mem (Node K V)) (end : Reserve × Outcome (Node K V) Unit) : Type 0 where
+  record Led (m2 : Mem (Node K V)) (end : Reserve × Yielding (Node K V) Unit) : Type 0 where
     pub w2 : World (Node K V)
     pub memory : w2.memory ≡ m2
     pub happened : Happens deferred_word setting.batch_size (Step i) w w2
@@ -125,7 +125,7 @@ module _ {K V Q : Type 0} (same : K → K → Bool) (hash : K → ℕ) (asks : Q
       gave : (value : Node K V) → IsReclaimed w came.w2 value → Led m2 (p2, outcome.Gave value)
       gave value taken = record { w2 = came.w2; memory = came.memory; happened = came.happened; together = still; gives = λ it e. subst (IsReclaimed w came.w2) (same_value it e) taken; rests = λ none. absurd (cc none) }
         where
-          same_value : (it : Node K V) → ◌≡◌ {A = Outcome (Node K V) Unit} (outcome.Gave value) (outcome.Gave it) → value ≡ it
+          same_value : (it : Node K V) → ◌≡◌ {A = Yielding (Node K V) Unit} (outcome.Gave value) (outcome.Gave it) → value ≡ it
           same_value it e = cc e
 
     -- it goes on, and the row is over
@@ -142,9 +142,9 @@ module _ {K V Q : Type 0} (same : K → K → Bool) (hash : K → ℕ) (asks : Q
       rests = λ none. absurd (cc none);
     }
 
-    by_told : (p a e : Copier × Outcome (Node K V) Table) → e ≡ a → (m2 : Mem (Node K V)) (end : Reserve × Outcome (Node K V) Unit) → end ≡ reserves.copied r.reserve e
+    by_told : (p a e : Copier × Yielding (Node K V) Table) → e ≡ a → (m2 : Mem (Node K V)) (end : Reserve × Yielding (Node K V) Unit) → end ≡ reserves.copied r.reserve e
         → Led m2 (reserves.copied r.reserve a) → Led m2 end
-    by_told p a e inner m2 end outer l = subst (Led m2) (sym outer) (subst (λ (x : Copier × Outcome (Node K V) Table). Led m2 (reserves.copied r.reserve x)) (sym inner) l)
+    by_told p a e inner m2 end outer l = subst (Led m2) (sym outer) (subst (λ (x : Copier × Yielding (Node K V) Table). Led m2 (reserves.copied r.reserve x)) (sym inner) l)
 
     -- the retirement of a table
     module _ (p : Copier) where
@@ -167,7 +167,7 @@ module _ {K V Q : Type 0} (same : K → K → Bool) (hash : K → ℕ) (asks : Q
       CopyLeads x =
           KnowsOf w (copying (past_copying p x)) → w.row i ≡ row_of_copier x
           → May Can Took value_at w.memory (plan_as (reserves.copied r.reserve) (copier.plan_at hash p x))
-          × ((m2 : Mem (Node K V)) (end : Reserve × Outcome (Node K V) Unit) → Steps Took value_at w.memory (plan_as (reserves.copied r.reserve) (copier.plan_at hash p x)) m2 end → Led m2 end)
+          × ((m2 : Mem (Node K V)) (end : Reserve × Yielding (Node K V) Unit) → Steps Took value_at w.memory (plan_as (reserves.copied r.reserve) (copier.plan_at hash p x)) m2 end → Led m2 end)
 
       by_copier : (x : Copying) → IsRowOfCopier x → CopyLeads x
       by_copier = at_retirement CopyLeads (λ x rest k is. (
@@ -183,7 +183,7 @@ module _ {K V Q : Type 0} (same : K → K → Bool) (hash : K → ℕ) (asks : Q
     Leads x =
         w.row i ≡ row_of_room x → KnowsOf w (reserves.standing r.reserve (past_room x))
         → May Can Took value_at w.memory (reserves.plan_at hash r.reserve x)
-        × ((m2 : Mem (Node K V)) (end : Reserve × Outcome (Node K V) Unit) → Steps Took value_at w.memory (reserves.plan_at hash r.reserve x) m2 end → Led m2 end)
+        × ((m2 : Mem (Node K V)) (end : Reserve × Yielding (Node K V) Unit) → Steps Took value_at w.memory (reserves.plan_at hash r.reserve x) m2 end → Led m2 end)
 
     within_row : (x : Reserving) → IsRowOfReserve x → Leads x
     within_row = at_copying Leads (λ p row is k. by_copier p p.stands row k is)
@@ -223,7 +223,7 @@ module _ {K V Q : Type 0} (same : K → K → Bool) (hash : K → ℕ) (asks : Q
 
       by : Stands V same hash asks setting slot w c (seen_by blocks (sights (slot i))) i (ForRoom r)
           → May Can Took value_at w.memory (reserve_plan hash r.reserve)
-          × ((m2 : Mem (Node K V)) (p2 : Reserve) (end : Outcome (Node K V) Unit) → Steps Took value_at w.memory (reserve_plan hash r.reserve) m2 (p2, end)
+          × ((m2 : Mem (Node K V)) (p2 : Reserve) (end : Yielding (Node K V) Unit) → Steps Took value_at w.memory (reserve_plan hash r.reserve) m2 (p2, end)
           → RoomRowsTogether V same hash asks setting slot w c blocks sights calls i r m2 p2 end)
       by (inr (here, row, k)) =
           let leads = within_row same hash asks setting slot lawful w c blocks sights calls s i r (s.inside i (ForRoom r) has) its r.reserve.stands row here k in (

@@ -7,8 +7,8 @@ use Rattle.seize_model.specs.Given.SeizeWorld.{World, Rests, IsInside, with_at}
 use Rattle.map_facts_late.specs.Given.TablesChunks.{is_incremental}
 use Rattle.map_facts_late.specs.Given.TablesDeclared.node.Node.{Node}
 use Rattle.map_facts_late.specs.Given.TablesDeclared.setting.Setting.{Setting}
-use Rattle.map_facts_late.specs.Given.ResizeDeclared.outcome.Outcome.{Outcome}
-use Rattle.map_facts_late.specs.Given.ResizeDeclared.outcome.Outcome.TheVariants as outcome
+use Rattle.map_facts_late.specs.Given.ResizeDeclared.yielding.Yielding.{Yielding}
+use Rattle.map_facts_late.specs.Given.ResizeDeclared.yielding.Yielding.TheVariants as outcome
 use Rattle.map_facts_late.specs.Given.ReservesReserve.{reserving, reserve_plan}
 use Rattle.map_facts_late.specs.Given.ReservesDeclared.reserve.Reserve.{Reserve}
 use Rattle.map_facts_late.specs.Given.RuleChart.{Chart}
@@ -61,7 +61,7 @@ module _ {K V Q : Type 0} (same : K → K → Bool) (hash : K → ℕ) (asks : Q
   module _ (lawful : AreLawful same hash) (w : World (Node K V)) (c : Chart K) (blocks : Blocks) (sights : ℕ → Sight) (calls : ℕ → Option (UnderWay K V Q))
       (s : Stand w c blocks sights calls) (i : ℕ) (r : CallForRoom) (has : calls i ≡ Some (ForRoom r)) (none : IsRowOfReserve r.reserve.stands → ⊥) (rests : w.row i ≡ Rests)
       (knows : KnowsRoom V same hash asks setting slot w c (seen_by blocks (sights (slot i))) i r.began r.reserve)
-      (m2 : Mem (Node K V)) (p2 : Reserve) (end : Outcome (Node K V) Unit) (may : May Can Took value_at w.memory (reserve_plan hash r.reserve))
+      (m2 : Mem (Node K V)) (p2 : Reserve) (end : Yielding (Node K V) Unit) (may : May Can Took value_at w.memory (reserve_plan hash r.reserve))
       (steps : Steps Took value_at w.memory (reserve_plan hash r.reserve) m2 (p2, end)) where
     abbrev seen : Blocks
     seen = seen_by blocks (sights (slot i))
@@ -79,21 +79,21 @@ module _ {K V Q : Type 0} (same : K → K → Bool) (hash : K → ℕ) (asks : Q
     map = moves.part same hash asks setting slot lawful w c blocks sights calls s i inside m2 Tells (slot i) i inside
 
     -- where it goes on, or has no part in a copying
-    abbrev Knows2 : World (Node K V) → Chart K → Blocks → Outcome (Node K V) Unit → Type 0
+    abbrev Knows2 : World (Node K V) → Chart K → Blocks → Yielding (Node K V) Unit → Type 0
     Knows2 w2 c2 blocks2 outcome.Goes = ReserveFacts same hash w2 i its c2 blocks2 p2 ⊎ LateReserveFacts same hash w2 i its c2 blocks2 r.began p2
     Knows2 w2 c2 blocks2 outcome.Waits = ReserveFacts same hash w2 i its c2 blocks2 p2 ⊎ LateReserveFacts same hash w2 i its c2 blocks2 r.began p2
     Knows2 w2 c2 blocks2 (outcome.Gave value) = ⊥
     Knows2 w2 c2 blocks2 (outcome.Done x) = IsIdle same hash w2 i its c2 blocks2
     Knows2 w2 c2 blocks2 (outcome.Refused fault) = IsIdle same hash w2 i its c2 blocks2
 
-    fresh_then : (w2 : World (Node K V)) (c2 : Chart K) (blocks2 : Blocks) (x : Outcome (Node K V) Unit) → ReserveAfter w2 i its c2 blocks2 same hash (p2, x) → Knows2 w2 c2 blocks2 x
+    fresh_then : (w2 : World (Node K V)) (c2 : Chart K) (blocks2 : Blocks) (x : Yielding (Node K V) Unit) → ReserveAfter w2 i its c2 blocks2 same hash (p2, x) → Knows2 w2 c2 blocks2 x
     fresh_then w2 c2 blocks2 outcome.Goes h = inl h
     fresh_then w2 c2 blocks2 outcome.Waits h = inl h
     fresh_then w2 c2 blocks2 (outcome.Gave value) h = h
     fresh_then w2 c2 blocks2 (outcome.Done x) h = h
     fresh_then w2 c2 blocks2 (outcome.Refused fault) h = h
 
-    late_then : is_incremental setting.mode ≡ false → (w2 : World (Node K V)) (c2 : Chart K) (blocks2 : Blocks) (x : Outcome (Node K V) Unit) → LateReserveAfter same hash i its r.began w2 c2 blocks2 (p2, x) → Knows2 w2 c2 blocks2 x
+    late_then : is_incremental setting.mode ≡ false → (w2 : World (Node K V)) (c2 : Chart K) (blocks2 : Blocks) (x : Yielding (Node K V) Unit) → LateReserveAfter same hash i its r.began w2 c2 blocks2 (p2, x) → Knows2 w2 c2 blocks2 x
     late_then blocking w2 c2 blocks2 outcome.Goes h = h
     late_then blocking w2 c2 blocks2 outcome.Waits h = inr h
     late_then blocking w2 c2 blocks2 (outcome.Gave value) h = h
@@ -156,7 +156,7 @@ module _ {K V Q : Type 0} (same : K → K → Bool) (hash : K → ℕ) (asks : Q
                 (record { facts = facts; began_before = (let l = knows.began_before in let n = remembers.now in omega (arith, l, n)) }),
           ))
 
-      pub mine : (x : Outcome (Node K V) Unit) → Knows2 went.w2 went.c2 went.blocks2 x → Fits same hash asks setting slot went.w2 went.c2 blocks_then (sights_then (slot i)) i (next_for_room after x)
+      pub mine : (x : Yielding (Node K V) Unit) → Knows2 went.w2 went.c2 went.blocks2 x → Fits same hash asks setting slot went.w2 went.c2 blocks_then (sights_then (slot i)) i (next_for_room after x)
       mine outcome.Goes h = goes_on h
       mine outcome.Waits h = goes_on h
       mine (outcome.Gave value) h = absurd h
@@ -181,7 +181,7 @@ module _ {K V Q : Type 0} (same : K → K → Bool) (hash : K → ℕ) (asks : Q
       Comes : Type 0
       Comes =
           May Can Took value_at w.memory (reserve_plan hash r.reserve)
-          × ((m2 : Mem (Node K V)) (p2 : Reserve) (end : Outcome (Node K V) Unit) → Steps Took value_at w.memory (reserve_plan hash r.reserve) m2 (p2, end)
+          × ((m2 : Mem (Node K V)) (p2 : Reserve) (end : Yielding (Node K V) Unit) → Steps Took value_at w.memory (reserve_plan hash r.reserve) m2 (p2, end)
           → RoomStepsTogether V same hash asks setting slot w c blocks sights calls i r m2 p2 end)
 
       its_map : IsMapIn same hash (in_slot setting (slot i)) w c (seen_by blocks (sights (slot i)))

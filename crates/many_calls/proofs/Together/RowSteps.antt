@@ -7,8 +7,8 @@ use Rattle.seize_model.proofs.Given.SeizeWordsOneOwner.Operations.{loaded, store
 use Rattle.seize_model.specs.Given.SeizeWordsDeclared.fault.Fault.{Fault}
 use Rattle.seize_model.specs.Given.SeizeWordsDeclared.at.At.TheVariants.{Entry}
 use Rattle.seize_model.specs.Given.SeizeDeclared.states.TheConstants.{LAST_SLOT, NEXT}
-use Rattle.seize_model.specs.Given.SeizeDeclared.progress.Progress.{Progress}
-use Rattle.seize_model.specs.Given.SeizeDeclared.progress.Progress.TheVariants as progress
+use Rattle.seize_model.specs.Given.SeizeDeclared.advance.Advance.{Advance}
+use Rattle.seize_model.specs.Given.SeizeDeclared.advance.Advance.TheVariants as progress
 use Rattle.seize_model.specs.Given.SeizeDeclared.rows.defer.Defer.{Defer}
 use Rattle.seize_model.specs.Given.SeizeDeclared.rows.defer.Deferring.{Deferring}
 use Rattle.seize_model.specs.Given.SeizeDeclared.rows.defer.Deferring.TheVariants as deferring
@@ -43,14 +43,14 @@ abbrev pub after_settle : {T : Type 0} → Settle → Settled T → Row
 after_settle d settled.Done = Rests
 after_settle d _ = Settles d
 
-abbrev pub after_defer : ℕ → Defer → Progress Unit → Row
+abbrev pub after_defer : ℕ → Defer → Advance Unit → Row
 after_defer s d (progress.Done u) = Rests
 after_defer s d _ = Defers s d
 
 -- nothing refuses a deferral
 module _ {T : Type 0} (m m2 : Mem T) (c d : Defer) (fault : Fault) where
-  not_refused : (x : Defer) → ◌≡◌ {A = Defer × Progress Unit} (d, progress.Refused fault) (x, progress.Goes) → ⊥
-  not_refused x e = let p = ap (λ (q : Defer × Progress Unit). q.1) e in cc p
+  not_refused : (x : Defer) → ◌≡◌ {A = Defer × Advance Unit} (d, progress.Refused fault) (x, progress.Goes) → ⊥
+  not_refused x e = let p = ap (λ (q : Defer × Advance Unit). q.1) e in cc p
 
   refused_at : (p : Deferring) → Steps Took value_at m (defer.plan_at {T = T} c p) m2 (d, progress.Refused fault) → ⊥
   refused_at deferring.Reads s = not_refused _ (loaded m (defer.head_read c) c.table_word m2 (d, progress.Refused fault) s).3
@@ -59,7 +59,7 @@ module _ {T : Type 0} (m m2 : Mem T) (c d : Defer) (fault : Fault) where
     | inl e ↦ not_refused _ e.3
     | inr e ↦ not_refused _ e.3
   ]
-  refused_at deferring.Over s = let p = ap (λ (q : Defer × Progress Unit). q.1) s.1 in cc p
+  refused_at deferring.Over s = let p = ap (λ (q : Defer × Advance Unit). q.1) s.1 in cc p
 
   pub never_refused : Steps Took value_at m (defer.defer_plan {T = T} c) m2 (d, progress.Refused fault) → ⊥
   never_refused s = refused_at c.stands s
@@ -131,10 +131,10 @@ module _ {K V Q : Type 0} (same : K → K → Bool) (hash : K → ℕ) (asks : Q
       pub defer_may : May Can Took value_at w.memory (defer.defer_plan c0)
       defer_may = row_may deferred_word (LAST_SLOT + 1) setting.batch_size refl w (came_reached setting.batch_size w s.ground.came).good i (Defers (slot i) c0) is
 
-      deferred : (end : Defer × Progress Unit) → Steps Took value_at w.memory (defer.defer_plan c0) m2 end → Steps' deferred_word i (w.row i) w (defers_on w i (slot i) m2 end)
+      deferred : (end : Defer × Advance Unit) → Steps Took value_at w.memory (defer.defer_plan c0) m2 end → Steps' deferred_word i (w.row i) w (defers_on w i (slot i) m2 end)
       deferred end st = subst (λ (r : Row). Steps' deferred_word i r w (defers_on w i (slot i) m2 end)) (sym is) (m2, end, st, refl)
 
-      pub defer_came : (d : Defer) (p : Progress Unit) → Steps Took value_at w.memory (defer.defer_plan c0) m2 (d, p) → RowCame m2 (after_defer (slot i) d p)
+      pub defer_came : (d : Defer) (p : Advance Unit) → Steps Took value_at w.memory (defer.defer_plan c0) m2 (d, p) → RowCame m2 (after_defer (slot i) d p)
       defer_came d progress.Goes st = came m2 (Defers (slot i) d) (defers_on w i (slot i) m2 (d, progress.Goes)) refl (with_here w.row i (Defers (slot i) d)) (deferred (d, progress.Goes) st) (λ t h. h)
       defer_came d progress.Waits st = came m2 (Defers (slot i) d) (defers_on w i (slot i) m2 (d, progress.Waits)) refl (with_here w.row i (Defers (slot i) d)) (deferred (d, progress.Waits) st) (λ t h. h)
       defer_came d (progress.Done x) st = came m2 Rests (defers_on w i (slot i) m2 (d, progress.Done x)) refl (with_here w.row i Rests) (deferred (d, progress.Done x) st) (λ t h. less_back w.uses (slot i) t h)

@@ -3,8 +3,8 @@ use Rattle.std.specs.Prelude.{Option}
 use Rattle.std.proofs.Common.{◌≡◌, ℕ, ◌+◌, true, List, [], ◌∷◌, ap, sym, subst, ◌∙◌, refl}
 use Rattle.seize_model.specs.Given.SeizeWordsMem.{Mem}
 use Rattle.seize_model.specs.Given.SeizeDeclared.states.TheConstants.{LAST_SLOT}
-use Rattle.seize_model.specs.Given.SeizeDeclared.progress.Progress.{Progress}
-use Rattle.seize_model.specs.Given.SeizeDeclared.progress.Progress.TheVariants as progress
+use Rattle.seize_model.specs.Given.SeizeDeclared.advance.Advance.{Advance}
+use Rattle.seize_model.specs.Given.SeizeDeclared.advance.Advance.TheVariants as progress
 use Rattle.seize_model.specs.Given.SeizeDeclared.rows.settle.Settle.{Settle}
 use Rattle.seize_model.specs.Given.SeizeDeclared.rows.settle.Settled.{Settled}
 use Rattle.seize_model.specs.Given.SeizeDeclared.rows.settle.Settled.TheVariants as settled
@@ -93,7 +93,7 @@ module _ {T : Type 0} (defers : T → Option ℕ) (size : ℕ) (w : World T) (r 
   settles_alike c d m (settled.Gave value) t = alike_same (w.uses t)
   settles_alike c d m settled.Done t = alike_at w.uses c.slot (one_less (w.uses c.slot)) (alike_less (w.uses c.slot)) t
 
-  defers_alike : (s : ℕ) (d : Defer) (m : Mem T) (p : Progress Unit) (t : ℕ) → IsUsedAlike (w.uses t) ((defers_on w i s m (d, p)).uses t)
+  defers_alike : (s : ℕ) (d : Defer) (m : Mem T) (p : Advance Unit) (t : ℕ) → IsUsedAlike (w.uses t) ((defers_on w i s m (d, p)).uses t)
   defers_alike s d m progress.Goes t = alike_same (w.uses t)
   defers_alike s d m progress.Waits t = alike_same (w.uses t)
   defers_alike s d m (progress.Done u) t = alike_at w.uses s (one_less (w.uses s)) (alike_less (w.uses s)) t

@@ -4,8 +4,8 @@ use Rattle.std.proofs.Common.{sym, subst, inl, inr, refl}
 use Rattle.seize_model.specs.Given.SeizeWordsMem.{Mem, Can, Took, value_at}
 use Rattle.seize_model.specs.Given.SeizeWordsPlan.{May, Steps, plan_as}
 use Rattle.seize_model.proofs.Given.SeizeWordsPlans.{as_may}
-use Rattle.seize_model.specs.Given.SeizeDeclared.progress.Progress.{Progress}
-use Rattle.seize_model.specs.Given.SeizeDeclared.progress.Progress.TheVariants as progress
+use Rattle.seize_model.specs.Given.SeizeDeclared.advance.Advance.{Advance}
+use Rattle.seize_model.specs.Given.SeizeDeclared.advance.Advance.TheVariants as progress
 use Rattle.seize_model.specs.Given.SeizeDeclared.rows.defer.Defer.{Defer}
 use Rattle.seize_model.specs.Given.SeizeDeclared.rows.settle.Settle.{Settle}
 use Rattle.seize_model.specs.Given.SeizeDeclared.rows.settle.Settled.{Settled}
@@ -28,7 +28,7 @@ use Rattle.map_facts_late.specs.Given.ResizeDeclared.copier.Copying.TheVariants 
 use Rattle.map_facts_late.specs.Given.ResizeDeclared.dispose.Dispose.{Dispose}
 use Rattle.map_facts_late.specs.Given.ResizeDeclared.dispose.Disposing.{Disposing}
 use Rattle.map_facts_late.specs.Given.ResizeDeclared.dispose.Disposing.TheVariants as disposes
-use Rattle.map_facts_late.specs.Given.ResizeDeclared.outcome.Outcome.{Outcome}
+use Rattle.map_facts_late.specs.Given.ResizeDeclared.yielding.Yielding.{Yielding}
 use Rattle.map_facts_late.specs.Given.SweepsSweep as sweeps
 use Rattle.map_facts_late.specs.Given.SweepsSweepPoints.{removes, standing, past, further, telling}
 use Rattle.map_facts_late.specs.Given.ReservesDeclared.sweep.Sweep.{Sweep}
@@ -209,7 +209,7 @@ module _ {K V Q : Type 0} (same : K → K → Bool) (hash : K → ℕ) (asks : Q
           (settle_gives same hash asks setting slot lawful w c blocks sights calls s i inside m2 x is y value st)
       settles x is m2 (y, settled.Done) st = disposed_of m2 (settle_came same hash asks setting slot lawful w c blocks sights calls s i inside m2 x is y settled.Done st)
 
-      defers : (x : Defer) → w.row i ≡ Defers (slot i) x → (m2 : Mem (Node K V)) (e : Defer × Progress Unit) → Steps Took value_at w.memory (defer_plan x) m2 e
+      defers : (x : Defer) → w.row i ≡ Defers (slot i) x → (m2 : Mem (Node K V)) (e : Defer × Advance Unit) → Steps Took value_at w.memory (defer_plan x) m2 e
           → Led m2 (sweeps.disposed o.sweep (dispose.deferred d e))
       defers x is m2 (y, progress.Goes) st = goes m2 (within (disposes.Defers y)) (defer_came same hash asks setting slot lawful w c blocks sights calls s i inside m2 x is y progress.Goes st) tt k
       defers x is m2 (y, progress.Waits) st = waits m2 (within (disposes.Defers y)) (defer_came same hash asks setting slot lawful w c blocks sights calls s i inside m2 x is y progress.Waits st) tt k
@@ -244,8 +244,8 @@ module _ {K V Q : Type 0} (same : K → K → Bool) (hash : K → ℕ) (asks : Q
       by_disposal disposes.Over row is = absurd row
 
     -- the retirement of a table
-    by_told : (a e : Copier × Outcome (Node K V) Table) → e ≡ a → (m2 : Mem (Node K V)) (end : Sweep × Swept (Node K V)) → end ≡ sweeps.copied o.sweep e → Led m2 (sweeps.copied o.sweep a) → Led m2 end
-    by_told a e inner m2 end outer l = subst (Led m2) (sym outer) (subst (λ (x : Copier × Outcome (Node K V) Table). Led m2 (sweeps.copied o.sweep x)) (sym inner) l)
+    by_told : (a e : Copier × Yielding (Node K V) Table) → e ≡ a → (m2 : Mem (Node K V)) (end : Sweep × Swept (Node K V)) → end ≡ sweeps.copied o.sweep e → Led m2 (sweeps.copied o.sweep a) → Led m2 end
+    by_told a e inner m2 end outer l = subst (Led m2) (sym outer) (subst (λ (x : Copier × Yielding (Node K V) Table). Led m2 (sweeps.copied o.sweep x)) (sym inner) l)
 
     module _ (p : Copier) where
       abbrev copying : Copier → Sweep

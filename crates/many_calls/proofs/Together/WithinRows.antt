@@ -8,8 +8,8 @@ use Rattle.std.proofs.Common.{sym, subst, inl, inr}
 use Rattle.seize_model.specs.Given.SeizeWordsMem.{Mem, Can, Took, value_at}
 use Rattle.seize_model.specs.Given.SeizeWordsPlan.{May, Steps, plan_as}
 use Rattle.seize_model.proofs.Given.SeizeWordsPlans.{as_may}
-use Rattle.seize_model.specs.Given.SeizeDeclared.progress.Progress.{Progress}
-use Rattle.seize_model.specs.Given.SeizeDeclared.progress.Progress.TheVariants as progress
+use Rattle.seize_model.specs.Given.SeizeDeclared.advance.Advance.{Advance}
+use Rattle.seize_model.specs.Given.SeizeDeclared.advance.Advance.TheVariants as progress
 use Rattle.seize_model.specs.Given.SeizeDeclared.rows.defer.Defer.{Defer}
 use Rattle.seize_model.specs.Given.SeizeDeclared.rows.settle.Settle.{Settle}
 use Rattle.seize_model.specs.Given.SeizeDeclared.rows.settle.Settled.{Settled}
@@ -30,7 +30,7 @@ use Rattle.map_facts_late.specs.Given.ResizeDeclared.copier.Copier.{Copier}
 use Rattle.map_facts_late.specs.Given.ResizeDeclared.copier.Copying.{Copying}
 use Rattle.map_facts_late.specs.Given.ResizeDeclared.copier.Copying.TheVariants as copies
 use Rattle.map_facts_late.specs.Given.ResizeDeclared.dispose.Dispose.{Dispose}
-use Rattle.map_facts_late.specs.Given.ResizeDeclared.outcome.Outcome.{Outcome}
+use Rattle.map_facts_late.specs.Given.ResizeDeclared.yielding.Yielding.{Yielding}
 use Rattle.map_facts_late.specs.Given.ResizeDeclared.dispose.Disposing.{Disposing}
 use Rattle.map_facts_late.specs.Given.ResizeDeclared.dispose.Disposing.TheVariants as disposes
 use Rattle.map_facts_late.specs.Given.RawCall.{plan_at, disposed, helped, copied}
@@ -183,7 +183,7 @@ module _ {K V Q : Type 0} (same : K → K → Bool) (hash : K → ℕ) (asks : Q
         gave m2 (within (disposes.Settles y)) (settle_came same hash asks setting slot lawful w c blocks sights calls s i inside m2 x is y (settled.Gave value) st) tt k value (settle_gives same hash asks setting slot lawful w c blocks sights calls s i inside m2 x is y value st)
     settles x is m2 (y, settled.Done) st = answers_so m2 (settle_came same hash asks setting slot lawful w c blocks sights calls s i inside m2 x is y settled.Done st)
 
-    defers : (x : Defer) → w.row i ≡ Defers (slot i) x → (m2 : Mem (Node K V)) (e : Defer × Progress Unit) → Steps Took value_at w.memory (defer_plan x) m2 e
+    defers : (x : Defer) → w.row i ≡ Defers (slot i) x → (m2 : Mem (Node K V)) (e : Defer × Advance Unit) → Steps Took value_at w.memory (defer_plan x) m2 e
         → Led m2 (disposed u.call answer (dispose.deferred d e))
     defers x is m2 (y, progress.Goes) st = goes m2 (within (disposes.Defers y)) (defer_came same hash asks setting slot lawful w c blocks sights calls s i inside m2 x is y progress.Goes st) tt k
     defers x is m2 (y, progress.Waits) st = waits m2 (within (disposes.Defers y)) (defer_came same hash asks setting slot lawful w c blocks sights calls s i inside m2 x is y progress.Waits st) tt k
@@ -222,9 +222,9 @@ module _ {K V Q : Type 0} (same : K → K → Bool) (hash : K → ℕ) (asks : Q
     by_disposal disposes.Over row is = absurd row
 
   -- a step of a copier, as one of its call
-  by_told : (told : Copier × Outcome (Node K V) Table → KeyCall K V Q × Called (Node K V)) (r e : Copier × Outcome (Node K V) Table) → e ≡ r → (m2 : Mem (Node K V)) (end : KeyCall K V Q × Called (Node K V)) → end ≡ told e
+  by_told : (told : Copier × Yielding (Node K V) Table → KeyCall K V Q × Called (Node K V)) (r e : Copier × Yielding (Node K V) Table) → e ≡ r → (m2 : Mem (Node K V)) (end : KeyCall K V Q × Called (Node K V)) → end ≡ told e
       → Led m2 (told r) → Led m2 end
-  by_told told r e inner m2 end outer l = subst (Led m2) (sym outer) (subst (λ (x : Copier × Outcome (Node K V) Table). Led m2 (told x)) (sym inner) l)
+  by_told told r e inner m2 end outer l = subst (Led m2) (sym outer) (subst (λ (x : Copier × Yielding (Node K V) Table). Led m2 (told x)) (sym inner) l)
 
   -- the retirement of a table, by a copier that helps
   module _ (p : Copier) (goal : Table) where

@@ -8,8 +8,8 @@ use Rattle.many_calls.proofs.Given.SeizeWordsPlans.{as_may}
 use Rattle.many_calls.proofs.Given.SeizeRuleRows.Leaving.{steps_back}
 use Rattle.many_calls.proofs.Given.SeizeRuleRows.Others.{begins_others, steps_others}
 use Rattle.many_calls.specs.Given.SeizeWorld.{World, Row, Rests, Event, Runs, with_at}
-use Rattle.many_calls.specs.Given.SeizeDeclared.progress.Progress.{Progress as Counted}
-use Rattle.many_calls.specs.Given.SeizeDeclared.progress.Progress.TheVariants as counted
+use Rattle.many_calls.specs.Given.SeizeDeclared.advance.Advance.{Advance as Counted}
+use Rattle.many_calls.specs.Given.SeizeDeclared.advance.Advance.TheVariants as counted
 use Rattle.many_calls.specs.Given.TablesChunks.{is_incremental}
 use Rattle.many_calls.specs.Given.TablesNodes.{deferred_word}
 use Rattle.many_calls.specs.Given.TablesDeclared.node.Node.{Node}
@@ -19,8 +19,8 @@ use Rattle.many_calls.specs.Given.ResizeDeclared.copier.Copying.{Copying}
 use Rattle.many_calls.specs.Given.ResizeDeclared.copier.Copying.TheVariants as copies
 use Rattle.many_calls.specs.Given.ResizeDeclared.dispose.Disposing.{Disposing}
 use Rattle.many_calls.specs.Given.ResizeDeclared.dispose.Disposing.TheVariants as disposes
-use Rattle.many_calls.specs.Given.ResizeDeclared.outcome.Outcome.{Outcome}
-use Rattle.many_calls.specs.Given.ResizeDeclared.outcome.Outcome.TheVariants as outcome
+use Rattle.many_calls.specs.Given.ResizeDeclared.yielding.Yielding.{Yielding}
+use Rattle.many_calls.specs.Given.ResizeDeclared.yielding.Yielding.TheVariants as outcome
 use Rattle.many_calls.specs.Given.ResizeDeclared.sum.Sum.{Sum}
 use Rattle.many_calls.specs.Given.ReservesReserve.{reserve_plan}
 use Rattle.many_calls.specs.Given.ReservesDeclared.reserve.Reserve.{Reserve}
@@ -109,7 +109,7 @@ module _ (K V Q : Type 0) where
   key_on u (called.Done answer) = refl
   key_on u (called.Refused fault) = refl
 
-  room_on : (r : CallForRoom) (end : Outcome (Node K V) Unit) → GoesOnAs {K = K} {V = V} {Q = Q} (kinds.Reserve r.reserve) (of_outcome end) (next_for_room r end)
+  room_on : (r : CallForRoom) (end : Yielding (Node K V) Unit) → GoesOnAs {K = K} {V = V} {Q = Q} (kinds.Reserve r.reserve) (of_outcome end) (next_for_room r end)
   room_on r outcome.Goes = (ForRoom r, refl, refl)
   room_on r outcome.Waits = (ForRoom r, refl, refl)
   room_on r (outcome.Gave value) = (ForRoom r, refl, refl)
@@ -274,11 +274,11 @@ module _ {K Q : Type 0} (V : Type 0) (same : K → K → Bool) (asks : Q → K �
     by_room r has (inr none) = wrapped (ForRoom r) machines.reserved (reserve_plan s.hash r.reserve) leads.0 by
       where
         leads : May Can Took value_at w.memory (reserve_plan s.hash r.reserve)
-            × ((m2 : Mem (Node K V)) (p2 : Reserve) (end : Outcome (Node K V) Unit) → Steps Took value_at w.memory (reserve_plan s.hash r.reserve) m2 (p2, end)
+            × ((m2 : Mem (Node K V)) (p2 : Reserve) (end : Yielding (Node K V) Unit) → Steps Took value_at w.memory (reserve_plan s.hash r.reserve) m2 (p2, end)
             → RoomStepsAmong V same asks batch_size roots slot w maps calls makers enders m s i r m2 p2 end)
         leads = rooms_stand_among V same asks batch_size roots slot w maps calls makers enders all m s here i r has none
 
-        by : (m2 : Mem (Node K V)) (end : Reserve × Outcome (Node K V) Unit) → Steps Took value_at w.memory (reserve_plan s.hash r.reserve) m2 end → Leads m2 (ForRoom r) (machines.reserved end)
+        by : (m2 : Mem (Node K V)) (end : Reserve × Yielding (Node K V) Unit) → Steps Took value_at w.memory (reserve_plan s.hash r.reserve) m2 end → Leads m2 (ForRoom r) (machines.reserved end)
         by m2 (p2, end) st =
             let to = leads.1 m2 p2 end st in
             moved m2 to.step.went.w2 to.step.went.memory (λ j ne. users_rows s.setting w to.step.went.w2 to.step.went.events to.step.went.users to.step.went.runs j)
@@ -289,11 +289,11 @@ module _ {K Q : Type 0} (V : Type 0) (same : K → K → Bool) (asks : Q → K �
     by_room r has (inl row) = wrapped (ForRoom r) machines.reserved (reserve_plan s.hash r.reserve) leads.0 by
       where
         leads : May Can Took value_at w.memory (reserve_plan s.hash r.reserve)
-            × ((m2 : Mem (Node K V)) (p2 : Reserve) (end : Outcome (Node K V) Unit) → Steps Took value_at w.memory (reserve_plan s.hash r.reserve) m2 (p2, end)
+            × ((m2 : Mem (Node K V)) (p2 : Reserve) (end : Yielding (Node K V) Unit) → Steps Took value_at w.memory (reserve_plan s.hash r.reserve) m2 (p2, end)
             → RoomRowsAmong V same asks batch_size roots slot w maps calls makers enders m s i r m2 p2 end)
         leads = room_rows_stand_among V same asks batch_size roots slot w maps calls makers enders all m s here i r has row
 
-        by : (m2 : Mem (Node K V)) (end : Reserve × Outcome (Node K V) Unit) → Steps Took value_at w.memory (reserve_plan s.hash r.reserve) m2 end → Leads m2 (ForRoom r) (machines.reserved end)
+        by : (m2 : Mem (Node K V)) (end : Reserve × Yielding (Node K V) Unit) → Steps Took value_at w.memory (reserve_plan s.hash r.reserve) m2 end → Leads m2 (ForRoom r) (machines.reserved end)
         by m2 (p2, end) st =
             let to = leads.1 m2 p2 end st in
             stayed m2 to.step.w2 to.step.memory (one_step_rows s.setting w to.step.w2 to.step.happened) to.step.slots

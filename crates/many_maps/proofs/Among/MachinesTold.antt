@@ -10,8 +10,8 @@ use Rattle.many_calls.specs.Given.ReservesDeclared.sweep.Sweeping.TheVariants as
 use Rattle.many_calls.specs.Given.RawCallAsks.{told_at}
 use Rattle.many_calls.specs.Given.RawMachine.{sweep_told, machine_replied}
 use Rattle.many_calls.specs.Given.RawDeclared.machines.asking.Asking.{Asking}
-use Rattle.many_calls.specs.Given.RawDeclared.machines.asking.Reply.{Reply}
-use Rattle.many_calls.specs.Given.RawDeclared.machines.asking.Reply.TheVariants as reply
+use Rattle.many_calls.specs.Given.RawDeclared.machines.asking.MachineReply.{MachineReply}
+use Rattle.many_calls.specs.Given.RawDeclared.machines.asking.MachineReply.TheVariants as reply
 use Rattle.many_calls.specs.Given.RawDeclared.machines.call.Calling.{Calling}
 use Rattle.many_calls.specs.Given.RawDeclared.machines.call.Calling.TheVariants as at
 use Rattle.many_calls.specs.Given.RawDeclared.machines.machine.Machine.{Machine}
@@ -39,12 +39,12 @@ module _ {K Q : Type 0} (V : Type 0) (same : K → K → Bool) (asks : Q → K �
         subst (λ (x : ℕ → ℕ → Option (UnderWay K V Q)). EndingsTogether V same asks batch_size roots slot w maps x makers enders)
         (sym (ap (with_at calls m) (ap (with_at (calls m) i) (sym has) ∙ with_same (calls m) i) ∙ with_same calls m)) all
 
-    abbrev Told : UnderWay K V Q → Reply V → Type 0
+    abbrev Told : UnderWay K V Q → MachineReply V → Type 0
     Told u told =
         (next : UnderWay K V Q) × (machine_of next ≡ (machine_replied (machine_of u) told).0) × ToldOfKind V same asks batch_size roots slot s i u told next × With next
 
     -- a call on one key
-    module _ (u : CallOnKey K V Q) (has : calls m i ≡ Some (OnKey u)) (told : Reply V) where
+    module _ (u : CallOnKey K V Q) (has : calls m i ≡ Some (OnKey u)) (told : MachineReply V) where
       asking : (asks_at : Asking) → u.call.stands ≡ at.Asks asks_at → Told (OnKey u) told
       asking asks_at is =
           let taken = replies_stand_among V same asks batch_size roots slot w maps calls makers enders all m s here i u has asks_at is in
@@ -76,16 +76,16 @@ module _ {K Q : Type 0} (V : Type 0) (same : K → K → Bool) (asks : Q → K �
       taken : TakesTold s.hash s.chart (seen_by s.blocks (s.sights (slot i))) o (λ told. With (OverAll told))
       taken = sweeps_told_among V same asks batch_size roots slot w maps calls makers enders all m s here i o has
 
-      abbrev TellsAt : Sweeping → Reply V → Type 0
+      abbrev TellsAt : Sweeping → MachineReply V → Type 0
       TellsAt stage told = (sweep_told stage o.sweep told).0 ≡ o.sweep
 
-      as_it_was : (stage : Sweeping) (told : Reply V) → o.sweep.stands ≡ stage → TellsAt stage told → Told (OverAll o) told
+      as_it_was : (stage : Sweeping) (told : MachineReply V) → o.sweep.stands ≡ stage → TellsAt stage told → Told (OverAll o) told
       as_it_was stage told is e = (OverAll o, ap kinds.Sweep (sym (ap (λ (x : Sweeping). (sweep_told x o.sweep told).0) is ∙ e)), inr refl, unchanged (OverAll o) has)
 
-      abbrev told_there : Reply V → Sweeping → Machine K V Q
+      abbrev told_there : MachineReply V → Sweeping → Machine K V Q
       told_there told x = kinds.Sweep (sweep_told x o.sweep told).0
 
-      word_told : (word : ℕ) → o.sweep.stands ≡ sweeping.Asks word → (told : Reply V) → Told (OverAll o) told
+      word_told : (word : ℕ) → o.sweep.stands ≡ sweeping.Asks word → (told : MachineReply V) → Told (OverAll o) told
       word_told word is reply.Yes =
           let pair = taken.asks_about word is in (
             OverAll (told_of o pair.0 true),
@@ -102,7 +102,7 @@ module _ {K Q : Type 0} (V : Type 0) (same : K → K → Bool) (asks : Q → K �
           )
       word_told word is told = as_it_was (sweeping.Asks word) told is refl
 
-      sweep_is_told : (told : Reply V) (stage : Sweeping) → o.sweep.stands ≡ stage → Told (OverAll o) told
+      sweep_is_told : (told : MachineReply V) (stage : Sweeping) → o.sweep.stands ≡ stage → Told (OverAll o) told
       sweep_is_told told (sweeping.Asks word) is = word_told word is told
       sweep_is_told told sweeping.Reads is = as_it_was sweeping.Reads told is refl
       sweep_is_told told sweeping.Follows is = as_it_was sweeping.Follows told is refl

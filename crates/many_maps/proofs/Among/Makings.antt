@@ -4,8 +4,8 @@ use Rattle.std.proofs.Common.{◌≡◌, ℕ, zero, suc, Bool, refl, arith, ap, 
 use Rattle.many_calls.specs.Given.SeizeWordsDeclared.at.At.TheVariants.{Used}
 use Rattle.many_calls.specs.Given.SeizeWordsMem.{Mem, value_at, word_at}
 use Rattle.many_calls.specs.Given.SeizeWorld.{World, times, with_at}
-use Rattle.many_calls.specs.Given.SeizeDeclared.progress.Progress.{Progress}
-use Rattle.many_calls.specs.Given.SeizeDeclared.progress.Progress.TheVariants as progress
+use Rattle.many_calls.specs.Given.SeizeDeclared.advance.Advance.{Advance}
+use Rattle.many_calls.specs.Given.SeizeDeclared.advance.Advance.TheVariants as progress
 use Rattle.many_calls.specs.Given.TablesDeclared.node.Node.{Node}
 use Rattle.many_calls.specs.Given.TablesDeclared.setting.Setting.{Setting}
 use Rattle.many_calls.specs.Given.ResizeDeclared.new_map.NewMap.{NewMap}
@@ -45,7 +45,7 @@ module _ {K Q : Type 0} (V : Type 0) (same : K → K → Bool) (asks : Q → K �
     not_its_counter j f ends has x (inr none) e =
         (let there = ((all.facts j f ends).facts.since.counter has).0 in let gone = subst (λ (y : ℕ). value_at w.memory y ≡ None) (sym e) none in cc (there, gone))
 
-    module _ (m2 : Mem (Node K V)) (end : NewMap × Progress Setting) (went : MakingWent V same asks batch_size roots slot w i b m2 end) where
+    module _ (m2 : Mem (Node K V)) (end : NewMap × Advance Setting) (went : MakingWent V same asks batch_size roots slot w i b m2 end) where
       spared : (j : ℕ) (f : Finishing K V) → enders j ≡ Some f → IsSparedEnd batch_size w went.w2 j f
       spared j f ends =
           let o = other_counter (times f.setting.counter f.back) refl in (
@@ -87,7 +87,7 @@ module _ {K Q : Type 0} (V : Type 0) (same : K → K → Bool) (asks : Q → K �
           (λ m r ne is. (all.roots_apart j m f r ends is, all.counters_apart j m f r ends is)) m s2 here)
           (makings_apart None (λ j f ends d is. absurd (cc is)))
 
-      told : (end : NewMap × Progress Setting) → GoesTo V same asks batch_size roots slot w i b went.w2 end → MakingTold V same asks batch_size roots slot w maps calls makers i b went.w2 end
+      told : (end : NewMap × Advance Setting) → GoesTo V same asks batch_size roots slot w i b went.w2 end → MakingTold V same asks batch_size roots slot w maps calls makers i b went.w2 end
           → MakingToldAmong V same asks batch_size roots slot w maps calls makers enders i b went.w2 end
       told (n, progress.Goes) goes makings2 =
           goes_on (Some (record b { machine = n }))

@@ -11,8 +11,8 @@ use Rattle.map_rule.proofs.Given.SeizeWordsPlans.{ends_if}
 use Rattle.papaya_raw.specs.Given.SeizeWorld.{World}
 use Rattle.papaya_raw.specs.Given.TablesChunks.{is_incremental}
 use Rattle.papaya_raw.specs.Given.TablesDeclared.node.Node.{Node}
-use Rattle.map_rule.specs.Given.ResizeDeclared.outcome.Outcome.{Outcome}
-use Rattle.map_rule.specs.Given.ResizeDeclared.outcome.Outcome.TheVariants.{Goes}
+use Rattle.map_rule.specs.Given.ResizeDeclared.yielding.Yielding.{Yielding}
+use Rattle.map_rule.specs.Given.ResizeDeclared.yielding.Yielding.TheVariants.{Goes}
 use Rattle.papaya_raw.specs.Given.TablesDeclared.setting.Setting.{Setting}
 use Rattle.papaya_raw.specs.Given.TablesDeclared.table.Table.{Table}
 use Rattle.papaya_raw.specs.Given.TablesDeclared.table_words.TheConstants.{CLAIM}
@@ -110,7 +110,7 @@ module _ {K V : Type 0} (same : K → K → Bool) (hash : K → ℕ) (caller : �
   all_claimed : (u : ℕ) → u ≡ t → c.len c.first ≤ c.claim t → c.len c.first ≤ put c.claim t (c.claim t + chunk p) u
   all_claimed u is over = rw (is, eq-eqb t t refl) (omega (arith, over))
 
-  pub went_claim : (m2 : Mem (Node K V)) (end : Copier × Outcome (Node K V) Table) → Steps Took value_at w.memory (claims p) m2 end
+  pub went_claim : (m2 : Mem (Node K V)) (end : Copier × Yielding (Node K V) Table) → Steps Took value_at w.memory (claims p) m2 end
       → CopierCame same hash caller setting w c blocks (AloneBlocking c p at.Claims) m2 end
   went_claim m2 end s =
       let add = added w.memory (claimed p) (at_word p.target CLAIM) (chunk p) m2 end s in

@@ -10,8 +10,8 @@ use Rattle.map_rule.proofs.Given.SeizeWordsPlans.{ends_if}
 use Rattle.papaya_raw.specs.Given.SeizeWorld.{World}
 use Rattle.papaya_raw.specs.Given.TablesChunks.{is_incremental}
 use Rattle.papaya_raw.specs.Given.TablesDeclared.node.Node.{Node}
-use Rattle.map_rule.specs.Given.ResizeDeclared.outcome.Outcome.{Outcome}
-use Rattle.map_rule.specs.Given.ResizeDeclared.outcome.Outcome.TheVariants.{Goes}
+use Rattle.map_rule.specs.Given.ResizeDeclared.yielding.Yielding.{Yielding}
+use Rattle.map_rule.specs.Given.ResizeDeclared.yielding.Yielding.TheVariants.{Goes}
 use Rattle.papaya_raw.specs.Given.TablesDeclared.setting.Setting.{Setting}
 use Rattle.papaya_raw.specs.Given.TablesDeclared.status.TheConstants.Status.{ABORTED}
 use Rattle.papaya_raw.specs.Given.TablesDeclared.table.Table.{Table}
@@ -99,7 +99,7 @@ module _ {K V : Type 0} (same : K → K → Bool) (hash : K → ℕ) (caller : �
     p_blocking : is_incremental p.setting.mode ≡ false
     p_blocking = ap (λ (x : Setting). is_incremental x.mode) setting_is ∙ blocking
 
-    pub went_count : (m2 : Mem (Node K V)) (end : Copier × Outcome (Node K V) Table) → Steps Took value_at w.memory (counts p) m2 end
+    pub went_count : (m2 : Mem (Node K V)) (end : Copier × Yielding (Node K V) Table) → Steps Took value_at w.memory (counts p) m2 end
         → CopierCame same hash caller setting w c blocks (AloneBlocking c p at.Counts) m2 end
     went_count m2 end s =
         let add = added w.memory (counted p) (at_word p.target COPIED) p.done m2 end s in
@@ -145,7 +145,7 @@ module _ {K V : Type 0} (same : K → K → Bool) (hash : K → ℕ) (caller : �
     target_turn : p.target.turn ≡ t
     target_turn = turn_is hash w.memory c blocks setting.root map.map.shows p.target t gave.0.0.2
 
-    pub went_abort : (m2 : Mem (Node K V)) (end : Copier × Outcome (Node K V) Table) → Steps Took value_at w.memory (aborts p) m2 end
+    pub went_abort : (m2 : Mem (Node K V)) (end : Copier × Yielding (Node K V) Table) → Steps Took value_at w.memory (aborts p) m2 end
         → CopierCame same hash caller setting w c blocks (AloneBlocking c p at.Aborts) m2 end
     went_abort m2 end s =
         let store = stored w.memory (λ out. to (standing p at.Replaces)) (at_word p.target STATUS) ABORTED m2 end s in

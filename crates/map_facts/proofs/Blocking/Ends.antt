@@ -9,8 +9,8 @@ use Rattle.map_rule.proofs.Given.SeizeWordsOneOwner.Operations.{stored, loaded}
 use Rattle.papaya_raw.specs.Given.SeizeWorld.{World}
 use Rattle.papaya_raw.specs.Given.TablesChunks.{is_incremental}
 use Rattle.papaya_raw.specs.Given.TablesDeclared.node.Node.{Node}
-use Rattle.map_rule.specs.Given.ResizeDeclared.outcome.Outcome.{Outcome}
-use Rattle.map_rule.specs.Given.ResizeDeclared.outcome.Outcome.TheVariants.{Done, Refused}
+use Rattle.map_rule.specs.Given.ResizeDeclared.yielding.Yielding.{Yielding}
+use Rattle.map_rule.specs.Given.ResizeDeclared.yielding.Yielding.TheVariants.{Done, Refused}
 use Rattle.papaya_raw.specs.Given.TablesDeclared.setting.Setting.{Setting}
 use Rattle.papaya_raw.specs.Given.TablesDeclared.status.TheConstants.Status.{PROMOTED}
 use Rattle.papaya_raw.specs.Given.TablesDeclared.table.Table.{Table}
@@ -45,7 +45,7 @@ module _ {K V : Type 0} (same : K → K → Bool) (hash : K → ℕ) (caller : �
     abbrev told_memory : Mem (Node K V)
     told_memory = with_word w.memory (at_word p.target STATUS) PROMOTED
 
-    pub went_announce : IsLawful same (spot_of hash) → is_incremental setting.mode ≡ false → IsTable c blocks p.source s → (m2 : Mem (Node K V)) (end : Copier × Outcome (Node K V) Table)
+    pub went_announce : IsLawful same (spot_of hash) → is_incremental setting.mode ≡ false → IsTable c blocks p.source s → (m2 : Mem (Node K V)) (end : Copier × Yielding (Node K V) Table)
         → Steps Took value_at w.memory (announces p) m2 end → CopierCame same hash caller setting w c blocks (AloneBlocking c p at.Announces) m2 end
     went_announce lawful blocking source m2 end steps =
         let store = stored w.memory (λ out. to (standing p (at.Succeeds p.source.link))) (at_word p.target STATUS) PROMOTED m2 end steps in
@@ -63,7 +63,7 @@ module _ {K V : Type 0} (same : K → K → Bool) (hash : K → ℕ) (caller : �
 
     -- the link to the table behind
     module _ (table : ℕ) (table_is : table ≡ blocks.table s * 2048) where
-      pub went_succeed : (m2 : Mem (Node K V)) (end : Copier × Outcome (Node K V) Table) → Steps Took value_at w.memory (succeeds p table) m2 end
+      pub went_succeed : (m2 : Mem (Node K V)) (end : Copier × Yielding (Node K V) Table) → Steps Took value_at w.memory (succeeds p table) m2 end
           → CopierCame same hash caller setting w c blocks (AloneBlocking c p (at.Succeeds table)) m2 end
       went_succeed m2 end steps =
           let read = loaded w.memory (successor_read p table) (Word (table / 2048) NEXT) m2 end steps in
@@ -79,10 +79,10 @@ module _ {K V : Type 0} (same : K → K → Bool) (hash : K → ℕ) (caller : �
           last = rest_last same hash caller setting w c blocks map p setting_is s c.first unlinked.0 unlinked.1 unlinked.3 table table_is
 
   -- it has come to its end
-  pub went_over : IsTable c blocks p.target c.first → HasNoShares same hash w caller setting c blocks → (m2 : Mem (Node K V)) (end : Copier × Outcome (Node K V) Table)
+  pub went_over : IsTable c blocks p.target c.first → HasNoShares same hash w caller setting c blocks → (m2 : Mem (Node K V)) (end : Copier × Yielding (Node K V) Table)
       → (m2 ≡ w.memory) × (end ≡ (p, Done p.target)) → CopierCame same hash caller setting w c blocks (AloneBlocking c p at.Over) m2 end
   went_over target none m2 end steps = copier_still same hash caller setting w c blocks (AloneBlocking c p at.Over) map m2 end (p, Done p.target) steps.0 steps.1 (target, none) (λ a. (a.0, a.1.0, a.1.1))
 
-  pub went_refused : (fault : Fault) → HasNoShares same hash w caller setting c blocks → (m2 : Mem (Node K V)) (end : Copier × Outcome (Node K V) Table)
+  pub went_refused : (fault : Fault) → HasNoShares same hash w caller setting c blocks → (m2 : Mem (Node K V)) (end : Copier × Yielding (Node K V) Table)
       → (m2 ≡ w.memory) × (end ≡ (p, Refused fault)) → CopierCame same hash caller setting w c blocks (AloneBlocking c p (at.Refused fault)) m2 end
   went_refused fault none m2 end steps = copier_still same hash caller setting w c blocks (AloneBlocking c p (at.Refused fault)) map m2 end (p, Refused fault) steps.0 steps.1 none (λ a. (a.0, a.1.0, a.1.1))

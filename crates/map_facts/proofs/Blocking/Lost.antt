@@ -5,8 +5,8 @@ use Rattle.map_rule.specs.Given.SeizeWordsMem.{Mem}
 use Rattle.papaya_raw.specs.Given.SeizeWorld.{World}
 use Rattle.papaya_raw.specs.Given.TablesChunks.{is_incremental}
 use Rattle.papaya_raw.specs.Given.TablesDeclared.node.Node.{Node}
-use Rattle.map_rule.specs.Given.ResizeDeclared.outcome.Outcome.{Outcome}
-use Rattle.map_rule.specs.Given.ResizeDeclared.outcome.Outcome.TheVariants.{Goes}
+use Rattle.map_rule.specs.Given.ResizeDeclared.yielding.Yielding.{Yielding}
+use Rattle.map_rule.specs.Given.ResizeDeclared.yielding.Yielding.TheVariants.{Goes}
 use Rattle.papaya_raw.specs.Given.TablesDeclared.setting.Setting.{Setting}
 use Rattle.papaya_raw.specs.Given.TablesDeclared.table.Table.{Table}
 use Rattle.map_rule.specs.Given.ResizeDeclared.copier.Copier.{Copier}
@@ -29,7 +29,7 @@ use Rattle.map_rule.proofs.Words.TablesSeen.{turn_is}
 module _ {K V : Type 0} (same : K → K → Bool) (hash : K → ℕ) (caller : ℕ) (setting : Setting) (w : World (Node K V)) (c : Chart K) (blocks : Blocks)
     (map : IsMapIn same hash setting w c blocks) (lawful : IsLawful same (spot_of hash)) (blocking : is_incremental setting.mode ≡ false) (p : Copier) (setting_is : p.setting ≡ setting)
     (t n : ℕ) (k : K) (pair : ℕ) (works : WorksIn same hash w caller setting c blocks p t n k pair) where
-  module _ (m2 : Mem (Node K V)) (still : m2 ≡ w.memory) (end : Copier × Outcome (Node K V) Table) where
+  module _ (m2 : Mem (Node K V)) (still : m2 ≡ w.memory) (end : Copier × Yielding (Node K V) Table) where
     abbrev lost_chart : Chart K
     lost_chart = after (spot_of hash) false (GivesUp caller t) c
 

@@ -11,8 +11,8 @@ use Rattle.papaya_raw.specs.Given.SeizeWorld.{World}
 use Rattle.papaya_raw.specs.Given.TablesChunks.{is_incremental}
 use Rattle.papaya_raw.specs.Given.TablesDeclared.marks.TheConstants.{COPYING}
 use Rattle.papaya_raw.specs.Given.TablesDeclared.node.Node.{Node}
-use Rattle.map_rule.specs.Given.ResizeDeclared.outcome.Outcome.{Outcome}
-use Rattle.map_rule.specs.Given.ResizeDeclared.outcome.Outcome.TheVariants.{Goes}
+use Rattle.map_rule.specs.Given.ResizeDeclared.yielding.Yielding.{Yielding}
+use Rattle.map_rule.specs.Given.ResizeDeclared.yielding.Yielding.TheVariants.{Goes}
 use Rattle.papaya_raw.specs.Given.TablesDeclared.setting.Setting.{Setting}
 use Rattle.papaya_raw.specs.Given.TablesDeclared.table.Table.{Table}
 use Rattle.papaya_raw.specs.Given.TablesDeclared.table_words.TheConstants.{PLACES}
@@ -98,7 +98,7 @@ module _ {K V : Type 0} (same : K → K → Bool) (hash : K → ℕ) (fits : (k 
   rule_blocking : Rule same (spot_of hash) false c
   rule_blocking = subst (λ (b : Bool). Rule same (spot_of hash) b c) blocking map.map.rule
 
-  module _ (m2 : Mem (Node K V)) (m2_is : m2 ≡ marked_memory) (end : Copier × Outcome (Node K V) Table) where
+  module _ (m2 : Mem (Node K V)) (m2_is : m2 ≡ marked_memory) (end : Copier × Yielding (Node K V) Table) where
     wrote : (move : Move K) → Allowed same (spot_of hash) false move c → (after (spot_of hash) false move c).past ≡ c.past
         → Shows hash marked_memory (after (spot_of hash) false move c) blocks setting.root → Hands same hash setting w (after (spot_of hash) false move c) blocks
         → (after (spot_of hash) false move c).current ≡ c.current → (q : Copier) → end ≡ (q, Goes) → q.setting ≡ setting
@@ -172,7 +172,7 @@ module _ {K V : Type 0} (same : K → K → Bool) (hash : K → ℕ) (fits : (k 
           word_is = ap (λ (x : Place). without_copying (place_word hash c blocks x)) e ∙ unmarked phase borrowed plain.0 plain.1;
         }
 
-  pub went_mark : (m2 : Mem (Node K V)) (end : Copier × Outcome (Node K V) Table) → Steps Took value_at w.memory (marks hash p) m2 end → CopierCame same hash caller setting w c blocks (AloneBlocking c p at.Marks) m2 end
+  pub went_mark : (m2 : Mem (Node K V)) (end : Copier × Yielding (Node K V) Table) → Steps Took value_at w.memory (marks hash p) m2 end → CopierCame same hash caller setting w c blocks (AloneBlocking c p at.Marks) m2 end
   went_mark m2 end s =
       let seen = mark_tells same hash fits setting w c blocks map blocking p setting_is c.first copies.0 low m2 end s in
       elim seen.1 as (λ _. CopierCame same hash caller setting w c blocks (AloneBlocking c p at.Marks) m2 end) [

@@ -7,7 +7,7 @@ use Rattle.papaya_raw.specs.Given.SeizeWorld.{World}
 use Rattle.papaya_raw.specs.Given.TablesChunks.{is_incremental}
 use Rattle.map_rule.specs.Given.ResizeCopier.{plan_at, copier_plan}
 use Rattle.papaya_raw.specs.Given.TablesDeclared.node.Node.{Node}
-use Rattle.map_rule.specs.Given.ResizeDeclared.outcome.Outcome.{Outcome}
+use Rattle.map_rule.specs.Given.ResizeDeclared.yielding.Yielding.{Yielding}
 use Rattle.papaya_raw.specs.Given.TablesDeclared.setting.Setting.{Setting}
 use Rattle.papaya_raw.specs.Given.TablesDeclared.table.Table.{Table}
 use Rattle.map_rule.specs.Given.ResizeDeclared.copier.Copier.{Copier}
@@ -68,7 +68,7 @@ module _ {K V : Type 0} (same : K → K → Bool) (hash : K → ℕ) (fits : (k 
   may_at (at.Refused fault) point none = tt
 
   went_at : (stands : Point) → CopyingFactsBlocking same hash w caller setting c blocks p stands → (IsRowOfCopier stands → ⊥) → (m2 : Mem (Node K V))
-      (end : Copier × Outcome (Node K V) Table) → Steps Took value_at w.memory (plan_at hash p stands) m2 end
+      (end : Copier × Yielding (Node K V) Table) → Steps Took value_at w.memory (plan_at hash p stands) m2 end
       → CopierCame same hash caller setting w c blocks (AloneBlocking c p stands) m2 end
   went_at at.Begins point none m2 end s = absurd point
   went_at at.Follows point none m2 end s = absurd point
@@ -103,11 +103,11 @@ module _ {K V : Type 0} (same : K → K → Bool) (hash : K → ℕ) (fits : (k 
   may_copier_blocking none = may_at p.stands facts.point none
 
   -- beside where it leads: where it is alone, it does not wait
-  pub went_copier_blocking_alone : (IsRowOfCopier p.stands → ⊥) → (m2 : Mem (Node K V)) (end : Copier × Outcome (Node K V) Table)
+  pub went_copier_blocking_alone : (IsRowOfCopier p.stands → ⊥) → (m2 : Mem (Node K V)) (end : Copier × Yielding (Node K V) Table)
       → Steps Took value_at w.memory (copier_plan hash p) m2 end → CopierCame same hash caller setting w c blocks (AloneBlocking c p p.stands) m2 end
   went_copier_blocking_alone none m2 end s = went_at p.stands facts.point none m2 end s
 
-  pub went_copier_blocking : (IsRowOfCopier p.stands → ⊥) → (m2 : Mem (Node K V)) (end : Copier × Outcome (Node K V) Table)
+  pub went_copier_blocking : (IsRowOfCopier p.stands → ⊥) → (m2 : Mem (Node K V)) (end : Copier × Yielding (Node K V) Table)
       → Steps Took value_at w.memory (copier_plan hash p) m2 end → CopierWent same hash caller setting w c blocks m2 end
   went_copier_blocking none m2 end s =
       went_as same hash setting caller w c blocks m2 (CopierTells same hash caller setting w c blocks (AloneBlocking c p p.stands) end) (CopierSays same hash caller setting w c blocks end)

@@ -12,8 +12,8 @@ use Rattle.papaya_raw.specs.Given.TablesChunks.{is_incremental}
 use Rattle.map_rule.specs.Given.ResizeCopierStates.{standing}
 use Rattle.map_rule.specs.Given.ResizeCopierPromotes.{promoted, promotes}
 use Rattle.papaya_raw.specs.Given.TablesDeclared.node.Node.{Node}
-use Rattle.map_rule.specs.Given.ResizeDeclared.outcome.Outcome.{Outcome}
-use Rattle.map_rule.specs.Given.ResizeDeclared.outcome.Outcome.TheVariants.{Goes}
+use Rattle.map_rule.specs.Given.ResizeDeclared.yielding.Yielding.{Yielding}
+use Rattle.map_rule.specs.Given.ResizeDeclared.yielding.Yielding.TheVariants.{Goes}
 use Rattle.papaya_raw.specs.Given.TablesDeclared.setting.Setting.{Setting}
 use Rattle.papaya_raw.specs.Given.TablesDeclared.table.Table.{Table}
 use Rattle.map_rule.specs.Given.ResizeDeclared.copier.Copier.{Copier}
@@ -114,10 +114,10 @@ module _ {K V : Type 0} (same : K → K → Bool) (hash : K → ℕ) (caller : �
   rule_blocking : Rule same (spot_of hash) false c
   rule_blocking = subst (λ (b : Bool). Rule same (spot_of hash) b c) blocking map.map.rule
 
-  went_first : (m2 : Mem (Node K V)) (end : Copier × Outcome (Node K V) Table) (found : ℕ) → word_at w.memory (Root p.setting.root) ≡ Some found → found ≡ p.source.link
+  went_first : (m2 : Mem (Node K V)) (end : Copier × Yielding (Node K V) Table) (found : ℕ) → word_at w.memory (Root p.setting.root) ≡ Some found → found ≡ p.source.link
       → m2 ≡ with_word w.memory (Root p.setting.root) p.target.link → end ≡ (standing p at.Announces, Goes) → CopierCame same hash caller setting w c blocks (AloneBlocking c p at.Promotes) m2 end
   went_first m2 end found read same_link is ends =
-      subst (λ (e : Copier × Outcome (Node K V) Table). CopierCame same hash caller setting w c blocks (AloneBlocking c p at.Promotes) m2 e) (sym ends)
+      subst (λ (e : Copier × Yielding (Node K V) Table). CopierCame same hash caller setting w c blocks (AloneBlocking c p at.Promotes) m2 e) (sym ends)
       (subst (λ (n : Mem (Node K V)). CopierCame same hash caller setting w c blocks (AloneBlocking c p at.Promotes) n (standing p at.Announces, Goes)) (sym whole)
       (went_after same hash setting caller w c blocks map (Exchange (Root p.setting.root) p.source.link p.target.link) (Exchanged (Ok found)) tt written.memory
       ((read, same_link), sym whole ∙ is) cut.events cut.users cut.its cut.w2 cut.runs cut.memory
@@ -134,7 +134,7 @@ module _ {K V : Type 0} (same : K → K → Bool) (hash : K → ℕ) (caller : �
       whole : m2 ≡ written.memory
       whole = is ∙ ap₂ (λ (x : Setting) (link : ℕ). with_word w.memory (Root x.root) link) setting_is target_is
 
-  pub went_promote : (m2 : Mem (Node K V)) (end : Copier × Outcome (Node K V) Table) → Steps Took value_at w.memory (promotes p) m2 end
+  pub went_promote : (m2 : Mem (Node K V)) (end : Copier × Yielding (Node K V) Table) → Steps Took value_at w.memory (promotes p) m2 end
       → CopierCame same hash caller setting w c blocks (AloneBlocking c p at.Promotes) m2 end
   went_promote m2 end s =
       elim (exchanged w.memory (promoted p) (Root p.setting.root) p.source.link p.target.link m2 end s) as (λ _. CopierCame same hash caller setting w c blocks (AloneBlocking c p at.Promotes) m2 end) [

@@ -8,8 +8,8 @@ use Rattle.map_rule.proofs.Given.SeizeWordsOneOwner.Operations.{loaded}
 use Rattle.map_rule.proofs.Given.SeizeWordsPlans.{ends_if}
 use Rattle.papaya_raw.specs.Given.SeizeWorld.{World}
 use Rattle.papaya_raw.specs.Given.TablesDeclared.node.Node.{Node}
-use Rattle.map_rule.specs.Given.ResizeDeclared.outcome.Outcome.{Outcome}
-use Rattle.map_rule.specs.Given.ResizeDeclared.outcome.Outcome.TheVariants.{Goes, Waits}
+use Rattle.map_rule.specs.Given.ResizeDeclared.yielding.Yielding.{Yielding}
+use Rattle.map_rule.specs.Given.ResizeDeclared.yielding.Yielding.TheVariants.{Goes, Waits}
 use Rattle.papaya_raw.specs.Given.TablesDeclared.setting.Setting.{Setting}
 use Rattle.papaya_raw.specs.Given.TablesDeclared.status.TheConstants.Status.{ABORTED, PROMOTED}
 use Rattle.papaya_raw.specs.Given.TablesDeclared.table.Table.{Table}
@@ -36,10 +36,10 @@ use Rattle.map_facts.proofs.Blocking.Targets.{status_is, claim_is}
 module _ {K V : Type 0} (same : K → K → Bool) (hash : K → ℕ) (caller : ℕ) (setting : Setting) (w : World (Node K V)) (c : Chart K) (blocks : Blocks)
     (map : IsMapIn same hash setting w c blocks) (p : Copier) (facts : CopierFactsBlocking same hash w caller setting c blocks p) where
   -- from this point
-  abbrev CameTo : Point → Mem (Node K V) → Copier × Outcome (Node K V) Table → Type 0
+  abbrev CameTo : Point → Mem (Node K V) → Copier × Yielding (Node K V) Table → Type 0
   CameTo stands = CopierCame same hash caller setting w c blocks (AloneBlocking c p stands)
 
-  goes : (stands : Point) (m2 : Mem (Node K V)) (end : Copier × Outcome (Node K V) Table) (q : Copier) → m2 ≡ w.memory → end ≡ (q, Goes) → q.setting ≡ setting
+  goes : (stands : Point) (m2 : Mem (Node K V)) (end : Copier × Yielding (Node K V) Table) (q : Copier) → m2 ≡ w.memory → end ≡ (q, Goes) → q.setting ≡ setting
       → CopyingFactsBlocking same hash w caller setting c blocks q q.stands
       → (AloneBlocking c p stands → AloneBlocking c q q.stands) → CameTo stands m2 end
   goes stands = copier_goes same hash caller setting w c blocks (AloneBlocking c p stands) map
@@ -48,7 +48,7 @@ module _ {K V : Type 0} (same : K → K → Bool) (hash : K → ℕ) (caller : �
     target_turn : p.target.turn ≡ t
     target_turn = turn_is hash w.memory c blocks setting.root map.map.shows p.target t rests.0.2
 
-    pub went_ask : is_incremental setting.mode ≡ false → (m2 : Mem (Node K V)) (end : Copier × Outcome (Node K V) Table) → Steps Took value_at w.memory (asks p) m2 end → CameTo at.Asks m2 end
+    pub went_ask : is_incremental setting.mode ≡ false → (m2 : Mem (Node K V)) (end : Copier × Yielding (Node K V) Table) → Steps Took value_at w.memory (asks p) m2 end → CameTo at.Asks m2 end
     went_ask blocking m2 end s =
         let read = loaded w.memory (status_read p) (at_word p.target STATUS) m2 end s in
         by_promoted read.0 (cc (read.1, status_is same hash setting w c blocks map p t rests.0.2)) read.2 (ends_if (value_at w.memory) (read.0 == PROMOTED) _ _ end read.3)
@@ -76,7 +76,7 @@ module _ {K V : Type 0} (same : K → K → Bool) (hash : K → ℕ) (caller : �
         by_promoted status e still (inl a) = absurd (map.map.rule.common.pending t rests.0.1 (sym e ∙ eqb-true status PROMOTED a.0))
         by_promoted status e still (inr a) = by_aborted status e still (ends_if (value_at w.memory) (status == ABORTED) _ _ end a.1)
 
-    pub went_see : (m2 : Mem (Node K V)) (end : Copier × Outcome (Node K V) Table) → Steps Took value_at w.memory (sees p) m2 end → CameTo at.Sees m2 end
+    pub went_see : (m2 : Mem (Node K V)) (end : Copier × Yielding (Node K V) Table) → Steps Took value_at w.memory (sees p) m2 end → CameTo at.Sees m2 end
     went_see m2 end s =
         let read = loaded w.memory (claim_read p) (at_word p.target CLAIM) m2 end s in
         by_claim read.0 (cc (read.1, claim_is same hash setting w c blocks map p t rests.0.2)) read.2 (ends_if (value_at w.memory) (nat_lt read.0 p.source.len) _ _ end read.3)

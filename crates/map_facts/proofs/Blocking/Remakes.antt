@@ -6,14 +6,14 @@ use Rattle.map_rule.specs.Given.SeizeWordsMem.{Mem, Can, Took, value_at}
 use Rattle.map_rule.specs.Given.SeizeWordsPlan.{May, Steps}
 use Rattle.map_rule.proofs.Given.SeizeWordsPlans.{as_may}
 use Rattle.papaya_raw.specs.Given.SeizeWorld.{World}
-use Rattle.papaya_raw.specs.Given.SeizeDeclared.progress.Progress.{Progress}
-use Rattle.papaya_raw.specs.Given.SeizeDeclared.progress.Progress.TheVariants as progress
+use Rattle.papaya_raw.specs.Given.SeizeDeclared.advance.Advance.{Advance}
+use Rattle.papaya_raw.specs.Given.SeizeDeclared.advance.Advance.TheVariants as progress
 use Rattle.map_rule.proofs.Given.SeizeRuleRows.Leaving.{steps_back}
 use Rattle.papaya_raw.specs.Given.TablesChunks.{is_incremental}
 use Rattle.map_rule.specs.Given.ResizeNewTable.{new_table_plan}
 use Rattle.map_rule.specs.Given.ResizeCopierFurther.{remade, remakes}
 use Rattle.papaya_raw.specs.Given.TablesDeclared.node.Node.{Node}
-use Rattle.map_rule.specs.Given.ResizeDeclared.outcome.Outcome.{Outcome}
+use Rattle.map_rule.specs.Given.ResizeDeclared.yielding.Yielding.{Yielding}
 use Rattle.papaya_raw.specs.Given.TablesDeclared.setting.Setting.{Setting}
 use Rattle.papaya_raw.specs.Given.TablesDeclared.status.TheConstants.Status.{PENDING, ABORTED, PROMOTED}
 use Rattle.papaya_raw.specs.Given.TablesDeclared.table.Table.{Table}
@@ -59,7 +59,7 @@ module _ {K V : Type 0} (same : K → K → Bool) (hash : K → ℕ) (caller : �
         rests.2,
       )
 
-      remade_told : (end : NewTable × Progress Table) → NewTableTold w2 caller setting chart blocks2 (Word (blocks2.table t) NEXT) (suc t) end
+      remade_told : (end : NewTable × Advance Table) → NewTableTold w2 caller setting chart blocks2 (Word (blocks2.table t) NEXT) (suc t) end
           → CopierToldBlocking w2 caller setting chart blocks2 same hash (remade p end)
       remade_told (n, progress.Goes) told =
           record { setting_is = setting_is; point = (t, rests_longer, status_same t rests.0.2.made ∙ aborted, told) }
@@ -71,20 +71,20 @@ module _ {K V : Type 0} (same : K → K → Bool) (hash : K → ℕ) (caller : �
           }
       remade_told (n, progress.Refused fault) told = record { setting_is = setting_is; point = rests.2 }
 
-      longer_told : (end : NewTable × Progress Table) → NewTableTold w2 caller setting chart blocks2 (Word (blocks.table t) NEXT) (suc t) end
+      longer_told : (end : NewTable × Advance Table) → NewTableTold w2 caller setting chart blocks2 (Word (blocks.table t) NEXT) (suc t) end
           → CopierToldBlocking w2 caller setting chart blocks2 same hash (remade p end)
       longer_told end told =
           remade_told end (subst (λ (b : ℕ). NewTableTold w2 caller setting chart blocks2 (Word b NEXT) (suc t) end) (sym (blocks_same.tables t rests.0.2.made rests.0.2.known).0) told)
 
     -- where it is alone
-    found_alone : (end : NewTable × Progress Table) → NewTableTold w2 caller setting c blocks2 (Word (blocks.table t) NEXT) (suc t) end
+    found_alone : (end : NewTable × Advance Table) → NewTableTold w2 caller setting c blocks2 (Word (blocks.table t) NEXT) (suc t) end
         → OthersIdle caller c × AloneBlocking c p (at.Remakes making) → LeadsAlone c caller (remade {K = K} {V = V} p end)
     found_alone (n, progress.Goes) told a = a
     found_alone (n, progress.Waits) told a = absurd told
     found_alone (n, progress.Done table) told a = (a.0, (a.1.0, a.1.1, λ spent. absurd (cc (spent, a.1.2))))
     found_alone (n, progress.Refused fault) told a = (a.0, (a.1.0, a.1.1))
 
-    linked_alone : (blocking : is_incremental setting.mode ≡ false) (into : Table) (end : NewTable × Progress Table) → end.1 ≡ progress.Done into
+    linked_alone : (blocking : is_incremental setting.mode ≡ false) (into : Table) (end : NewTable × Advance Table) → end.1 ≡ progress.Done into
         → OthersIdle caller c × AloneBlocking c p (at.Remakes making)
         → LeadsAlone (after (spot_of hash) (is_incremental setting.mode) (Links into.len into.limit) c) caller (remade {K = K} {V = V} p end)
     linked_alone blocking into (n, progress.Goes) done a = absurd (cc done)
@@ -102,7 +102,7 @@ module _ {K V : Type 0} (same : K → K → Bool) (hash : K → ℕ) (caller : �
         rule_blocking = subst (λ (b : Bool). Rule same (spot_of hash) b c) blocking map.map.rule
     linked_alone blocking into (n, progress.Refused fault) done a = absurd (cc done)
 
-    linked_told : (blocking : is_incremental setting.mode ≡ false) (end : NewTable × Progress Table) (c2 : Chart K) → LinksLast hash setting.mode (suc t) c c2 end
+    linked_told : (blocking : is_incremental setting.mode ≡ false) (end : NewTable × Advance Table) (c2 : Chart K) → LinksLast hash setting.mode (suc t) c c2 end
         → NewTableTold w2 caller setting c2 blocks2 (Word (blocks.table t) NEXT) (suc t) end
         → (c2.current ≡ c.current) × CopierToldBlocking w2 caller setting c2 blocks2 same hash (remade p end)
         × (OthersIdle caller c × AloneBlocking c p (at.Remakes making) → LeadsAlone c2 caller (remade {K = K} {V = V} p end))
@@ -136,7 +136,7 @@ module _ {K V : Type 0} (same : K → K → Bool) (hash : K → ℕ) (caller : �
         as_may (remade p) Can Took value_at w.memory (new_table_plan making)
         (may_new_table same hash w setting c blocks map caller (Word (blocks.table t) NEXT) (suc t) initial making facts)
 
-    pub went_remake : IsLawful same (spot_of hash) → is_incremental setting.mode ≡ false → (m2 : Mem (Node K V)) (end : Copier × Outcome (Node K V) Table) → Steps Took value_at w.memory (remakes p making) m2 end
+    pub went_remake : IsLawful same (spot_of hash) → is_incremental setting.mode ≡ false → (m2 : Mem (Node K V)) (end : Copier × Yielding (Node K V) Table) → Steps Took value_at w.memory (remakes p making) m2 end
         → CopierCame same hash caller setting w c blocks (AloneBlocking c p (at.Remakes making)) m2 end
     went_remake lawful blocking m2 end s =
         let b = steps_back (remade p) w.memory m2 (new_table_plan making) end s in
@@ -158,6 +158,6 @@ module _ {K V : Type 0} (same : K → K → Bool) (hash : K → ℕ) (caller : �
           moved = g.moved;
           map = g.map;
           blocks_same = g.blocks_same;
-          told = subst (λ (x : Copier × Outcome (Node K V) Table). CopierTells same hash caller setting w c blocks (AloneBlocking c p (at.Remakes making)) x g.w2 g.c2 g.blocks2) (sym b.2)
+          told = subst (λ (x : Copier × Yielding (Node K V) Table). CopierTells same hash caller setting w c blocks (AloneBlocking c p (at.Remakes making)) x g.w2 g.c2 g.blocks2) (sym b.2)
               ((g.told.0, l.0, l.1), l.2);
         }

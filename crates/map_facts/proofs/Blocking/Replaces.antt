@@ -14,8 +14,8 @@ use Rattle.papaya_raw.specs.Given.TablesNodes.{table_seen}
 use Rattle.map_rule.specs.Given.ResizeNewTable.{table_after}
 use Rattle.papaya_raw.specs.Given.TablesDeclared.lengths.Reason.TheVariants.{NoPlace}
 use Rattle.papaya_raw.specs.Given.TablesDeclared.node.Node.{Node}
-use Rattle.map_rule.specs.Given.ResizeDeclared.outcome.Outcome.{Outcome}
-use Rattle.map_rule.specs.Given.ResizeDeclared.outcome.Outcome.TheVariants.{Goes}
+use Rattle.map_rule.specs.Given.ResizeDeclared.yielding.Yielding.{Yielding}
+use Rattle.map_rule.specs.Given.ResizeDeclared.yielding.Yielding.TheVariants.{Goes}
 use Rattle.papaya_raw.specs.Given.TablesDeclared.setting.Setting.{Setting}
 use Rattle.papaya_raw.specs.Given.TablesDeclared.status.TheConstants.Status.{ABORTED}
 use Rattle.papaya_raw.specs.Given.TablesDeclared.table.Table.{Table}
@@ -38,7 +38,7 @@ use Rattle.map_facts.proofs.Blocking.Targets.{leads_to_table, table_behind}
 module _ {K V : Type 0} (same : K → K → Bool) (hash : K → ℕ) (caller : ℕ) (setting : Setting) (w : World (Node K V)) (c : Chart K) (blocks : Blocks)
     (map : IsMapIn same hash setting w c blocks) (blocking : is_incremental setting.mode ≡ false) (initial : IsPowerOfTwo setting.initial) (p : Copier) (setting_is : p.setting ≡ setting)
     (t : ℕ) (rests : RestsIn same hash w caller setting c blocks p t) (aborted : c.status t ≡ ABORTED) where
-  pub went_replace : (m2 : Mem (Node K V)) (end : Copier × Outcome (Node K V) Table) → Steps Took value_at w.memory (replaces p) m2 end
+  pub went_replace : (m2 : Mem (Node K V)) (end : Copier × Yielding (Node K V) Table) → Steps Took value_at w.memory (replaces p) m2 end
       → CopierCame same hash caller setting w c blocks (AloneBlocking c p at.Replaces) m2 end
   went_replace m2 end s =
       let read = loaded w.memory (replacement_read p) (at_word p.target NEXT) m2 end s in

@@ -19,8 +19,8 @@ use Rattle.papaya_raw.specs.Given.TablesDeclared.table.Table.{Table}
 use Rattle.map_rule.specs.Given.ResizeCopierMarks.{is_mine, without_copying, probing, key_hash, marked as marked_then, marks}
 use Rattle.map_rule.specs.Given.ResizeCopierStates.{place_done}
 use Rattle.map_rule.specs.Given.ResizeDeclared.copier.Copier.{Copier}
-use Rattle.map_rule.specs.Given.ResizeDeclared.outcome.Outcome.{Outcome}
-use Rattle.map_rule.specs.Given.ResizeDeclared.outcome.Outcome.TheVariants.{Goes}
+use Rattle.map_rule.specs.Given.ResizeDeclared.yielding.Yielding.{Yielding}
+use Rattle.map_rule.specs.Given.ResizeDeclared.yielding.Yielding.TheVariants.{Goes}
 use Rattle.map_rule.specs.Chart.{Phase, Place, Holds, Chart}
 use Rattle.map_rule.specs.InWorld.{IsMapIn}
 use Rattle.map_rule.specs.Maps.{spot_of, IsTable}
@@ -78,13 +78,13 @@ module _ {K V : Type 0} (same : K → K → Bool) (hash : K → ℕ) (fits : (k 
           (λ other. absurd (cc (other, is_its_own)))
 
   -- what is done with a place without a pair, or with its pair
-  abbrev pub MarkTells : Copier × Outcome (Node K V) Table → Type 0
+  abbrev pub MarkTells : Copier × Yielding (Node K V) Table → Type 0
   MarkTells end =
       (((n : ℕ) (phase : Phase) (borrowed : Bool) → place ≢ Holds n phase borrowed) × (end ≡ (place_done p, Goes)))
       ⊎ ((n : ℕ) × (phase : Phase) × (borrowed : Bool) × (place ≡ Holds n phase borrowed) × (k : K) × (c.key n ≡ Some k)
       × (code : ℕ) × (code ≡ hash k) × (end ≡ (probing p (without_copying word) code p.target, Goes)))
 
-  pub mark_tells : (m2 : Mem (Node K V)) (end : Copier × Outcome (Node K V) Table) → Steps Took value_at w.memory (marks hash p) m2 end
+  pub mark_tells : (m2 : Mem (Node K V)) (end : Copier × Yielding (Node K V) Table) → Steps Took value_at w.memory (marks hash p) m2 end
       → (m2 ≡ marked_memory) × MarkTells end
   mark_tells m2 end s =
       let or = ored w.memory (marked_then hash p) (at_place p.source p.place) COPYING m2 end s in

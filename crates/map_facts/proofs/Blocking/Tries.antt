@@ -14,8 +14,8 @@ use Rattle.papaya_raw.specs.Given.TablesMarks.{unmarked_in}
 use Rattle.papaya_raw.specs.Given.TablesProbes.{probe_after}
 use Rattle.papaya_raw.specs.Given.TablesTrials.{trial_at}
 use Rattle.papaya_raw.specs.Given.TablesDeclared.node.Node.{Node}
-use Rattle.map_rule.specs.Given.ResizeDeclared.outcome.Outcome.{Outcome}
-use Rattle.map_rule.specs.Given.ResizeDeclared.outcome.Outcome.TheVariants.{Goes}
+use Rattle.map_rule.specs.Given.ResizeDeclared.yielding.Yielding.{Yielding}
+use Rattle.map_rule.specs.Given.ResizeDeclared.yielding.Yielding.TheVariants.{Goes}
 use Rattle.papaya_raw.specs.Given.TablesDeclared.probe.Probe.{Probe}
 use Rattle.papaya_raw.specs.Given.TablesDeclared.setting.Setting.{Setting}
 use Rattle.papaya_raw.specs.Given.TablesDeclared.table.Table.{Table}
@@ -94,7 +94,7 @@ module _ {K V : Type 0} (same : K → K → Bool) (hash : K → ℕ) (caller : �
   abbrev alone_here : Type 0
   alone_here = AloneBlocking c p (at.Probes pair code table probe)
 
-  module _ (m2 : Mem (Node K V)) (still : m2 ≡ w.memory) (end : Copier × Outcome (Node K V) Table) where
+  module _ (m2 : Mem (Node K V)) (still : m2 ≡ w.memory) (end : Copier × Yielding (Node K V) Table) where
     went_further : place_word hash c blocks place ≢ 0 → end ≡ (next_try p pair code table probe, Goes) → CopierCame same hash caller setting w c blocks alone_here m2 end
     went_further some ends =
         by_limit (nat_lt probe.len table.limit) refl
@@ -127,7 +127,7 @@ module _ {K V : Type 0} (same : K → K → Bool) (hash : K → ℕ) (caller : �
         by_limit false e next =
             went_lost same hash caller setting w c blocks map lawful blocking p setting_is t n k pair works m2 still end (ends ∙ rw (e, p_blocking) refl)
 
-  pub went_probe : (m2 : Mem (Node K V)) (end : Copier × Outcome (Node K V) Table) → Steps Took value_at w.memory (probes p pair code table probe) m2 end
+  pub went_probe : (m2 : Mem (Node K V)) (end : Copier × Yielding (Node K V) Table) → Steps Took value_at w.memory (probes p pair code table probe) m2 end
       → CopierCame same hash caller setting w c blocks alone_here m2 end
   went_probe m2 end s =
       let read = loaded w.memory (place_read p pair code table probe) at_try m2 end s in
@@ -188,7 +188,7 @@ module _ {K V : Type 0} (same : K → K → Bool) (hash : K → ℕ) (caller : �
           inl (inl (map.pairs o (subst (λ (x : ℕ). c.current x ≡ true) is current)))
       named u i o phase borrowed l made (inr old) e = map.named u i o phase borrowed l made (sym old ∙ e)
 
-  went_in : (m2 : Mem (Node K V)) → m2 ≡ put_memory → place_word hash c blocks place ≡ 0 → (end : Copier × Outcome (Node K V) Table) → end ≡ (pair_put p pair, Goes)
+  went_in : (m2 : Mem (Node K V)) → m2 ≡ put_memory → place_word hash c blocks place ≡ 0 → (end : Copier × Yielding (Node K V) Table) → end ≡ (pair_put p pair, Goes)
       → CopierCame same hash caller setting w c blocks alone_here m2 end
   went_in m2 m2_is empty end ends =
       let on = goes_on same hash caller setting w (record w { memory = put_memory }) c blocks p setting_is (map.map.shows.sized c.first works.copies.0.made).most t works.copies works.has_done
@@ -205,7 +205,7 @@ module _ {K V : Type 0} (same : K → K → Bool) (hash : K → ℕ) (caller : �
       is_empty : c.place t spot ≡ Empty false
       is_empty = try_empty same hash setting w c blocks map code table probe t k j code_is trial empty
 
-  pub went_put : (m2 : Mem (Node K V)) (end : Copier × Outcome (Node K V) Table) → Steps Took value_at w.memory (puts p pair code table probe) m2 end
+  pub went_put : (m2 : Mem (Node K V)) (end : Copier × Yielding (Node K V) Table) → Steps Took value_at w.memory (puts p pair code table probe) m2 end
       → CopierCame same hash caller setting w c blocks alone_here m2 end
   went_put m2 end s =
       elim (exchanged w.memory (put_told p pair code table probe) at_try 0 (copied_word p pair) m2 end s) as (λ _. CopierCame same hash caller setting w c blocks alone_here m2 end) [

@@ -5,8 +5,8 @@ use Rattle.map_rule.specs.Given.SeizeWordsMem.{Mem, value_at, Took}
 use Rattle.map_rule.specs.Given.SeizeWordsPlan.{Steps}
 use Rattle.map_rule.proofs.Given.SeizeRuleRows.Leaving.{steps_back}
 use Rattle.papaya_raw.specs.Given.SeizeWorld.{World}
-use Rattle.papaya_raw.specs.Given.SeizeDeclared.progress.Progress.{Progress}
-use Rattle.papaya_raw.specs.Given.SeizeDeclared.progress.Progress.TheVariants as progress
+use Rattle.papaya_raw.specs.Given.SeizeDeclared.advance.Advance.{Advance}
+use Rattle.papaya_raw.specs.Given.SeizeDeclared.advance.Advance.TheVariants as progress
 use Rattle.papaya_raw.specs.Call.{looks_for, looked, looks}
 use Rattle.papaya_raw.specs.CallPoints.{told_answer}
 use Rattle.map_rule.specs.Given.ResizeLookup.{lookup_plan}
@@ -76,7 +76,7 @@ module _ {K V Q : Type 0} (same : K → K → Bool) (hash : K → ℕ) (asks : Q
     answered answer is = ((refl, s.idle, inl refl), λ other e. subst (λ (a : KeyAnswer). AnswersOf same hash asks w caller setting c blocks keys Unchanged a) (cc) is)
 
     -- a step of its lookup
-    pub looked_comes : (end : Lookup × Progress (Option ℕ)) → LookupTold same hash setting.mode setting.root keys p.hash c blocks end
+    pub looked_comes : (end : Lookup × Advance (Option ℕ)) → LookupTold same hash setting.mode setting.root keys p.hash c blocks end
         → Comes same hash asks caller setting keys w c blocks (looked p end)
     looked_comes (next, progress.Goes) told =
         goes same hash asks caller setting keys w c blocks p s p.trial p.helped (at.Looks next) (λ answer h. h)
@@ -87,7 +87,7 @@ module _ {K V Q : Type 0} (same : K → K → Bool) (hash : K → ℕ) (asks : Q
     looked_comes (next, progress.Refused fault) told = absurd told
 
     pub went_looks : (change : Change) (f : CallFacts same hash asks w caller setting c blocks keys change p) → change ≡ Unchanged
-        → ((m2 : Mem (Node K V)) (end : Lookup × Progress (Option ℕ)) → Steps Took value_at w.memory (lookup_plan (asks point.3) l) m2 end
+        → ((m2 : Mem (Node K V)) (end : Lookup × Advance (Option ℕ)) → Steps Took value_at w.memory (lookup_plan (asks point.3) l) m2 end
         → (m2 ≡ w.memory) × LookupTold same hash setting.mode setting.root keys p.hash c blocks end)
         → (m2 : Mem (Node K V)) (end : KeyCall K V Q × Called (Node K V)) → Steps Took value_at w.memory (looks asks p l) m2 end
         → CallWent same hash asks caller setting keys w c blocks map change p f m2 end

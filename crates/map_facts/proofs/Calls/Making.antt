@@ -6,8 +6,8 @@ use Rattle.map_rule.specs.Given.SeizeWordsMem.{Mem, value_at, Took}
 use Rattle.map_rule.specs.Given.SeizeWordsPlan.{Steps}
 use Rattle.map_rule.proofs.Given.SeizeRuleRows.Leaving.{steps_back}
 use Rattle.papaya_raw.specs.Given.SeizeWorld.{World}
-use Rattle.papaya_raw.specs.Given.SeizeDeclared.progress.Progress.{Progress}
-use Rattle.papaya_raw.specs.Given.SeizeDeclared.progress.Progress.TheVariants as progress
+use Rattle.papaya_raw.specs.Given.SeizeDeclared.advance.Advance.{Advance}
+use Rattle.papaya_raw.specs.Given.SeizeDeclared.advance.Advance.TheVariants as progress
 use Rattle.papaya_raw.specs.Given.TablesDeclared.resize_mode.ResizeMode.{ResizeMode}
 use Rattle.papaya_raw.specs.Given.TablesChunks.{is_incremental}
 use Rattle.papaya_raw.specs.Call.{first_made, firsts, next_made, allocs}
@@ -51,7 +51,7 @@ module _ {K V Q : Type 0} (same : K → K → Bool) (hash : K → ℕ) (asks : Q
       seeks : Seeking same hash asks caller setting keys w2 c2 blocks2 p
       seeks = seeking_lasts same hash asks caller setting keys w w2 c c2 blocks blocks2 spares p (idle_linked same hash caller setting lawful w c blocks map w2 c2 blocks2 links s.idle) s
 
-      first_comes : p.missing ≢ missing.Answers → (end : NewTable × Progress Table) → NewTableTold w2 caller setting c2 blocks2 (Root setting.root) 0 end
+      first_comes : p.missing ≢ missing.Answers → (end : NewTable × Advance Table) → NewTableTold w2 caller setting c2 blocks2 (Root setting.root) 0 end
           → Comes same hash asks caller setting keys w2 c2 blocks2 (first_made p end)
       first_comes puts (next, progress.Goes) told =
           goes same hash asks caller setting keys w2 c2 blocks2 p seeks p.trial p.helped (at.Firsts next) (λ answer h. h) (seeks.own, puts, told)
@@ -70,7 +70,7 @@ module _ {K V Q : Type 0} (same : K → K → Bool) (hash : K → ℕ) (asks : Q
               subst (λ (x : Bool). NoneBefore same hash x c2 keys told.0 0) (sym e) (λ k asked. ((λ g h. absurd (omega arith)), l))
       first_comes puts (next, progress.Refused fault) told = refuses same hash asks caller setting keys w2 c2 blocks2 p seeks fault
 
-      next_comes : (t : ℕ) → IsTable c2 blocks2 p.trial.table t → ShutUpTo same hash asks w2 caller setting c2 blocks2 keys Unchanged t → (end : NewTable × Progress Table)
+      next_comes : (t : ℕ) → IsTable c2 blocks2 p.trial.table t → ShutUpTo same hash asks w2 caller setting c2 blocks2 keys Unchanged t → (end : NewTable × Advance Table)
           → NewTableTold w2 caller setting c2 blocks2 (Word (blocks2.table t) NEXT) (suc t) end → Comes same hash asks caller setting keys w2 c2 blocks2 (next_made p end)
       next_comes t entered shut (next, progress.Goes) told =
           goes same hash asks caller setting keys w2 c2 blocks2 p seeks p.trial p.helped (at.Allocs next) (λ answer h. h) (seeks.own, t, (entered, shut), told)
@@ -87,7 +87,7 @@ module _ {K V Q : Type 0} (same : K → K → Bool) (hash : K → ℕ) (asks : Q
 
       -- what a step of the making of the next table tells of the call
       pub next_told : (w2 : World (Node K V)) (c2 : Chart K) (blocks2 : Blocks) → IsMapIn same hash setting w2 c2 blocks2 → Moved same hash setting.mode caller c c2 → SameBlocks c blocks blocks2
-          → (change : Change) → change ≡ Unchanged → (end : NewTable × Progress Table)
+          → (change : Change) → change ≡ Unchanged → (end : NewTable × Advance Table)
           → SparesPairs w w2 × OnlyLinks hash setting.mode c c2 × NewTableTold w2 caller setting c2 blocks2 (Word (blocks.table t) NEXT) (suc t) end
           → CallTold same hash asks caller setting keys c change p w2 c2 blocks2 (next_made p end).0 (next_made p end).1
       next_told w2 c2 blocks2 map2 moved same_blocks change unchanged end told =
@@ -99,7 +99,7 @@ module _ {K V Q : Type 0} (same : K → K → Bool) (hash : K → ℕ) (asks : Q
 
     module _ (change : Change) (f : CallFacts same hash asks w caller setting c blocks keys change p) (unchanged : change ≡ Unchanged) (m2 : Mem (Node K V)) (end : KeyCall K V Q × Called (Node K V)) where
       pub went_firsts : p.missing ≢ missing.Answers
-          → ((m2 : Mem (Node K V)) (end : NewTable × Progress Table) → Steps Took value_at w.memory (new_table_plan making) m2 end
+          → ((m2 : Mem (Node K V)) (end : NewTable × Advance Table) → Steps Took value_at w.memory (new_table_plan making) m2 end
           → Went same hash setting caller w c blocks m2 (λ w2 c2 blocks2. SparesPairs w w2 × OnlyLinks hash setting.mode c c2 × NewTableTold w2 caller setting c2 blocks2 (Root setting.root) 0 end))
           → Steps Took value_at w.memory (firsts p making) m2 end → CallWent same hash asks caller setting keys w c blocks map change p f m2 end
       went_firsts puts inner steps =
@@ -114,7 +114,7 @@ module _ {K V Q : Type 0} (same : K → K → Bool) (hash : K → ℕ) (asks : Q
           (inner m2 d.0 d.1))
 
       pub went_allocs : (t : ℕ) → IsTable c blocks p.trial.table t → ShutUpTo same hash asks w caller setting c blocks keys Unchanged t
-          → ((m2 : Mem (Node K V)) (end : NewTable × Progress Table) → Steps Took value_at w.memory (new_table_plan making) m2 end
+          → ((m2 : Mem (Node K V)) (end : NewTable × Advance Table) → Steps Took value_at w.memory (new_table_plan making) m2 end
           → Went same hash setting caller w c blocks m2 (λ w2 c2 blocks2. SparesPairs w w2 × OnlyLinks hash setting.mode c c2
           × NewTableTold w2 caller setting c2 blocks2 (Word (blocks.table t) NEXT) (suc t) end))
           → Steps Took value_at w.memory (allocs p making) m2 end → CallWent same hash asks caller setting keys w c blocks map change p f m2 end

@@ -13,7 +13,7 @@ use Rattle.papaya_raw.specs.declared.machines.asking.Asking.TheVariants as askin
 use Rattle.papaya_raw.specs.Given.TablesChunks.{is_incremental}
 use Rattle.map_rule.specs.Given.ResizeCopier.{copier_plan}
 use Rattle.papaya_raw.specs.Given.TablesDeclared.node.Node.{Node}
-use Rattle.map_rule.specs.Given.ResizeDeclared.outcome.Outcome.{Outcome}
+use Rattle.map_rule.specs.Given.ResizeDeclared.yielding.Yielding.{Yielding}
 use Rattle.papaya_raw.specs.Given.TablesDeclared.setting.Setting.{Setting}
 use Rattle.papaya_raw.specs.Given.TablesDeclared.table.Table.{Table}
 use Rattle.papaya_raw.specs.Given.TablesDeclared.table_words.TheConstants.{NEXT}
@@ -72,7 +72,7 @@ module _ {K V Q : Type 0} (same : K → K → Bool) (hash : K → ℕ) (asks : Q
 
   -- in incremental mode, a copier that copies no whole table goes on so
   went_part : (bits : is_incremental setting.mode ≡ true) (copier : Copier) → copier.whole ≡ false → CopierFacts same hash w caller setting c blocks copier
-      → (IsRowOfCopier copier.stands → ⊥) → (m2 : Mem (Node K V)) (end : Copier × Outcome (Node K V) Table) → Steps Took value_at w.memory (copier_plan hash copier) m2 end
+      → (IsRowOfCopier copier.stands → ⊥) → (m2 : Mem (Node K V)) (end : Copier × Yielding (Node K V) Table) → Steps Took value_at w.memory (copier_plan hash copier) m2 end
       → Went same hash setting caller w c blocks m2 (λ w2 c2 blocks2. SparesPairs w w2 × (c2.current ≡ c.current) × (end.0.whole ≡ false) × CopierTold w2 caller setting c2 blocks2 same hash end)
   went_part bits copier part facts none m2 end s =
       went_as same hash setting caller w c blocks m2

@@ -8,8 +8,8 @@ use Rattle.papaya_raw.specs.declared.machines.answer.End.TheVariants as ends
 use Rattle.papaya_raw.specs.declared.machines.answer.KeyAnswer.TheVariants as answers
 use Rattle.papaya_raw.specs.declared.machines.asking.Asking.TheVariants as asking
 use Rattle.papaya_raw.specs.declared.machines.asking.Gap.{Gap}
-use Rattle.papaya_raw.specs.declared.machines.asking.Reply.{Reply}
-use Rattle.papaya_raw.specs.declared.machines.asking.Reply.TheVariants as reply
+use Rattle.papaya_raw.specs.declared.machines.asking.MachineReply.{MachineReply}
+use Rattle.papaya_raw.specs.declared.machines.asking.MachineReply.TheVariants as reply
 use Rattle.papaya_raw.specs.declared.machines.asking.Takes.{Takes}
 use Rattle.papaya_raw.specs.declared.machines.asking.Takes.TheVariants as takes
 use Rattle.papaya_raw.specs.declared.machines.asking.Told.TheVariants as tells
@@ -42,7 +42,7 @@ module _ {K V Q : Type 0} (p : KeyCall K V Q) (So : KeyCall K V Q → Type 0) wh
     pub answers : (word : ℕ) → p.stands ≡ at.Asks (asking.Present word) → So (answering p (answers.Found word)).0
 
   module _ (so : IsSoOfAll) where
-    absent_so : (x : Takes) → p.replies.takes ≡ x → (gap : Gap) → p.stands ≡ at.Asks (asking.Absent gap) → (r : Reply V) → So (absent_told x p gap r).0
+    absent_so : (x : Takes) → p.replies.takes ≡ x → (gap : Gap) → p.stands ≡ at.Asks (asking.Absent gap) → (r : MachineReply V) → So (absent_told x p gap r).0
     absent_so takes.Values e gap here (reply.Insert value) = so.stores gap value here (subst TakesValues (sym e) tt)
     absent_so takes.Values e gap here reply.Remove = so.asks_on
     absent_so takes.Values e gap here reply.Abort = so.asks_on
@@ -56,7 +56,7 @@ module _ {K V Q : Type 0} (p : KeyCall K V Q) (So : KeyCall K V Q → Type 0) wh
     absent_so takes.Nothing e gap here r = so.asks_on
     absent_so takes.Choices e gap here r = so.asks_on
 
-    present_so : (x : Takes) → p.replies.takes ≡ x → (word : ℕ) → p.stands ≡ at.Asks (asking.Present word) → (r : Reply V) → So (present_told x p word r).0
+    present_so : (x : Takes) → p.replies.takes ≡ x → (word : ℕ) → p.stands ≡ at.Asks (asking.Present word) → (r : MachineReply V) → So (present_told x p word r).0
     present_so takes.Values e word here (reply.Insert value) = so.replaces word value here (subst TakesValues (sym e) tt)
     present_so takes.Values e word here reply.Remove = so.asks_on
     present_so takes.Values e word here reply.Abort = so.asks_on
@@ -74,7 +74,7 @@ module _ {K V Q : Type 0} (p : KeyCall K V Q) (So : KeyCall K V Q → Type 0) wh
     present_so takes.Choices e word here reply.Abort = so.asks_on
     present_so takes.Nothing e word here r = so.asks_on
 
-    told_so : (stands : Calling) → p.stands ≡ stands → (r : Reply V) → So (told_at stands p r).0
+    told_so : (stands : Calling) → p.stands ≡ stands → (r : MachineReply V) → So (told_at stands p r).0
     told_so (at.Asks (asking.Absent gap)) here r = absent_so p.replies.takes refl gap here r
     told_so (at.Asks (asking.Present word)) here r = present_so p.replies.takes refl word here r
     told_so (at.Asks (asking.Fills word)) here r = so.asks_on
@@ -94,5 +94,5 @@ module _ {K V Q : Type 0} (p : KeyCall K V Q) (So : KeyCall K V Q → Type 0) wh
     told_so (at.Drops end) here r = so.asks_on
     told_so (at.Over end) here r = so.asks_on
 
-    pub replied_so : (r : Reply V) → So (replied p r).0
+    pub replied_so : (r : MachineReply V) → So (replied p r).0
     replied_so r = told_so p.stands refl r

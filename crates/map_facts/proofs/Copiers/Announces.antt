@@ -17,8 +17,8 @@ use Rattle.papaya_raw.specs.Given.TablesTablePlaces.{at_word}
 use Rattle.map_rule.specs.Given.ResizeCopierStates.{standing}
 use Rattle.map_rule.specs.Given.ResizeCopierPromotes.{to, announces, succeeds, successor_read, retiring_table, also_retired}
 use Rattle.papaya_raw.specs.Given.TablesDeclared.node.Node.{Node}
-use Rattle.map_rule.specs.Given.ResizeDeclared.outcome.Outcome.{Outcome}
-use Rattle.map_rule.specs.Given.ResizeDeclared.outcome.Outcome.TheVariants as outcome
+use Rattle.map_rule.specs.Given.ResizeDeclared.yielding.Yielding.{Yielding}
+use Rattle.map_rule.specs.Given.ResizeDeclared.yielding.Yielding.TheVariants as outcome
 use Rattle.papaya_raw.specs.Given.TablesDeclared.setting.Setting.{Setting}
 use Rattle.papaya_raw.specs.Given.TablesDeclared.status.TheConstants.Status.{PROMOTED}
 use Rattle.papaya_raw.specs.Given.TablesDeclared.table.Table.{Table}
@@ -91,7 +91,7 @@ module _ {K V : Type 0} (same : K → K → Bool) (hash : K → ℕ) (setting : 
       );
     }
 
-    pub went_announces : IsLawful same (spot_of hash) → is_incremental setting.mode ≡ true → p.setting ≡ setting → (m2 : Mem (Node K V)) (end : Copier × Outcome (Node K V) Table)
+    pub went_announces : IsLawful same (spot_of hash) → is_incremental setting.mode ≡ true → p.setting ≡ setting → (m2 : Mem (Node K V)) (end : Copier × Yielding (Node K V) Table)
         → Steps Took value_at w.memory (announces p) m2 end → CopierMoved same hash caller setting w c blocks (MovedAnnounces hash caller c p) m2 end
     went_announces lawful bits setting_is m2 end s =
         let l = stored w.memory (λ out. to (standing p (at.Succeeds p.source.link))) (at_word p.target STATUS) PROMOTED m2 end s in
@@ -102,7 +102,7 @@ module _ {K V : Type 0} (same : K → K → Bool) (hash : K → ℕ) (setting : 
         (facts.0.1, facts.0.3.made, (rule_incremental same hash setting w c blocks map bits).in_mode.never_aborted turn)
         (status_written hash w.memory c blocks setting.root map.map.shows turn PROMOTED facts.0.3.made facts.0.3.known)
         refl hands refl end
-        (subst (λ (x : Copier × Outcome (Node K V) Table). CopierTold written caller setting chart blocks same hash x) (sym l.1) (told setting_is))
+        (subst (λ (x : Copier × Yielding (Node K V) Table). CopierTold written caller setting chart blocks same hash x) (sym l.1) (told setting_is))
 
   module _ (table : ℕ) (facts : CopyingFacts same hash w caller setting c blocks p (at.Succeeds table)) where
     -- the table that it has unlinked
@@ -129,7 +129,7 @@ module _ {K V : Type 0} (same : K → K → Bool) (hash : K → ℕ) (setting : 
             let target_is : p.target.link ≡ blocks.table (suc old) * 2048 = ap (λ (x : Table). x.link) facts.0.3.is in
             ap (λ (b : Bool). if b then 0 else link) (eq-eqb (link / 2048) (p.target.link / 2048) (ap (λ x. x / 2048) (there.0 ∙ sym target_is)))
 
-    pub went_succeeds : p.setting ≡ setting → (m2 : Mem (Node K V)) (end : Copier × Outcome (Node K V) Table)
+    pub went_succeeds : p.setting ≡ setting → (m2 : Mem (Node K V)) (end : Copier × Yielding (Node K V) Table)
         → Steps Took value_at w.memory (succeeds p table) m2 end → CopierPlain same hash caller setting w c blocks m2 end
     went_succeeds setting_is m2 end s =
         let l = loaded w.memory (successor_read p table) (Word (table / 2048) NEXT) m2 end s in
@@ -155,14 +155,14 @@ module _ {K V : Type 0} (same : K → K → Bool) (hash : K → ℕ) (setting : 
         table_is = facts.3 ∙ ap (λ (x : Table). x.link) facts.0.2.is
 
   -- it has ended, and does nothing more
-  pub went_over : HasDone same hash w caller setting c blocks 0 × ClaimsNone same hash w caller setting c blocks → (m2 : Mem (Node K V)) (end : Copier × Outcome (Node K V) Table)
+  pub went_over : HasDone same hash w caller setting c blocks 0 × ClaimsNone same hash w caller setting c blocks → (m2 : Mem (Node K V)) (end : Copier × Yielding (Node K V) Table)
       → Steps Took value_at w.memory (Turn (Now (p, outcome.Done p.target))) m2 end → CopierMoved same hash caller setting w c blocks (λ c2. c2 ≡ c) m2 end
   went_over facts m2 end s =
       copier_stays same hash caller setting w c blocks map (λ c2. c2 ≡ c) refl m2 s.0 end
-      (subst (λ (x : Copier × Outcome (Node K V) Table). CopierTold w caller setting c blocks same hash x) (sym s.1) facts)
+      (subst (λ (x : Copier × Yielding (Node K V) Table). CopierTold w caller setting c blocks same hash x) (sym s.1) facts)
 
-  pub went_refused : (fault : Fault) → HasDone same hash w caller setting c blocks 0 × ClaimsNone same hash w caller setting c blocks → (m2 : Mem (Node K V)) (end : Copier × Outcome (Node K V) Table)
+  pub went_refused : (fault : Fault) → HasDone same hash w caller setting c blocks 0 × ClaimsNone same hash w caller setting c blocks → (m2 : Mem (Node K V)) (end : Copier × Yielding (Node K V) Table)
       → Steps Took value_at w.memory (Turn (Now (p, outcome.Refused fault))) m2 end → CopierMoved same hash caller setting w c blocks (λ c2. c2 ≡ c) m2 end
   went_refused fault facts m2 end s =
       copier_stays same hash caller setting w c blocks map (λ c2. c2 ≡ c) refl m2 s.0 end
-      (subst (λ (x : Copier × Outcome (Node K V) Table). CopierTold w caller setting c blocks same hash x) (sym s.1) facts)
+      (subst (λ (x : Copier × Yielding (Node K V) Table). CopierTold w caller setting c blocks same hash x) (sym s.1) facts)

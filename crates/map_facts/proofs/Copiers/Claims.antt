@@ -17,8 +17,8 @@ use Rattle.papaya_raw.specs.Given.TablesDeclared.node.Node.{Node}
 use Rattle.papaya_raw.specs.Given.TablesDeclared.status.TheConstants.Status.{ABORTED, PROMOTED}
 use Rattle.papaya_raw.specs.Given.TablesDeclared.table.Table.{Table}
 use Rattle.papaya_raw.specs.Given.TablesDeclared.table_words.TheConstants.{CLAIM, STATUS}
-use Rattle.map_rule.specs.Given.ResizeDeclared.outcome.Outcome.{Outcome}
-use Rattle.map_rule.specs.Given.ResizeDeclared.outcome.Outcome.TheVariants.{Goes, Waits}
+use Rattle.map_rule.specs.Given.ResizeDeclared.yielding.Yielding.{Yielding}
+use Rattle.map_rule.specs.Given.ResizeDeclared.yielding.Yielding.TheVariants.{Goes, Waits}
 use Rattle.papaya_raw.specs.Given.TablesDeclared.setting.Setting.{Setting}
 use Rattle.map_rule.specs.Given.ResizeDeclared.copier.Copier.{Copier}
 use Rattle.map_rule.specs.Given.ResizeDeclared.copier.Copying.TheVariants as at
@@ -47,7 +47,7 @@ module _ {K V : Type 0} (same : K → K → Bool) (hash : K → ℕ) (caller : �
         (λ status read. see_if (value_at w.memory) (status == PROMOTED) _ _ (λ is. tt)
         (λ other. see_if (value_at w.memory) (status == ABORTED) _ _ (λ is. tt) (λ live. see_if (value_at w.memory) p.spent _ _ (λ is. tt) (λ still. tt))))
 
-    pub went_asks : p.stands ≡ at.Asks → (m2 : Mem (Node K V)) (end : Copier × Outcome (Node K V) Table) → Steps Took value_at w.memory (asks p) m2 end → CopierPlain same hash caller setting w c blocks m2 end
+    pub went_asks : p.stands ≡ at.Asks → (m2 : Mem (Node K V)) (end : Copier × Yielding (Node K V) Table) → Steps Took value_at w.memory (asks p) m2 end → CopierPlain same hash caller setting w c blocks m2 end
     went_asks stands m2 end steps =
         let s = loaded w.memory (status_read p) (at_word p.target STATUS) m2 end steps in
         copier_still same hash caller setting w c blocks map m2 s.2 end
@@ -78,7 +78,7 @@ module _ {K V : Type 0} (same : K → K → Bool) (hash : K → ℕ) (caller : �
         (is_some_of _ _ (claim_there hash w.memory c blocks setting.root map.map.shows p.target (suc f.0) f.1.1))
         (λ claim read. see_if (value_at w.memory) (nat_lt claim p.source.len) _ _ (λ some. tt) (λ none. tt))
 
-    pub went_sees : (m2 : Mem (Node K V)) (end : Copier × Outcome (Node K V) Table) → Steps Took value_at w.memory (sees p) m2 end → CopierPlain same hash caller setting w c blocks m2 end
+    pub went_sees : (m2 : Mem (Node K V)) (end : Copier × Yielding (Node K V) Table) → Steps Took value_at w.memory (sees p) m2 end → CopierPlain same hash caller setting w c blocks m2 end
     went_sees m2 end steps =
         let s = loaded w.memory (claim_read p) (at_word p.target CLAIM) m2 end steps in
         copier_still same hash caller setting w c blocks map m2 s.2 end (told (pick (nat_lt s.0 p.source.len) p.whole f.5 s.3))
@@ -103,7 +103,7 @@ module _ {K V : Type 0} (same : K → K → Bool) (hash : K → ℕ) (caller : �
         (λ claim read. see_if _ (nat_lt claim p.source.len) _ _ (λ some. tt) (λ none. tt))
 
     pub went_claims : IsLawful same (spot_of hash) → is_incremental setting.mode ≡ true
-        → (m2 : Mem (Node K V)) (end : Copier × Outcome (Node K V) Table) → Steps Took value_at w.memory (claims p) m2 end → CopierPlain same hash caller setting w c blocks m2 end
+        → (m2 : Mem (Node K V)) (end : Copier × Yielding (Node K V) Table) → Steps Took value_at w.memory (claims p) m2 end → CopierPlain same hash caller setting w c blocks m2 end
     went_claims lawful bits m2 end steps =
         let s = added w.memory (claimed p) (at_word p.target CLAIM) (chunk p) m2 end steps in
         wrote ((s.0 + chunk p) % 2 ^ 64) s.0 s.1 s.2 refl (pick (with_word w.memory (at_word p.target CLAIM) ((s.0 + chunk p) % 2 ^ 64)) s.0 (nat_lt s.0 p.source.len) p.whole f.5 s.3)

@@ -7,8 +7,8 @@ use Rattle.map_rule.specs.Given.SeizeWordsMem.{Mem, Gives, word_at, with_word, a
 use Rattle.papaya_raw.specs.Given.SeizeWorld.{World}
 use Rattle.papaya_raw.specs.Given.TablesChunks.{is_incremental}
 use Rattle.papaya_raw.specs.Given.TablesDeclared.node.Node.{Node}
-use Rattle.map_rule.specs.Given.ResizeDeclared.outcome.Outcome.{Outcome}
-use Rattle.map_rule.specs.Given.ResizeDeclared.outcome.Outcome.TheVariants.{Goes}
+use Rattle.map_rule.specs.Given.ResizeDeclared.yielding.Yielding.{Yielding}
+use Rattle.map_rule.specs.Given.ResizeDeclared.yielding.Yielding.TheVariants.{Goes}
 use Rattle.papaya_raw.specs.Given.TablesDeclared.setting.Setting.{Setting}
 use Rattle.papaya_raw.specs.Given.TablesDeclared.table.Table.{Table}
 use Rattle.map_rule.specs.Given.ResizeDeclared.copier.Copier.{Copier}
@@ -56,7 +56,7 @@ module _ {K V : Type 0} (same : K → K → Bool) (hash : K → ℕ) (caller : �
     pub copier_wrote : (op : Op (Node K V)) (out : Out (Node K V)) (at : At) (word : ℕ) → MayWriteBy setting caller w c blocks op at → IsSome (word_at w.memory at)
         → (m2 : Mem (Node K V)) → Gives w.memory op out → m2 ≡ with_word w.memory at word → with_word w.memory at word ≡ mem_after w.memory op out
         → moved_chart.past ≡ c.past → Shows hash (with_word w.memory at word) moved_chart blocks setting.root → Hands same hash setting w moved_chart blocks → moved_chart.current ≡ c.current
-        → (end : Copier × Outcome (Node K V) Table) (p : Copier) → end ≡ (p, Goes) → p.setting ≡ setting
+        → (end : Copier × Yielding (Node K V) Table) (p : Copier) → end ≡ (p, Goes) → p.setting ≡ setting
         → CopyingFactsBlocking same hash (record w { memory = with_word w.memory at word }) caller setting moved_chart blocks p p.stands
         → (Alone → AloneBlocking moved_chart p p.stands)
         → CopierCame same hash caller setting w c blocks Alone m2 end
@@ -73,7 +73,7 @@ module _ {K V : Type 0} (same : K → K → Bool) (hash : K → ℕ) (caller : �
     -- no word was written
     pub copier_moved : (m2 : Mem (Node K V)) → m2 ≡ w.memory
         → moved_chart.past ≡ c.past → Shows hash w.memory moved_chart blocks setting.root → Hands same hash setting w moved_chart blocks → moved_chart.current ≡ c.current
-        → (end : Copier × Outcome (Node K V) Table) (p : Copier) → end ≡ (p, Goes) → p.setting ≡ setting
+        → (end : Copier × Yielding (Node K V) Table) (p : Copier) → end ≡ (p, Goes) → p.setting ≡ setting
         → CopyingFactsBlocking same hash w caller setting moved_chart blocks p p.stands
         → (Alone → AloneBlocking moved_chart p p.stands)
         → CopierCame same hash caller setting w c blocks Alone m2 end

@@ -12,7 +12,7 @@ use Rattle.papaya_raw.specs.Given.TablesTablePlaces.{at_word}
 use Rattle.papaya_raw.specs.Given.TablesDeclared.node.Node.{Node}
 use Rattle.papaya_raw.specs.Given.TablesDeclared.table.Table.{Table}
 use Rattle.papaya_raw.specs.Given.TablesDeclared.table_words.TheConstants.{COPIED}
-use Rattle.map_rule.specs.Given.ResizeDeclared.outcome.Outcome.{Outcome}
+use Rattle.map_rule.specs.Given.ResizeDeclared.yielding.Yielding.{Yielding}
 use Rattle.papaya_raw.specs.Given.TablesDeclared.setting.Setting.{Setting}
 use Rattle.map_rule.specs.Given.ResizeDeclared.copier.Copier.{Copier}
 use Rattle.map_rule.specs.Chart.{Share, Claimed, Chart, put}
@@ -79,7 +79,7 @@ module _ {K V : Type 0} (same : K → K → Bool) (hash : K → ℕ) (caller : �
       (λ j e. old j (claimed_counted caller caller (c.share (suc c.first) j) e))
 
   -- what the step comes to
-  pub count_wrote : IsLawful same (spot_of hash) → is_incremental setting.mode ≡ true → (m2 : Mem (Node K V)) (end : Copier × Outcome (Node K V) Table) (found : ℕ)
+  pub count_wrote : IsLawful same (spot_of hash) → is_incremental setting.mode ≡ true → (m2 : Mem (Node K V)) (end : Copier × Yielding (Node K V) Table) (found : ℕ)
       → word_at w.memory (at_word p.target COPIED) ≡ Some found → m2 ≡ with_word w.memory (at_word p.target COPIED) ((found + p.done) % 2 ^ 64)
       → (found ≡ c.copied (suc c.first)
       → CopierTold (counted_world w c p) caller setting (counted_chart caller c p) blocks same hash end)

@@ -15,8 +15,8 @@ use Rattle.papaya_raw.specs.Given.TablesDeclared.marks.TheConstants.{COPYING}
 use Rattle.papaya_raw.specs.Given.TablesDeclared.node.Node.{Node}
 use Rattle.papaya_raw.specs.Given.TablesDeclared.node.Node.TheVariants as node
 use Rattle.papaya_raw.specs.Given.TablesDeclared.table.Table.{Table}
-use Rattle.map_rule.specs.Given.ResizeDeclared.outcome.Outcome.{Outcome}
-use Rattle.map_rule.specs.Given.ResizeDeclared.outcome.Outcome.TheVariants.{Goes}
+use Rattle.map_rule.specs.Given.ResizeDeclared.yielding.Yielding.{Yielding}
+use Rattle.map_rule.specs.Given.ResizeDeclared.yielding.Yielding.TheVariants.{Goes}
 use Rattle.papaya_raw.specs.Given.TablesDeclared.setting.Setting.{Setting}
 use Rattle.map_rule.specs.Given.ResizeDeclared.copier.Copier.{Copier}
 use Rattle.map_rule.specs.Chart.{Phase, Still, Copying, Copied, Place, Empty, Tombstone, Holds, Free, Done, Chart, put_in, is_marked, is_settled}
@@ -73,7 +73,7 @@ module _ {K V : Type 0} (same : K → K → Bool) (hash : K → ℕ) (caller : �
     chart_marked place = record c { place = put_in c.place c.first p.place (marked place); share = put_in c.share (suc c.first) p.place (share_of caller place) }
 
     -- an empty place or a tombstone is done
-    vacant : (word : ℕ) → word / 2048 ≡ 0 → (m : Mem (Node K V)) (end : Copier × Outcome (Node K V) Table) → Ends (value_at m) (mine_marked hash p word) end → end ≡ (place_done p, Goes)
+    vacant : (word : ℕ) → word / 2048 ≡ 0 → (m : Mem (Node K V)) (end : Copier × Yielding (Node K V) Table) → Ends (value_at m) (mine_marked hash p word) end → end ≡ (place_done p, Goes)
     vacant word none_there m end = at (word / 2048 == 0) (eq-eqb (word / 2048) 0 none_there)
       where
         at : (b : Bool) → b ≡ true
@@ -83,7 +83,7 @@ module _ {K V : Type 0} (same : K → K → Bool) (hash : K → ℕ) (caller : �
         at false e ends = absurd (cc e)
 
     -- a pair is looked at
-    holding : (word : ℕ) → word / 2048 ≢ 0 → (m : Mem (Node K V)) (end : Copier × Outcome (Node K V) Table) → Ends (value_at m) (mine_marked hash p word) end
+    holding : (word : ℕ) → word / 2048 ≢ 0 → (m : Mem (Node K V)) (end : Copier × Yielding (Node K V) Table) → Ends (value_at m) (mine_marked hash p word) end
         → (value : Node K V) × (value_at m (word / 2048) ≡ Some value) × (end ≡ (probing p (without_copying word) (key_hash hash value) p.target, Goes))
     holding word some m end = at (word / 2048 == 0) (ne_eqb (word / 2048) 0 some)
       where
@@ -94,7 +94,7 @@ module _ {K V : Type 0} (same : K → K → Bool) (hash : K → ℕ) (caller : �
         at false e ends = ends
 
     -- where nothing is left to be copied, the place is done
-    told_done : (place : Place) → (end : Copier × Outcome (Node K V) Table) → end ≡ (place_done p, Goes) → is_settled place ≡ true
+    told_done : (place : Place) → (end : Copier × Yielding (Node K V) Table) → end ≡ (place_done p, Goes) → is_settled place ≡ true
         → CopierTold world_marked caller setting (record c { place = put_in c.place c.first p.place place; share = put_in c.share (suc c.first) p.place (Done caller) }) blocks same hash end
     told_done place end e over =
         subst (CopierTold world_marked caller setting (record c { place = put_in c.place c.first p.place place; share = put_in c.share (suc c.first) p.place (Done caller) }) blocks same hash) (sym e)
@@ -102,7 +102,7 @@ module _ {K V : Type 0} (same : K → K → Bool) (hash : K → ℕ) (caller : �
         (map.map.shows.sized c.first copies.0.made).most world_marked)
 
     -- a pair is to be put into the table behind
-    probing_told : (n : ℕ) (borrowed : Bool) → c.place c.first p.place ≡ Holds n Still borrowed → (k : K) → c.key n ≡ Some k → (end : Copier × Outcome (Node K V) Table) (word : ℕ)
+    probing_told : (n : ℕ) (borrowed : Bool) → c.place c.first p.place ≡ Holds n Still borrowed → (k : K) → c.key n ≡ Some k → (end : Copier × Yielding (Node K V) Table) (word : ℕ)
         → word ≡ place_word hash c blocks (Holds n Still borrowed) → end ≡ (probing p (without_copying word) (hash k) p.target, Goes)
         → CopierTold world_marked caller setting (chart_marked (Holds n Still borrowed)) blocks same hash end
     probing_told n borrowed e k key end word is_word ends =
@@ -112,7 +112,7 @@ module _ {K V : Type 0} (same : K → K → Bool) (hash : K → ℕ) (caller : �
         (rule_incremental same hash setting w c blocks map bits) (map.map.shows.sized (suc c.first) copies.1.made) e)
 
     pair_told : (n : ℕ) (borrowed : Bool) → c.place c.first p.place ≡ Holds n Still borrowed → (m : Mem (Node K V)) → ((b : ℕ) → value_at m b ≡ value_at w.memory b)
-        → (end : Copier × Outcome (Node K V) Table) (word : ℕ) → word ≡ place_word hash c blocks (Holds n Still borrowed) → 0 < blocks.pair n → word / 2048 ≡ blocks.pair n
+        → (end : Copier × Yielding (Node K V) Table) (word : ℕ) → word ≡ place_word hash c blocks (Holds n Still borrowed) → 0 < blocks.pair n → word / 2048 ≡ blocks.pair n
         → (k : K) (v : V) → value_at w.memory (word / 2048) ≡ Some (node.Pair k v) → c.key n ≡ Some k
         → Ends (value_at m) (mine_marked hash p word) end → CopierTold world_marked caller setting (chart_marked (Holds n Still borrowed)) blocks same hash end
     pair_told n borrowed e m values end word is_word some block k v shown key ends =
@@ -120,7 +120,7 @@ module _ {K V : Type 0} (same : K → K → Bool) (hash : K → ℕ) (caller : �
         let value : seen.0 ≡ node.Pair k v = (let same_value = values (word / 2048) in cc (same_value, seen.1, shown)) in
         probing_told n borrowed e k key end word is_word (seen.2 ∙ ap (λ (x : ℕ). (probing p (without_copying word) x p.target, Goes)) (ap (key_hash hash) value))
 
-    told : (place : Place) → c.place c.first p.place ≡ place → (m : Mem (Node K V)) → ((b : ℕ) → value_at m b ≡ value_at w.memory b) → (end : Copier × Outcome (Node K V) Table)
+    told : (place : Place) → c.place c.first p.place ≡ place → (m : Mem (Node K V)) → ((b : ℕ) → value_at m b ≡ value_at w.memory b) → (end : Copier × Yielding (Node K V) Table)
         → Ends (value_at m) (mine_marked hash p (place_word hash c blocks place)) end → CopierTold world_marked caller setting (chart_marked place) blocks same hash end
     told (Empty mark) e m values end ends =
         told_done (Empty true) end (vacant (place_word hash c blocks (Empty mark)) (empty_block blocks.pair (λ o. byte_of hash (c.key o)) mark) m end ends) refl
@@ -134,7 +134,7 @@ module _ {K V : Type 0} (same : K → K → Bool) (hash : K → ℕ) (caller : �
         (sym (ap (λ (x : Place). place_word hash c blocks x / 2048) e) ∙ pair.1) pair.2 pair.3
         (ap (λ (x : Place). value_at w.memory (place_word hash c blocks x / 2048)) (sym e) ∙ pair.4) pair.5 ends
 
-    pub went_first : (m2 : Mem (Node K V)) (end : Copier × Outcome (Node K V) Table) (word : ℕ) → word_at w.memory (at_place p.source p.place) ≡ Some word
+    pub went_first : (m2 : Mem (Node K V)) (end : Copier × Yielding (Node K V) Table) (word : ℕ) → word_at w.memory (at_place p.source p.place) ≡ Some word
         → m2 ≡ with_word w.memory (at_place p.source p.place) (bit_or word COPYING)
         → Ends (value_at (with_word w.memory (at_place p.source p.place) (bit_or word COPYING))) (mine_marked hash p word) end → CopierPlain same hash caller setting w c blocks m2 end
     went_first m2 end word read e ends =

@@ -4,8 +4,8 @@ use Rattle.std.proofs.Common.{◌⊎◌, inl, inr, refl}
 use Rattle.map_rule.specs.Given.SeizeWordsMem.{Mem, value_at, Took}
 use Rattle.map_rule.specs.Given.SeizeWordsOp.{Out, Found, Stored, Exchanged, Made, Taken, Roomed}
 use Rattle.map_rule.specs.Given.SeizeWordsPlan.{Then, Steps}
-use Rattle.papaya_raw.specs.Given.SeizeDeclared.progress.Progress.{Progress}
-use Rattle.papaya_raw.specs.Given.SeizeDeclared.progress.Progress.TheVariants as progress
+use Rattle.papaya_raw.specs.Given.SeizeDeclared.advance.Advance.{Advance}
+use Rattle.papaya_raw.specs.Given.SeizeDeclared.advance.Advance.TheVariants as progress
 use Rattle.papaya_raw.specs.Given.SeizeDeclared.rows.settle.Settle.{Settle}
 use Rattle.papaya_raw.specs.Given.SeizeDeclared.rows.settle.Settled.{Settled}
 use Rattle.papaya_raw.specs.Given.SeizeDeclared.rows.settle.Settled.TheVariants as settled
@@ -24,7 +24,7 @@ use Rattle.map_rule.specs.Given.ResizeCopierCounts.{refusing, counted}
 use Rattle.map_rule.specs.Given.ResizeCopierFurther.{further_read, grown, replacement_read, remade}
 use Rattle.map_rule.specs.Given.ResizeCopierPromotes.{promoted, table_retired, successor_read, retired}
 use Rattle.papaya_raw.specs.Given.TablesDeclared.node.Node.{Node}
-use Rattle.map_rule.specs.Given.ResizeDeclared.outcome.Outcome.{Outcome}
+use Rattle.map_rule.specs.Given.ResizeDeclared.yielding.Yielding.{Yielding}
 use Rattle.papaya_raw.specs.Given.TablesDeclared.probe.Probe.{Probe}
 use Rattle.papaya_raw.specs.Given.TablesDeclared.status.TheConstants.Status.{PROMOTED, ABORTED}
 use Rattle.papaya_raw.specs.Given.TablesDeclared.table.Table.{Table}
@@ -68,13 +68,13 @@ module _ (whole may : Bool) where
     so_place_done = so_next_place (record p { done = (p.done + 1) % 2 ^ 64 }) is
 
   module _ {K : Type 0} (V : Type 0) (hash : K → ℕ) where
-    abbrev IsSo : Copier × Outcome (Node K V) Table → Type 0
+    abbrev IsSo : Copier × Yielding (Node K V) Table → Type 0
     IsSo end = IsOf end.0
 
-    abbrev So : Then (Node K V) (Copier × Outcome (Node K V) Table) → Type 0
+    abbrev So : Then (Node K V) (Copier × Yielding (Node K V) Table) → Type 0
     So rest = Always IsSo rest
 
-    so_if : (b : Bool) (x y : Then (Node K V) (Copier × Outcome (Node K V) Table)) → So x → So y → So (if b then x else y)
+    so_if : (b : Bool) (x y : Then (Node K V) (Copier × Yielding (Node K V) Table)) → So x → So y → So (if b then x else y)
     so_if b x y f g = always_if IsSo b x y f g
 
     -- what each operation's answer leads to
@@ -165,7 +165,7 @@ module _ (whole may : Bool) where
         on_further (Taken value) = here
         on_further (Roomed r) = here
 
-      on_grown : (word code : ℕ) (end : NewTable × Progress Table) → IsSo (grown p word code end)
+      on_grown : (word code : ℕ) (end : NewTable × Advance Table) → IsSo (grown p word code end)
       on_grown word code (making, progress.Goes) = on
       on_grown word code (making, progress.Waits) = on
       on_grown word code (making, progress.Done table) = on
@@ -179,7 +179,7 @@ module _ (whole may : Bool) where
       on_replacement (Taken value) = here
       on_replacement (Roomed r) = here
 
-      on_remade : (end : NewTable × Progress Table) → IsSo (remade p end)
+      on_remade : (end : NewTable × Advance Table) → IsSo (remade p end)
       on_remade (making, progress.Goes) = on
       on_remade (making, progress.Waits) = on
       on_remade (making, progress.Done table) = on
@@ -245,13 +245,13 @@ module _ (whole may : Bool) where
 
 module _ {K V : Type 0} (hash : K → ℕ) where
   -- whatever its step comes to
-  pub whole_stays : (p : Copier) (m m2 : Mem (Node K V)) (end : Copier × Outcome (Node K V) Table) → Steps Took value_at m (copier_plan hash p) m2 end
+  pub whole_stays : (p : Copier) (m m2 : Mem (Node K V)) (end : Copier × Yielding (Node K V) Table) → Steps Took value_at m (copier_plan hash p) m2 end
       → end.0.whole ≡ p.whole
   whole_stays p m m2 end s =
       (always_steps (IsSo p.whole true V hash) m m2 (copier_plan hash p) end (whole_at p.whole true V hash p (refl, inl refl) p.stands (λ e. refl) (λ e. refl)) s).0
 
   -- it unlinks no table, but by a promotion
-  pub unlinks_none : (p : Copier) (m m2 : Mem (Node K V)) (end : Copier × Outcome (Node K V) Table) → Steps Took value_at m (copier_plan hash p) m2 end
+  pub unlinks_none : (p : Copier) (m m2 : Mem (Node K V)) (end : Copier × Yielding (Node K V) Table) → Steps Took value_at m (copier_plan hash p) m2 end
       → has_unlinked p.stands ≡ false → is_promoting p.stands ≡ false → has_unlinked end.0.stands ≡ false
   unlinks_none p m m2 end s none other =
       by (always_steps (IsSo p.whole false V hash) m m2 (copier_plan hash p) end

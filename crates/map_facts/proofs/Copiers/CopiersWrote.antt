@@ -7,7 +7,7 @@ use Rattle.map_rule.specs.Given.SeizeWordsOp.{Op, Out}
 use Rattle.papaya_raw.specs.Given.SeizeWorld.{World}
 use Rattle.papaya_raw.specs.Given.TablesChunks.{is_incremental}
 use Rattle.papaya_raw.specs.Given.TablesDeclared.node.Node.{Node}
-use Rattle.map_rule.specs.Given.ResizeDeclared.outcome.Outcome.{Outcome}
+use Rattle.map_rule.specs.Given.ResizeDeclared.yielding.Yielding.{Yielding}
 use Rattle.papaya_raw.specs.Given.TablesDeclared.setting.Setting.{Setting}
 use Rattle.papaya_raw.specs.Given.TablesDeclared.table.Table.{Table}
 use Rattle.map_rule.specs.Given.ResizeDeclared.copier.Copier.{Copier}
@@ -30,19 +30,19 @@ use Rattle.map_rule.proofs.World.WentIncremental.{went_move}
 
 module _ {K V : Type 0} (same : K → K → Bool) (hash : K → ℕ) (caller : ℕ) (setting : Setting) (w : World (Node K V)) (c : Chart K) (blocks : Blocks) where
   -- What a step of a copier, in incremental mode, comes to: pairs of callers' own are spared, and the map has the pairs that it had.
-  abbrev pub CopierWent : Mem (Node K V) → Copier × Outcome (Node K V) Table → Type 0
+  abbrev pub CopierWent : Mem (Node K V) → Copier × Yielding (Node K V) Table → Type 0
   CopierWent m2 end =
       Went same hash setting caller w c blocks m2 (λ w2 c2 blocks2. SparesPairs w w2 × (c2.current ≡ c.current) × CopierTold w2 caller setting c2 blocks2 same hash end)
 
   -- and which change of the tables it made
-  abbrev pub CopierMoved : (Chart K → Type 0) → Mem (Node K V) → Copier × Outcome (Node K V) Table → Type 0
+  abbrev pub CopierMoved : (Chart K → Type 0) → Mem (Node K V) → Copier × Yielding (Node K V) Table → Type 0
   CopierMoved Moves m2 end =
       Went same hash setting caller w c blocks m2 (λ w2 c2 blocks2. SparesPairs w w2 × (c2.current ≡ c.current) × CopierTold w2 caller setting c2 blocks2 same hash end × Moves c2)
 
-  abbrev pub CopierPlain : Mem (Node K V) → Copier × Outcome (Node K V) Table → Type 0
+  abbrev pub CopierPlain : Mem (Node K V) → Copier × Yielding (Node K V) Table → Type 0
   CopierPlain = CopierMoved (MovedPlain hash caller c)
 
-  pub copier_went : (Moves : Chart K → Type 0) (m2 : Mem (Node K V)) (end : Copier × Outcome (Node K V) Table) → CopierMoved Moves m2 end → CopierWent m2 end
+  pub copier_went : (Moves : Chart K → Type 0) (m2 : Mem (Node K V)) (end : Copier × Yielding (Node K V) Table) → CopierMoved Moves m2 end → CopierWent m2 end
   copier_went Moves m2 end = went_as same hash setting caller w c blocks m2
       (λ w2 c2 blocks2. SparesPairs w w2 × (c2.current ≡ c.current) × CopierTold w2 caller setting c2 blocks2 same hash end × Moves c2)
       (λ w2 c2 blocks2. SparesPairs w w2 × (c2.current ≡ c.current) × CopierTold w2 caller setting c2 blocks2 same hash end)
@@ -71,14 +71,14 @@ module _ {K V : Type 0} (same : K → K → Bool) (hash : K → ℕ) (caller : �
 
   module _ (map : IsMapIn same hash setting w c blocks) where
     -- a step that only read
-    pub copier_stays : (Moves : Chart K → Type 0) → Moves c → (m2 : Mem (Node K V)) → m2 ≡ w.memory → (end : Copier × Outcome (Node K V) Table)
+    pub copier_stays : (Moves : Chart K → Type 0) → Moves c → (m2 : Mem (Node K V)) → m2 ≡ w.memory → (end : Copier × Yielding (Node K V) Table)
         → CopierTold w caller setting c blocks same hash end → CopierMoved Moves m2 end
     copier_stays Moves still m2 e end told =
         went_still same hash setting caller w c blocks map m2 e
         (λ w2 c2 blocks2. SparesPairs w w2 × (c2.current ≡ c.current) × CopierTold w2 caller setting c2 blocks2 same hash end × Moves c2)
         (spares_same w, refl, told, still)
 
-    pub copier_still : (m2 : Mem (Node K V)) → m2 ≡ w.memory → (end : Copier × Outcome (Node K V) Table)
+    pub copier_still : (m2 : Mem (Node K V)) → m2 ≡ w.memory → (end : Copier × Yielding (Node K V) Table)
         → CopierTold w caller setting c blocks same hash end → CopierPlain m2 end
     copier_still = copier_stays (MovedPlain hash caller c) (inl refl)
 
@@ -95,7 +95,7 @@ module _ {K V : Type 0} (same : K → K → Bool) (hash : K → ℕ) (caller : �
         → (move : Move K) → IsItsMove caller blocks move → Moves (after (spot_of hash) true move c) → Allowed same (spot_of hash) true move c → Shows hash (with_word w.memory at word) (after (spot_of hash) true move c) blocks setting.root
         → (after (spot_of hash) true move c).past ≡ c.past → Hands same hash setting w (after (spot_of hash) true move c) blocks
         → (after (spot_of hash) true move c).current ≡ c.current
-        → (end : Copier × Outcome (Node K V) Table)
+        → (end : Copier × Yielding (Node K V) Table)
         → CopierTold (record w { memory = with_word w.memory at word }) caller setting (after (spot_of hash) true move c) blocks same hash end
         → CopierMoved Moves m2 end
     copier_moves Moves bits lawful op out at word own some m2 gives is wrote move by moves allowed shows past hands current end told =
@@ -109,7 +109,7 @@ module _ {K V : Type 0} (same : K → K → Bool) (hash : K → ℕ) (caller : �
         → (move : Move K) → IsPlain hash caller c move → IsOfKnown blocks move → Allowed same (spot_of hash) true move c → Shows hash (with_word w.memory at word) (after (spot_of hash) true move c) blocks setting.root
         → (after (spot_of hash) true move c).past ≡ c.past → Hands same hash setting w (after (spot_of hash) true move c) blocks
         → (after (spot_of hash) true move c).current ≡ c.current
-        → (end : Copier × Outcome (Node K V) Table)
+        → (end : Copier × Yielding (Node K V) Table)
         → CopierTold (record w { memory = with_word w.memory at word }) caller setting (after (spot_of hash) true move c) blocks same hash end
         → CopierPlain m2 end
     copier_wrote bits lawful op out at word own some m2 gives is wrote move plain known =

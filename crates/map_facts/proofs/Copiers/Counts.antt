@@ -14,8 +14,8 @@ use Rattle.papaya_raw.specs.Given.TablesTablePlaces.{at_word}
 use Rattle.papaya_raw.specs.Given.TablesDeclared.node.Node.{Node}
 use Rattle.papaya_raw.specs.Given.TablesDeclared.table.Table.{Table}
 use Rattle.papaya_raw.specs.Given.TablesDeclared.table_words.TheConstants.{COPIED}
-use Rattle.map_rule.specs.Given.ResizeDeclared.outcome.Outcome.{Outcome}
-use Rattle.map_rule.specs.Given.ResizeDeclared.outcome.Outcome.TheVariants.{Goes}
+use Rattle.map_rule.specs.Given.ResizeDeclared.yielding.Yielding.{Yielding}
+use Rattle.map_rule.specs.Given.ResizeDeclared.yielding.Yielding.TheVariants.{Goes}
 use Rattle.papaya_raw.specs.Given.TablesDeclared.setting.Setting.{Setting}
 use Rattle.map_rule.specs.Given.ResizeDeclared.copier.Copier.{Copier}
 use Rattle.map_rule.specs.Given.ResizeDeclared.copier.Copying.TheVariants as at
@@ -43,7 +43,7 @@ module _ {K V : Type 0} (same : K → K → Bool) (hash : K → ℕ) (caller : �
         (is_some_of _ _ (copied_word same hash caller setting w c blocks map p f.0 f.2)) (λ found read. see_if _ ((found + p.done) % 2 ^ 64 == p.source.len) _ _ (λ full. tt) (λ left. tt))
 
     pub went_counts : IsLawful same (spot_of hash) → is_incremental setting.mode ≡ true
-        → (m2 : Mem (Node K V)) (end : Copier × Outcome (Node K V) Table) → Steps Took value_at w.memory (counts p) m2 end → CopierMoved same hash caller setting w c blocks (MovedCounts hash caller c p) m2 end
+        → (m2 : Mem (Node K V)) (end : Copier × Yielding (Node K V) Table) → Steps Took value_at w.memory (counts p) m2 end → CopierMoved same hash caller setting w c blocks (MovedCounts hash caller c p) m2 end
     went_counts lawful bits m2 end steps =
         let s = added w.memory (counted p) (at_word p.target COPIED) p.done m2 end steps in
         count_wrote same hash caller setting w c blocks map p f.0 f.2 lawful bits m2 end s.0 s.1 s.2
@@ -99,7 +99,7 @@ module _ {K V : Type 0} (same : K → K → Bool) (hash : K → ℕ) (caller : �
         (is_some_of _ _ (copied_word same hash caller setting w c blocks map p works.copies works.has_done)) (λ found read. tt)
 
     pub went_tallies : IsLawful same (spot_of hash) → is_incremental setting.mode ≡ true
-        → (m2 : Mem (Node K V)) (end : Copier × Outcome (Node K V) Table) → Steps Took value_at w.memory (tallies p word fault) m2 end → CopierMoved same hash caller setting w c blocks (MovedCounts hash caller c p) m2 end
+        → (m2 : Mem (Node K V)) (end : Copier × Yielding (Node K V) Table) → Steps Took value_at w.memory (tallies p word fault) m2 end → CopierMoved same hash caller setting w c blocks (MovedCounts hash caller c p) m2 end
     went_tallies lawful bits m2 end steps =
         let s = added w.memory (λ out. to (record p { done = 0; stands = at.Unmarks word fault })) (at_word p.target COPIED) p.done m2 end steps in
         count_wrote same hash caller setting w c blocks map p works.copies works.has_done lawful bits m2 end s.0 s.1 s.2 (λ found. told s.3)

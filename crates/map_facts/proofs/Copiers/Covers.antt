@@ -13,7 +13,7 @@ use Rattle.papaya_raw.specs.Given.TablesTablePlaces.{at_place}
 use Rattle.papaya_raw.specs.Given.TablesDeclared.marks.TheConstants.{COPYING, COPIED}
 use Rattle.papaya_raw.specs.Given.TablesDeclared.node.Node.{Node}
 use Rattle.papaya_raw.specs.Given.TablesDeclared.table.Table.{Table}
-use Rattle.map_rule.specs.Given.ResizeDeclared.outcome.Outcome.{Outcome}
+use Rattle.map_rule.specs.Given.ResizeDeclared.yielding.Yielding.{Yielding}
 use Rattle.papaya_raw.specs.Given.TablesDeclared.setting.Setting.{Setting}
 use Rattle.map_rule.specs.Given.ResizeDeclared.copier.Copier.{Copier}
 use Rattle.map_rule.specs.Given.ResizeDeclared.copier.Copying.TheVariants as at
@@ -62,7 +62,7 @@ module _ {K V : Type 0} (same : K → K → Bool) (hash : K → ℕ) (caller : �
       ∙ ap (place_word hash c blocks) (sym copied_is)
 
   pub went_covers : IsLawful same (spot_of hash) → is_incremental setting.mode ≡ true
-      → (m2 : Mem (Node K V)) (end : Copier × Outcome (Node K V) Table) → Steps Took value_at w.memory (covers p word) m2 end → CopierPlain same hash caller setting w c blocks m2 end
+      → (m2 : Mem (Node K V)) (end : Copier × Yielding (Node K V) Table) → Steps Took value_at w.memory (covers p word) m2 end → CopierPlain same hash caller setting w c blocks m2 end
   went_covers lawful bits m2 end steps =
       let s = stored w.memory (λ out. to (place_done p)) (at_place p.source p.place) (bit_or (bit_or word COPYING) COPIED) m2 end steps in
       copier_wrote same hash caller setting w c blocks map bits lawful (Store (at_place p.source p.place) (bit_or (bit_or word COPYING) COPIED)) Stored (at_place p.source p.place)

@@ -16,8 +16,8 @@ use Rattle.papaya_raw.specs.Given.TablesTablePlaces.{at_word}
 use Rattle.papaya_raw.specs.Given.TablesDeclared.node.Node.{Node}
 use Rattle.papaya_raw.specs.Given.TablesDeclared.table.Table.{Table}
 use Rattle.papaya_raw.specs.Given.TablesDeclared.table_words.TheConstants.{NEXT}
-use Rattle.map_rule.specs.Given.ResizeDeclared.outcome.Outcome.{Outcome}
-use Rattle.map_rule.specs.Given.ResizeDeclared.outcome.Outcome.TheVariants.{Goes}
+use Rattle.map_rule.specs.Given.ResizeDeclared.yielding.Yielding.{Yielding}
+use Rattle.map_rule.specs.Given.ResizeDeclared.yielding.Yielding.TheVariants.{Goes}
 use Rattle.papaya_raw.specs.Given.TablesDeclared.setting.Setting.{Setting}
 use Rattle.map_rule.specs.Given.ResizeDeclared.copier.Copier.{Copier}
 use Rattle.map_rule.specs.Given.ResizeDeclared.copier.Copying.TheVariants as at
@@ -53,7 +53,7 @@ module _ {K V : Type 0} (same : K → K → Bool) (hash : K → ℕ) (caller : �
           λ value shown. tt,
         ))
 
-    pub went_begins : CopyingFacts same hash w caller setting c blocks p at.Begins → (m2 : Mem (Node K V)) (end : Copier × Outcome (Node K V) Table)
+    pub went_begins : CopyingFacts same hash w caller setting c blocks p at.Begins → (m2 : Mem (Node K V)) (end : Copier × Yielding (Node K V) Table)
         → Steps Took value_at w.memory (begins p) m2 end → CopierPlain same hash caller setting w c blocks m2 end
     went_begins f m2 end steps =
         let s = loaded w.memory (root_read p) (Root p.setting.root) m2 end steps in
@@ -86,7 +86,7 @@ module _ {K V : Type 0} (same : K → K → Bool) (hash : K → ℕ) (caller : �
             λ value shown. tt,
           )))
 
-      pub went_follows : (m2 : Mem (Node K V)) (end : Copier × Outcome (Node K V) Table) → Steps Took value_at w.memory (follows p) m2 end → CopierPlain same hash caller setting w c blocks m2 end
+      pub went_follows : (m2 : Mem (Node K V)) (end : Copier × Yielding (Node K V) Table) → Steps Took value_at w.memory (follows p) m2 end → CopierPlain same hash caller setting w c blocks m2 end
       went_follows m2 end steps =
           let s = loaded w.memory (next_read p) (at_word p.source NEXT) m2 end steps in
           either s.0 s.1 s.2 s.3

@@ -9,8 +9,8 @@ use Rattle.map_rule.specs.Given.SeizeWordsMem.{Mem, value_at, Can, Took}
 use Rattle.map_rule.specs.Given.SeizeWordsPlan.{May, Steps}
 use Rattle.map_rule.proofs.Given.SeizeWordsPlans.{as_may}
 use Rattle.papaya_raw.specs.Given.SeizeWorld.{World}
-use Rattle.papaya_raw.specs.Given.SeizeDeclared.progress.Progress.{Progress}
-use Rattle.papaya_raw.specs.Given.SeizeDeclared.progress.Progress.TheVariants as progress
+use Rattle.papaya_raw.specs.Given.SeizeDeclared.advance.Advance.{Advance}
+use Rattle.papaya_raw.specs.Given.SeizeDeclared.advance.Advance.TheVariants as progress
 use Rattle.map_rule.proofs.Given.SeizeRuleRows.Leaving.{steps_back}
 use Rattle.papaya_raw.specs.Given.TablesChunks.{is_incremental}
 use Rattle.map_rule.specs.Given.ResizeNewTable.{new_table_plan}
@@ -18,7 +18,7 @@ use Rattle.map_rule.specs.Given.ResizeCopierStates.{standing}
 use Rattle.map_rule.specs.Given.ResizeCopierCounts.{refusing}
 use Rattle.map_rule.specs.Given.ResizeCopierFurther.{grown, grows}
 use Rattle.papaya_raw.specs.Given.TablesDeclared.node.Node.{Node}
-use Rattle.map_rule.specs.Given.ResizeDeclared.outcome.Outcome.{Outcome}
+use Rattle.map_rule.specs.Given.ResizeDeclared.yielding.Yielding.{Yielding}
 use Rattle.papaya_raw.specs.Given.TablesDeclared.setting.Setting.{Setting}
 use Rattle.papaya_raw.specs.Given.TablesDeclared.table.Table.{Table}
 use Rattle.papaya_raw.specs.Given.TablesDeclared.table_words.TheConstants.{NEXT}
@@ -63,7 +63,7 @@ module _ {K V : Type 0} (same : K → K → Bool) (hash : K → ℕ) (setting : 
       (p : Copier) (word code n t : ℕ) (k : K) (setting_is : p.setting ≡ setting) (works : Works same hash w2 caller setting c2 blocks2 p n k word) (code_is : code ≡ hash k)
       (later : c2.first < t) (looks : LooksFor same hash w2 caller setting c2 blocks2 k (suc t)) (made : t < c2.past) (known : blocks2.table_known t ≡ true) where
     -- where the making of the table has come to
-    pub grown_told : (end : NewTable × Progress Table) → NewTableTold w2 caller setting c2 blocks2 (Word (blocks2.table t) NEXT) (suc t) end
+    pub grown_told : (end : NewTable × Advance Table) → NewTableTold w2 caller setting c2 blocks2 (Word (blocks2.table t) NEXT) (suc t) end
         → CopierTold w2 caller setting c2 blocks2 same hash (grown p word code end)
     grown_told (making, progress.Goes) told = record {
       setting_is = setting_is;
@@ -91,7 +91,7 @@ module _ {K V : Type 0} (same : K → K → Bool) (hash : K → ℕ) (setting : 
     abbrev t : ℕ
     t = facts.2
 
-    module _ (setting_is : p.setting ≡ setting) (w2 : World (Node K V)) (blocks2 : Blocks) (blocks_same : SameBlocks c blocks blocks2) (end : NewTable × Progress Table) where
+    module _ (setting_is : p.setting ≡ setting) (w2 : World (Node K V)) (blocks2 : Blocks) (blocks_same : SameBlocks c blocks blocks2) (end : NewTable × Advance Table) where
       -- the tables that were there are as they were
       longer_told : (past : ℕ) (len limit status from : ℕ → ℕ) (longer : IsLonger c past len limit)
           → IsMapIn same hash setting w2 (longer_chart c past len limit status from longer) blocks2
@@ -138,13 +138,13 @@ module _ {K V : Type 0} (same : K → K → Bool) (hash : K → ℕ) (setting : 
           (may_new_table same hash w setting c blocks map caller (Word (blocks.table t) NEXT) (suc t) initial_is making facts.9)
 
       -- What the step of the making came to, too: a table that it linked is the last one.
-      abbrev pub GrownTells : Copier × Outcome (Node K V) Table → World (Node K V) → Chart K → Blocks → Type 0
+      abbrev pub GrownTells : Copier × Yielding (Node K V) Table → World (Node K V) → Chart K → Blocks → Type 0
       GrownTells end w2 c2 blocks2 =
           SparesPairs w w2 × (c2.current ≡ c.current) × CopierTold w2 caller setting c2 blocks2 same hash end
-          × (b : NewTable × Progress Table) × (end ≡ grown p word code b) × Steps Took value_at w.memory (new_table_plan making) w2.memory b
+          × (b : NewTable × Advance Table) × (end ≡ grown p word code b) × Steps Took value_at w.memory (new_table_plan making) w2.memory b
           × LinksLast hash setting.mode (suc t) c c2 b × NewTableTold w2 caller setting c2 blocks2 (Word (blocks.table t) NEXT) (suc t) b × Lowers making b
 
-      pub went_grown : IsLawful same (spot_of hash) → p.setting ≡ setting → (m2 : Mem (Node K V)) (end : Copier × Outcome (Node K V) Table)
+      pub went_grown : IsLawful same (spot_of hash) → p.setting ≡ setting → (m2 : Mem (Node K V)) (end : Copier × Yielding (Node K V) Table)
           → Steps Took value_at w.memory (grows p word code making) m2 end → Went same hash setting caller w c blocks m2 (GrownTells end)
       went_grown lawful setting_is m2 end s =
           let b = steps_back (grown p word code) w.memory m2 (new_table_plan making) end s in
@@ -169,7 +169,7 @@ module _ {K V : Type 0} (same : K → K → Bool) (hash : K → ℕ) (setting : 
             told = (
               g.told.0,
               l.0,
-              subst (λ (x : Copier × Outcome (Node K V) Table). CopierTold g.w2 caller setting g.c2 g.blocks2 same hash x) (sym b.2) l.1,
+              subst (λ (x : Copier × Yielding (Node K V) Table). CopierTold g.w2 caller setting g.c2 g.blocks2 same hash x) (sym b.2) l.1,
               b.0,
               b.2,
               subst (λ (m : Mem (Node K V)). Steps Took value_at w.memory (new_table_plan making) m b.0) (sym g.memory) b.1,
@@ -180,11 +180,11 @@ module _ {K V : Type 0} (same : K → K → Bool) (hash : K → ℕ) (setting : 
           }
 
       -- no change was made, or a table was linked
-      pub grown_plain : (c2 : Chart K) (b : NewTable × Progress Table) → LinksLast hash setting.mode (suc t) c c2 b → MovedPlain hash caller c c2
+      pub grown_plain : (c2 : Chart K) (b : NewTable × Advance Table) → LinksLast hash setting.mode (suc t) c c2 b → MovedPlain hash caller c c2
       grown_plain c2 b (inl e) = inl e
       grown_plain c2 b (inr l) = inr (Links l.1.len l.1.limit, tt, l.3)
 
-      pub went_grows : IsLawful same (spot_of hash) → p.setting ≡ setting → (m2 : Mem (Node K V)) (end : Copier × Outcome (Node K V) Table)
+      pub went_grows : IsLawful same (spot_of hash) → p.setting ≡ setting → (m2 : Mem (Node K V)) (end : Copier × Yielding (Node K V) Table)
           → Steps Took value_at w.memory (grows p word code making) m2 end → CopierPlain same hash caller setting w c blocks m2 end
       went_grows lawful setting_is m2 end s =
           went_as same hash setting caller w c blocks m2 (GrownTells end)

@@ -20,8 +20,8 @@ use Rattle.papaya_raw.specs.Given.TablesDeclared.node.Node.{Node}
 use Rattle.papaya_raw.specs.Given.TablesDeclared.node.Node.TheVariants as node
 use Rattle.papaya_raw.specs.Given.TablesDeclared.table.Table.{Table}
 use Rattle.papaya_raw.specs.Given.TablesDeclared.table_words.TheConstants.{PLACES}
-use Rattle.map_rule.specs.Given.ResizeDeclared.outcome.Outcome.{Outcome}
-use Rattle.map_rule.specs.Given.ResizeDeclared.outcome.Outcome.TheVariants.{Goes, Waits}
+use Rattle.map_rule.specs.Given.ResizeDeclared.yielding.Yielding.{Yielding}
+use Rattle.map_rule.specs.Given.ResizeDeclared.yielding.Yielding.TheVariants.{Goes, Waits}
 use Rattle.papaya_raw.specs.Given.TablesDeclared.setting.Setting.{Setting}
 use Rattle.map_rule.specs.Given.ResizeDeclared.copier.Copier.{Copier}
 use Rattle.map_rule.specs.Given.ResizeDeclared.copier.Copying.TheVariants as at
@@ -135,7 +135,7 @@ module _ {K V : Type 0} (same : K → K → Bool) (hash : K → ℕ) (caller : �
         ∙ ap (λ (a : At). with_word w.memory a word) stands ∙ written_again w.memory (blocks.table f.0) (p.place + PLACES) word (sym (ap (word_at w.memory) stands) ∙ read)
 
     -- it goes on, or waits
-    others_told : is_marked here ≡ true → p.stands ≡ at.Marks → (end : Copier × Outcome (Node K V) Table)
+    others_told : is_marked here ≡ true → p.stands ≡ at.Marks → (end : Copier × Yielding (Node K V) Table)
         → ((is_awaited p word ≡ true) × (end ≡ (p, Waits))) ⊎ ((is_awaited p word ≡ false) × (end ≡ (next_place p, Goes))) → CopierTold w caller setting c blocks same hash end
     others_told is_so stands end (inl h) = subst (CopierTold w caller setting c blocks same hash) (sym h.1) (
       awaited_whole p.whole word h.0,
@@ -160,7 +160,7 @@ module _ {K V : Type 0} (same : K → K → Bool) (hash : K → ℕ) (caller : �
         by_order (inl e) = e
         by_order (inr l) = absurd (let h = settled_marked here ((rule_incremental same hash setting w c blocks map bits).in_mode.settled f.0 p.place l f.4.0) in cc (h, unmarked))
 
-    mine_first : IsLawful same (spot_of hash) → is_marked here ≡ false → (m2 : Mem (Node K V)) (end : Copier × Outcome (Node K V) Table)
+    mine_first : IsLawful same (spot_of hash) → is_marked here ≡ false → (m2 : Mem (Node K V)) (end : Copier × Yielding (Node K V) Table)
         → m2 ≡ with_word w.memory (at_place p.source p.place) (bit_or word COPYING)
         → Ends (value_at (with_word w.memory (at_place p.source p.place) (bit_or word COPYING))) (mine_marked hash p word) end → CopierPlain same hash caller setting w c blocks m2 end
     mine_first lawful unmarked m2 end e ends =
@@ -172,7 +172,7 @@ module _ {K V : Type 0} (same : K → K → Bool) (hash : K → ℕ) (caller : �
         (subst (λ (x : ℕ). is_marked (c.place x p.place) ≡ false) root unmarked) m2 end word read e ends
 
   pub went_marks : IsLawful same (spot_of hash) → is_incremental setting.mode ≡ true → p.stands ≡ at.Marks
-      → (m2 : Mem (Node K V)) (end : Copier × Outcome (Node K V) Table) → Steps Took value_at w.memory (marks hash p) m2 end → CopierPlain same hash caller setting w c blocks m2 end
+      → (m2 : Mem (Node K V)) (end : Copier × Yielding (Node K V) Table) → Steps Took value_at w.memory (marks hash p) m2 end → CopierPlain same hash caller setting w c blocks m2 end
   went_marks lawful bits stands m2 end steps =
       let s = ored w.memory (place_marked hash p) (at_place p.source p.place) COPYING m2 end steps in
       by_mark s.0 s.1 s.2 (with_word w.memory (at_place p.source p.place) (bit_or s.0 COPYING)) refl s.3 (is_marked here) refl

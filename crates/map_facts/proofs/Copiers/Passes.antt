@@ -18,8 +18,8 @@ use Rattle.map_rule.specs.Given.ResizeCopierMarks.{probing}
 use Rattle.map_rule.specs.Given.ResizeCopierFurther.{further_read, passes, to}
 use Rattle.papaya_raw.specs.Given.TablesDeclared.lengths.Reason.TheVariants.{NoPlace}
 use Rattle.papaya_raw.specs.Given.TablesDeclared.node.Node.{Node}
-use Rattle.map_rule.specs.Given.ResizeDeclared.outcome.Outcome.{Outcome}
-use Rattle.map_rule.specs.Given.ResizeDeclared.outcome.Outcome.TheVariants.{Goes}
+use Rattle.map_rule.specs.Given.ResizeDeclared.yielding.Yielding.{Yielding}
+use Rattle.map_rule.specs.Given.ResizeDeclared.yielding.Yielding.TheVariants.{Goes}
 use Rattle.papaya_raw.specs.Given.TablesDeclared.setting.Setting.{Setting}
 use Rattle.papaya_raw.specs.Given.TablesDeclared.status.TheConstants.Status.{ABORTED}
 use Rattle.papaya_raw.specs.Given.TablesDeclared.table.Table.{Table}
@@ -86,7 +86,7 @@ module _ {K V : Type 0} (same : K → K → Bool) (hash : K → ℕ) (setting : 
         (table_lens same hash setting w caller c blocks map t facts.6.made).0 initial_is NoPlace
 
     -- its pair is looked for behind, or a table is made there
-    pub comes_passes : p.setting ≡ setting → (m2 : Mem (Node K V)) (end : Copier × Outcome (Node K V) Table)
+    pub comes_passes : p.setting ≡ setting → (m2 : Mem (Node K V)) (end : Copier × Yielding (Node K V) Table)
         → Steps Took value_at w.memory (passes p word code table) m2 end
         → ComesTo same hash setting w caller c blocks map m2 end
         (λ q. (q ≡ standing p (at.Grows word code (table_after p.setting table NoPlace))) ⊎ ((further : Table) × IsTable c blocks further (suc t) × (q ≡ probing p word code further)))
@@ -131,6 +131,6 @@ module _ {K V : Type 0} (same : K → K → Bool) (hash : K → ℕ) (setting : 
               inr (table_seen link rest.0, table_behind link there rest.0 rest.1, refl),
             )
 
-    pub went_passes : p.setting ≡ setting → (m2 : Mem (Node K V)) (end : Copier × Outcome (Node K V) Table)
+    pub went_passes : p.setting ≡ setting → (m2 : Mem (Node K V)) (end : Copier × Yielding (Node K V) Table)
         → Steps Took value_at w.memory (passes p word code table) m2 end → CopierPlain same hash caller setting w c blocks m2 end
     went_passes setting_is m2 end s = let h = comes_passes setting_is m2 end s in told_still same hash setting w caller c blocks map m2 h.0 h.1 end h.2 h.3

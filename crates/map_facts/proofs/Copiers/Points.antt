@@ -8,7 +8,7 @@ use Rattle.papaya_raw.specs.Given.SeizeWorld.{World}
 use Rattle.papaya_raw.specs.Given.TablesChunks.{is_incremental}
 use Rattle.map_rule.specs.Given.ResizeCopier.{plan_at, copier_plan}
 use Rattle.papaya_raw.specs.Given.TablesDeclared.node.Node.{Node}
-use Rattle.map_rule.specs.Given.ResizeDeclared.outcome.Outcome.{Outcome}
+use Rattle.map_rule.specs.Given.ResizeDeclared.yielding.Yielding.{Yielding}
 use Rattle.papaya_raw.specs.Given.TablesDeclared.setting.Setting.{Setting}
 use Rattle.papaya_raw.specs.Given.TablesDeclared.table.Table.{Table}
 use Rattle.map_rule.specs.Given.ResizeDeclared.copier.Copier.{Copier}
@@ -67,7 +67,7 @@ module _ {K V : Type 0} (same : K → K → Bool) (hash : K → ℕ) (setting : 
     may_at at.Over f none = tt
     may_at (at.Refused fault) f none = tt
 
-    module _ (m2 : Mem (Node K V)) (end : Copier × Outcome (Node K V) Table) where
+    module _ (m2 : Mem (Node K V)) (end : Copier × Yielding (Node K V) Table) where
       went_at : (stands : Point) → p.stands ≡ stands → CopyingFacts same hash w caller setting c blocks p stands → (IsRowOfCopier stands → ⊥)
           → Steps Took value_at w.memory (plan_at hash p stands) m2 end → CopierMoved same hash caller setting w c blocks (MovedAt hash caller c p stands end) m2 end
       went_at at.Begins here f none s = went_begins same hash caller setting w c blocks map p is f m2 end s
@@ -99,12 +99,12 @@ module _ {K V : Type 0} (same : K → K → Bool) (hash : K → ℕ) (setting : 
   may_copier p f none = may_at p f.setting_is p.stands f.point none
 
   pub went_copier_moved : (p : Copier) → CopierFacts same hash w caller setting c blocks p → (IsRowOfCopier p.stands → ⊥)
-      → (m2 : Mem (Node K V)) (end : Copier × Outcome (Node K V) Table) → Steps Took value_at w.memory (copier_plan hash p) m2 end
+      → (m2 : Mem (Node K V)) (end : Copier × Yielding (Node K V) Table) → Steps Took value_at w.memory (copier_plan hash p) m2 end
       → CopierMoved same hash caller setting w c blocks (MovedAt hash caller c p p.stands end) m2 end
   went_copier_moved p f none m2 end s = went_at p f.setting_is m2 end p.stands refl f.point none s
 
   pub went_copier : (p : Copier) → CopierFacts same hash w caller setting c blocks p → (IsRowOfCopier p.stands → ⊥)
-      → (m2 : Mem (Node K V)) (end : Copier × Outcome (Node K V) Table) → Steps Took value_at w.memory (copier_plan hash p) m2 end
+      → (m2 : Mem (Node K V)) (end : Copier × Yielding (Node K V) Table) → Steps Took value_at w.memory (copier_plan hash p) m2 end
       → CopierWent same hash caller setting w c blocks m2 end
   went_copier p f none m2 end s =
       copier_went same hash caller setting w c blocks (MovedAt hash caller c p p.stands end) m2 end (went_copier_moved p f none m2 end s)

@@ -12,8 +12,8 @@ use Rattle.map_rule.specs.Given.ResizeCopierStates.{standing}
 use Rattle.map_rule.specs.Given.ResizeCopierPlaces.{next_try, place_read, probes, to}
 use Rattle.papaya_raw.specs.Given.TablesTablePlaces.{at_place}
 use Rattle.papaya_raw.specs.Given.TablesDeclared.node.Node.{Node}
-use Rattle.map_rule.specs.Given.ResizeDeclared.outcome.Outcome.{Outcome}
-use Rattle.map_rule.specs.Given.ResizeDeclared.outcome.Outcome.TheVariants.{Goes}
+use Rattle.map_rule.specs.Given.ResizeDeclared.yielding.Yielding.{Yielding}
+use Rattle.map_rule.specs.Given.ResizeDeclared.yielding.Yielding.TheVariants.{Goes}
 use Rattle.papaya_raw.specs.Given.TablesDeclared.probe.Probe.{Probe}
 use Rattle.papaya_raw.specs.Given.TablesDeclared.setting.Setting.{Setting}
 use Rattle.papaya_raw.specs.Given.TablesDeclared.table.Table.{Table}
@@ -42,15 +42,15 @@ module _ {K V : Type 0} (same : K → K → Bool) (hash : K → ℕ) (setting : 
     table_lens t made = (map.map.shows.sized t made, (map.map.rule.common.lens t made).1)
 
     -- a step that changed nothing came to a copier that goes on
-    abbrev pub ComesTo : Mem (Node K V) → Copier × Outcome (Node K V) Table → (Copier → Type 0) → Type 0
+    abbrev pub ComesTo : Mem (Node K V) → Copier × Yielding (Node K V) Table → (Copier → Type 0) → Type 0
     ComesTo m2 end Is = (m2 ≡ w.memory) × (q : Copier) × (end ≡ (q, Goes)) × CopierFacts same hash w caller setting c blocks q × Is q
 
     -- a step that changed nothing, where it goes on from there
-    pub told_still : (m2 : Mem (Node K V)) → m2 ≡ w.memory → (p : Copier) (end : Copier × Outcome (Node K V) Table) → end ≡ (p, Goes)
+    pub told_still : (m2 : Mem (Node K V)) → m2 ≡ w.memory → (p : Copier) (end : Copier × Yielding (Node K V) Table) → end ≡ (p, Goes)
         → CopierFacts same hash w caller setting c blocks p → CopierPlain same hash caller setting w c blocks m2 end
     told_still m2 is p end ends facts =
         copier_still same hash caller setting w c blocks map m2 is end
-        (subst (λ (x : Copier × Outcome (Node K V) Table). CopierTold w caller setting c blocks same hash x) (sym ends) facts)
+        (subst (λ (x : Copier × Yielding (Node K V) Table). CopierTold w caller setting c blocks same hash x) (sym ends) facts)
 
     module _ (p : Copier) (word code : ℕ) (table : Table) (probe : Probe) (tries : Tries same hash w caller setting c blocks p word code table probe) where
       -- the place of this try
@@ -85,7 +85,7 @@ module _ {K V : Type 0} (same : K → K → Bool) (hash : K → ℕ) (setting : 
           (found_taken place_here (not_empty hash c blocks place_here found (cc (read, probe_there)) other))
 
       -- it is taken, or the next try is made
-      pub comes_probes : p.setting ≡ setting → is_incremental setting.mode ≡ true → (m2 : Mem (Node K V)) (end : Copier × Outcome (Node K V) Table)
+      pub comes_probes : p.setting ≡ setting → is_incremental setting.mode ≡ true → (m2 : Mem (Node K V)) (end : Copier × Yielding (Node K V) Table)
           → Steps Took value_at w.memory (probes p word code table probe) m2 end
           → ComesTo m2 end (λ q. (q ≡ standing p (at.Puts word code table probe)) ⊎ ((place_here ≢ Empty false) × (q ≡ next_try p word code table probe)))
       comes_probes setting_is bits m2 end s =
@@ -111,6 +111,6 @@ module _ {K V : Type 0} (same : K → K → Bool) (hash : K → ℕ) (setting : 
                 inr (not_empty hash c blocks place_here found (cc (read, probe_there)) other, refl),
               )
 
-      pub went_probes : p.setting ≡ setting → is_incremental setting.mode ≡ true → (m2 : Mem (Node K V)) (end : Copier × Outcome (Node K V) Table)
+      pub went_probes : p.setting ≡ setting → is_incremental setting.mode ≡ true → (m2 : Mem (Node K V)) (end : Copier × Yielding (Node K V) Table)
           → Steps Took value_at w.memory (probes p word code table probe) m2 end → CopierPlain same hash caller setting w c blocks m2 end
       went_probes setting_is bits m2 end s = let h = comes_probes setting_is bits m2 end s in told_still m2 h.0 h.1 end h.2 h.3

@@ -13,8 +13,8 @@ use Rattle.papaya_raw.specs.Given.TablesChunks.{is_incremental}
 use Rattle.map_rule.specs.Given.ResizeCopierStates.{standing, behind}
 use Rattle.map_rule.specs.Given.ResizeCopierPromotes.{promoted, promotes}
 use Rattle.papaya_raw.specs.Given.TablesDeclared.node.Node.{Node}
-use Rattle.map_rule.specs.Given.ResizeDeclared.outcome.Outcome.{Outcome}
-use Rattle.map_rule.specs.Given.ResizeDeclared.outcome.Outcome.TheVariants.{Goes}
+use Rattle.map_rule.specs.Given.ResizeDeclared.yielding.Yielding.{Yielding}
+use Rattle.map_rule.specs.Given.ResizeDeclared.yielding.Yielding.TheVariants.{Goes}
 use Rattle.papaya_raw.specs.Given.TablesDeclared.setting.Setting.{Setting}
 use Rattle.papaya_raw.specs.Given.TablesDeclared.table.Table.{Table}
 use Rattle.map_rule.specs.Given.ResizeDeclared.copier.Copier.{Copier}
@@ -129,7 +129,7 @@ module _ {K V : Type 0} (same : K → K → Bool) (hash : K → ℕ) (setting : 
       spares = spares_then w written unlinked (spares_written w (Root setting.root) (blocks.table (suc c.first) * 2048) some)
           (spares_hand written block (Cutting caller) (Unlinked block ∷ w.log) (λ j k v making is. (let used = in_use in absurd (cc))))
 
-      pub went_ok : IsLawful same (spot_of hash) → (m2 : Mem (Node K V)) (end : Copier × Outcome (Node K V) Table) (found : ℕ)
+      pub went_ok : IsLawful same (spot_of hash) → (m2 : Mem (Node K V)) (end : Copier × Yielding (Node K V) Table) (found : ℕ)
           → word_at w.memory (Root p.setting.root) ≡ Some found → found ≡ p.source.link → m2 ≡ with_word w.memory (Root p.setting.root) p.target.link
           → end ≡ (standing p at.Announces, Goes) → CopierMoved same hash caller setting w c blocks (MovedPromotes hash caller c p end) m2 end
       went_ok lawful m2 end found read same_link is ends = subst (λ (n : Mem (Node K V)). CopierMoved same hash caller setting w c blocks (MovedPromotes hash caller c p end) n end) (sym whole)
@@ -145,7 +145,7 @@ module _ {K V : Type 0} (same : K → K → Bool) (hash : K → ℕ) (setting : 
           (map_then lawful)
           (record { tables = λ t made known. (refl, known); pairs = λ n was known. (refl, known); tables_back = λ t made known. known; pairs_back = λ n was known. known })
           (λ w2 c2 blocks2. SparesPairs w w2 × (c2.current ≡ c.current) × CopierTold w2 caller setting c2 blocks2 same hash end × MovedPromotes hash caller c p end c2)
-          (spares, refl, subst (λ (x : Copier × Outcome (Node K V) Table). CopierTold unlinked caller setting chart blocks same hash x) (sym ends) told, inl (ends, refl)))
+          (spares, refl, subst (λ (x : Copier × Yielding (Node K V) Table). CopierTold unlinked caller setting chart blocks same hash x) (sym ends) told, inl (ends, refl)))
         where
           link_is : p.target.link ≡ blocks.table (suc c.first) * 2048
           link_is = ap (λ (x : Table). x.link) target.is
@@ -176,7 +176,7 @@ module _ {K V : Type 0} (same : K → K → Bool) (hash : K → ℕ) (setting : 
         by_whole false other = record { setting_is = setting_is; point = (facts.3, facts.4) }
 
     pub went_promotes : IsLawful same (spot_of hash) → is_incremental setting.mode ≡ true → (facts : CopyingFacts same hash w caller setting c blocks p at.Promotes)
-        → (m2 : Mem (Node K V)) (end : Copier × Outcome (Node K V) Table) → Steps Took value_at w.memory (promotes p) m2 end
+        → (m2 : Mem (Node K V)) (end : Copier × Yielding (Node K V) Table) → Steps Took value_at w.memory (promotes p) m2 end
         → CopierMoved same hash caller setting w c blocks (MovedPromotes hash caller c p end) m2 end
     went_promotes lawful bits facts m2 end s = either (exchanged w.memory (promoted p) (Root p.setting.root) p.source.link p.target.link m2 end s)
       where
@@ -214,4 +214,4 @@ module _ {K V : Type 0} (same : K → K → Bool) (hash : K → ℕ) (setting : 
             let older = before found gives.0 gives.1 (eq-or-lt_of_le facts.1.2) in
             let turn_is = ap (λ (x : Table). x.turn) facts.1.0.is in
             copier_stays same hash caller setting w c blocks map (MovedPromotes hash caller c p end) (inr (refl, λ e. absurd (omega (arith, e, older, turn_is)))) m2 is end
-            (subst (λ (x : Copier × Outcome (Node K V) Table). CopierTold w caller setting c blocks same hash x) (sym ends) (went_err bits facts older))
+            (subst (λ (x : Copier × Yielding (Node K V) Table). CopierTold w caller setting c blocks same hash x) (sym ends) (went_err bits facts older))

@@ -16,8 +16,8 @@ use Rattle.map_rule.specs.Given.ResizeCopierPlaces.{copied_word, next_try, pair_
 use Rattle.papaya_raw.specs.Given.TablesTablePlaces.{at_place}
 use Rattle.papaya_raw.specs.Given.TablesDeclared.marks.TheConstants.{BORROWED}
 use Rattle.papaya_raw.specs.Given.TablesDeclared.node.Node.{Node}
-use Rattle.map_rule.specs.Given.ResizeDeclared.outcome.Outcome.{Outcome}
-use Rattle.map_rule.specs.Given.ResizeDeclared.outcome.Outcome.TheVariants.{Goes}
+use Rattle.map_rule.specs.Given.ResizeDeclared.yielding.Yielding.{Yielding}
+use Rattle.map_rule.specs.Given.ResizeDeclared.yielding.Yielding.TheVariants.{Goes}
 use Rattle.papaya_raw.specs.Given.TablesDeclared.probe.Probe.{Probe}
 use Rattle.papaya_raw.specs.Given.TablesDeclared.setting.Setting.{Setting}
 use Rattle.papaya_raw.specs.Given.TablesDeclared.table.Table.{Table}
@@ -171,7 +171,7 @@ module _ {K V : Type 0} (same : K → K → Bool) (hash : K → ℕ) (setting : 
             );
           })
 
-      pub went_puts : IsLawful same (spot_of hash) → (m2 : Mem (Node K V)) (end : Copier × Outcome (Node K V) Table)
+      pub went_puts : IsLawful same (spot_of hash) → (m2 : Mem (Node K V)) (end : Copier × Yielding (Node K V) Table)
           → Steps Took value_at w.memory (puts p word code table probe) m2 end → CopierPlain same hash caller setting w c blocks m2 end
       went_puts lawful m2 end s = either (exchanged w.memory (put_told p word code table probe) (at_place table probe.i) 0 (copied_word p word) m2 end s)
         where
@@ -193,7 +193,7 @@ module _ {K V : Type 0} (same : K → K → Bool) (hash : K → ℕ) (setting : 
               (rw place_word_there refl)
               m2 gives (is ∙ written) (sym written)
               (Puts caller p.place t k tries.3) refl known (allowed found gives.0 gives.1) shows refl hands refl end
-              (subst (λ (x : Copier × Outcome (Node K V) Table). CopierTold (record w { memory = with_word w.memory (Word (blocks.table t) (i + PLACES)) (place_word hash c blocks (Holds n Still true)) }) caller setting put_chart blocks same hash x)
+              (subst (λ (x : Copier × Yielding (Node K V) Table). CopierTold (record w { memory = with_word w.memory (Word (blocks.table t) (i + PLACES)) (place_word hash c blocks (Holds n Still true)) }) caller setting put_chart blocks same hash x)
               (sym ends) (told (record w { memory = with_word w.memory (Word (blocks.table t) (i + PLACES)) (place_word hash c blocks (Holds n Still true)) })))
           either (inr (found, gives, is, ends)) = told_still same hash setting w caller c blocks map m2 is (next_try p word code table probe) end ends
               (told_next_try same hash setting w caller c blocks map p word code table probe tries setting_is bits found gives.0 gives.1)

@@ -14,7 +14,7 @@ use Rattle.papaya_raw.specs.Given.TablesTablePlaces.{at_word}
 use Rattle.papaya_raw.specs.Given.TablesDeclared.node.Node.{Node}
 use Rattle.papaya_raw.specs.Given.TablesDeclared.table.Table.{Table}
 use Rattle.papaya_raw.specs.Given.TablesDeclared.table_words.TheConstants.{CLAIM}
-use Rattle.map_rule.specs.Given.ResizeDeclared.outcome.Outcome.{Outcome}
+use Rattle.map_rule.specs.Given.ResizeDeclared.yielding.Yielding.{Yielding}
 use Rattle.papaya_raw.specs.Given.TablesDeclared.setting.Setting.{Setting}
 use Rattle.map_rule.specs.Given.ResizeDeclared.copier.Copier.{Copier}
 use Rattle.map_rule.specs.Given.ResizeDeclared.copier.Copying.TheVariants as at
@@ -42,7 +42,7 @@ module _ {K V : Type 0} (same : K → K → Bool) (hash : K → ℕ) (caller : �
   may_unclaims = may_store w.memory (λ out. to (given_up p fault)) (at_word p.target CLAIM) 0 (is_some_of _ _ claim_word) tt
 
   pub went_unclaims : IsLawful same (spot_of hash) → is_incremental setting.mode ≡ true
-      → (m2 : Mem (Node K V)) (end : Copier × Outcome (Node K V) Table) → Steps Took value_at w.memory (unclaims p fault) m2 end → CopierPlain same hash caller setting w c blocks m2 end
+      → (m2 : Mem (Node K V)) (end : Copier × Yielding (Node K V) Table) → Steps Took value_at w.memory (unclaims p fault) m2 end → CopierPlain same hash caller setting w c blocks m2 end
   went_unclaims lawful bits m2 end steps =
       let s = stored w.memory (λ out. to (given_up p fault)) (at_word p.target CLAIM) 0 m2 end steps in
       copier_wrote same hash caller setting w c blocks map bits lawful (Store (at_word p.target CLAIM) 0) Stored (at_word p.target CLAIM) 0

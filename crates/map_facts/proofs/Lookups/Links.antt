@@ -7,7 +7,7 @@ use Rattle.map_rule.specs.Given.SeizeWordsMem.{Mem, value_at, word_at, Can, Took
 use Rattle.map_rule.specs.Given.SeizeWordsPlan.{May, MaySee, Steps, Ends, Now, Seeing}
 use Rattle.map_rule.proofs.Given.SeizeWordsOneOwner.Operations.{may_load, loaded}
 use Rattle.map_rule.proofs.Given.SeizeWordsPlans.{see_if, ends_if}
-use Rattle.papaya_raw.specs.Given.SeizeDeclared.progress.Progress.{Progress}
+use Rattle.papaya_raw.specs.Given.SeizeDeclared.advance.Advance.{Advance}
 use Rattle.papaya_raw.specs.Given.TablesChunks.{is_incremental}
 use Rattle.map_rule.specs.Given.ResizeLookup.{answered, going, table_read, link_found, roots, nexts}
 use Rattle.papaya_raw.specs.Given.TablesNodes.{table_seen}
@@ -42,7 +42,7 @@ module _ {K V : Type 0} (same : K → K → Bool) (hash : K → ℕ) (lawful : I
   Facts other = LookupFacts same hash mode root keys code c blocks other
 
   -- what is told of a step from here
-  abbrev Told : Looking → Lookup × Progress (Option ℕ) → Type 0
+  abbrev Told : Looking → Lookup × Advance (Option ℕ) → Type 0
   Told stands end = LookupTold same hash mode root keys code c blocks end × LookupLeads stands end
 
   -- a first try at the table with this turn may follow
@@ -60,7 +60,7 @@ module _ {K V : Type 0} (same : K → K → Bool) (hash : K → ℕ) (lawful : I
 
   -- it leads into its table, or the keys have no pair
   went_in : (stands : Looking) (facts : Facts l) (link u : ℕ) → LeadsInto stands u → LeadsTo c blocks link u → (c.past ≤ u → IsAbsent same hash (is_incremental mode) c keys)
-      → NoneBefore same hash (is_incremental mode) c keys u 0 → (is_incremental mode ≡ false → u ≡ c.first) → (end : Lookup × Progress (Option ℕ)) → Ends (value_at m) (table_read {K = K} {V = V} l link) end → Told stands end
+      → NoneBefore same hash (is_incremental mode) c keys u 0 → (is_incremental mode ≡ false → u ≡ c.first) → (end : Lookup × Advance (Option ℕ)) → Ends (value_at m) (table_read {K = K} {V = V} l link) end → Told stands end
   went_in stands facts link u into leads absent none rooted end ends =
       by_end leads (ends_if (value_at m) (link == 0) (Now (answered l None)) (Seeing (link / 2048) (λ value. Now (going l (at.Probes (first_trial (table_seen link value) l.hash))))) end ends)
     where
@@ -94,7 +94,7 @@ module _ {K V : Type 0} (same : K → K → Bool) (hash : K → ℕ) (lawful : I
       leads : (w : ℕ) → word_at m (Root l.root) ≡ Some w → LeadsTo c blocks w c.first
       leads w is = root_leads same hash mode root m c blocks map w (ap (λ x. word_at m (Root x)) (sym facts.root_is) ∙ is)
 
-  pub went_roots : (facts : Facts l) (m2 : Mem (Node K V)) (end : Lookup × Progress (Option ℕ)) → Steps Took value_at m (roots {K = K} {V = V} l) m2 end → (m2 ≡ m) × Told at.Roots end
+  pub went_roots : (facts : Facts l) (m2 : Mem (Node K V)) (end : Lookup × Advance (Option ℕ)) → Steps Took value_at m (roots {K = K} {V = V} l) m2 end → (m2 ≡ m) × Told at.Roots end
   went_roots facts m2 end s =
       let r = loaded m (link_found l) (Root l.root) m2 end s in
       let read : word_at m (Root root) ≡ Some r.0 = ap (λ x. word_at m (Root x)) (sym facts.root_is) ∙ r.1 in (
@@ -112,7 +112,7 @@ module _ {K V : Type 0} (same : K → K → Bool) (hash : K → ℕ) (lawful : I
         (λ w is. may_enter w (suc t) (next_leads same hash mode root m c blocks map table t w entered is))
 
     pub went_nexts : (facts : Facts l) → is_incremental mode ≡ true → ((k : K) → keys k ≡ true → ShutBefore same (spot_of hash) (is_incremental mode) c (suc t) k)
-        → (m2 : Mem (Node K V)) (end : Lookup × Progress (Option ℕ)) → Steps Took value_at m (nexts {K = K} {V = V} l table) m2 end → (m2 ≡ m) × Told (at.Nexts table) end
+        → (m2 : Mem (Node K V)) (end : Lookup × Advance (Option ℕ)) → Steps Took value_at m (nexts {K = K} {V = V} l table) m2 end → (m2 ≡ m) × Told (at.Nexts table) end
     went_nexts facts is shut m2 end s =
         let r = loaded m (link_found l) (at_word table NEXT) m2 end s in (
           r.2,

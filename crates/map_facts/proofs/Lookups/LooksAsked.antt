@@ -1,8 +1,8 @@
 -- A lookup with what a call is asked with, and one of its keys: they are one.
 use Rattle.std.specs.Prelude.{◌≡◌, ℕ, Bool, Option, Some, None}
 use Rattle.std.proofs.Common.{sym, ◌∙◌}
-use Rattle.papaya_raw.specs.Given.SeizeDeclared.progress.Progress.{Progress}
-use Rattle.papaya_raw.specs.Given.SeizeDeclared.progress.Progress.TheVariants as progress
+use Rattle.papaya_raw.specs.Given.SeizeDeclared.advance.Advance.{Advance}
+use Rattle.papaya_raw.specs.Given.SeizeDeclared.advance.Advance.TheVariants as progress
 use Rattle.papaya_raw.specs.Given.TablesDeclared.resize_mode.ResizeMode.{ResizeMode}
 use Rattle.map_rule.specs.Given.ResizeDeclared.lookup.Lookup.{Lookup}
 use Rattle.map_rule.specs.Given.ResizeDeclared.lookup.Looking.{Looking}
@@ -34,7 +34,7 @@ module _ {K : Type 0} (same : K → K → Bool) (hash : K → ℕ) (mode : Resiz
     pub lookup_asked : (l : Lookup) → LookupFacts same hash mode root keys code c blocks l → LookupFacts same hash mode root asked code c blocks l
     lookup_asked l f = record { root_is = f.root_is; mode_is = f.mode_is; hash_is = f.hash_is; point = looking_asked l.stands f.point }
 
-    pub told_asked : (end : Lookup × Progress (Option ℕ)) → LookupTold same hash mode root keys code c blocks end → LookupTold same hash mode root asked code c blocks end
+    pub told_asked : (end : Lookup × Advance (Option ℕ)) → LookupTold same hash mode root keys code c blocks end → LookupTold same hash mode root asked code c blocks end
     told_asked (l, progress.Goes) told = lookup_asked l told
     told_asked (l, progress.Waits) told = told
     told_asked (l, progress.Done found) told = answers_asked found told

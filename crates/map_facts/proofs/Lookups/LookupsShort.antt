@@ -1,8 +1,8 @@
 -- How many loads a lookup makes: one for the root, and in each table that it enters one for each try and one for the link to the table behind.
 use Rattle.std.specs.Prelude.{◌≡◌, ℕ, suc, ◌+◌, ◌≤◌, Bool, List, [], ◌∷◌, Option}
 use Rattle.std.proofs.Common.{refl, ap, sym, subst, ◌∙◌, arith}
-use Rattle.papaya_raw.specs.Given.SeizeDeclared.progress.Progress.{Progress}
-use Rattle.papaya_raw.specs.Given.SeizeDeclared.progress.Progress.TheVariants as progress
+use Rattle.papaya_raw.specs.Given.SeizeDeclared.advance.Advance.{Advance}
+use Rattle.papaya_raw.specs.Given.SeizeDeclared.advance.Advance.TheVariants as progress
 use Rattle.papaya_raw.specs.Given.TablesDeclared.table.Table.{Table}
 use Rattle.map_rule.specs.Given.ResizeDeclared.lookup.Lookup.{Lookup}
 use Rattle.map_rule.specs.Given.ResizeDeclared.lookup.Looking.{Looking}
@@ -94,7 +94,7 @@ pub lookups_are_short : LookupsAreShort
 lookups_are_short stands tables loads looked = ends_short stands tables loads (all_short stands tables loads looked)
 
 -- a step of a lookup that goes on is one load more
-looked_further : (here : Looking) (tables : List Table) (loads : ℕ) → HasLooked here tables loads → (end : Lookup × Progress (Option ℕ)) → LookupLeads here end
+looked_further : (here : Looking) (tables : List Table) (loads : ℕ) → HasLooked here tables loads → (end : Lookup × Advance (Option ℕ)) → LookupLeads here end
     → end.1 ≡ progress.Goes → HasLooked end.0.stands (entered here end.0.stands tables) (suc loads)
 looked_further here tables loads looked (l, progress.Goes) leads goes = further here l.stands tables loads looked leads
 looked_further here tables loads looked (l, progress.Waits) leads goes = absurd (cc goes)

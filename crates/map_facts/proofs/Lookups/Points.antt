@@ -2,7 +2,7 @@
 use Rattle.std.proofs.Common.{◌≡◌, ℕ, ◌^◌, ◌<◌, Bool, Option, refl}
 use Rattle.map_rule.specs.Given.SeizeWordsMem.{Mem, value_at, Can, Took}
 use Rattle.map_rule.specs.Given.SeizeWordsPlan.{May, Steps}
-use Rattle.papaya_raw.specs.Given.SeizeDeclared.progress.Progress.{Progress}
+use Rattle.papaya_raw.specs.Given.SeizeDeclared.advance.Advance.{Advance}
 use Rattle.map_rule.specs.Given.ResizeLookup.{plan_at, lookup_plan}
 use Rattle.papaya_raw.specs.Given.TablesDeclared.node.Node.{Node}
 use Rattle.papaya_raw.specs.Given.TablesDeclared.resize_mode.ResizeMode.{ResizeMode}
@@ -25,7 +25,7 @@ module _ {K V : Type 0} (same : K → K → Bool) (hash : K → ℕ) (lawful : I
   abbrev Facts : Lookup → Type 0
   Facts l = LookupFacts same hash mode root keys code c blocks l
 
-  abbrev Told : Lookup × Progress (Option ℕ) → Type 0
+  abbrev Told : Lookup × Advance (Option ℕ) → Type 0
   Told end = LookupTold same hash mode root keys code c blocks end
 
   -- Each step of a lookup may be taken,
@@ -40,7 +40,7 @@ module _ {K V : Type 0} (same : K → K → Bool) (hash : K → ℕ) (lawful : I
 
   -- and leaves the memory as it is.
   went_at : (l : Lookup) → Facts l → (stands : Looking) → LookingFacts same hash mode root keys code c blocks stands → l.stands ≡ stands
-      → (m2 : Mem (Node K V)) (end : Lookup × Progress (Option ℕ)) → Steps Took value_at m (plan_at {K = K} {V = V} keys l stands) m2 end → (m2 ≡ m) × Told end × LookupLeads stands end
+      → (m2 : Mem (Node K V)) (end : Lookup × Advance (Option ℕ)) → Steps Took value_at m (plan_at {K = K} {V = V} keys l stands) m2 end → (m2 ≡ m) × Told end × LookupLeads stands end
   went_at l facts at.Roots point e m2 end s =
       let r = went_roots same hash lawful mode root keys code class m c blocks map l facts m2 end s in (r.0, r.1.0, r.1.1)
   went_at l facts (at.Probes trial) point e m2 end s =
@@ -51,10 +51,10 @@ module _ {K V : Type 0} (same : K → K → Bool) (hash : K → ℕ) (lawful : I
   went_at l facts (at.Over found) point e m2 end s = absurd point
 
   -- with where it goes on
-  pub went_lookup_leads : (l : Lookup) → LookupFacts same hash mode root keys code c blocks l → (m2 : Mem (Node K V)) (end : Lookup × Progress (Option ℕ))
+  pub went_lookup_leads : (l : Lookup) → LookupFacts same hash mode root keys code c blocks l → (m2 : Mem (Node K V)) (end : Lookup × Advance (Option ℕ))
       → Steps Took value_at m (lookup_plan {K = K} {V = V} keys l) m2 end → (m2 ≡ m) × LookupTold same hash mode root keys code c blocks end × LookupLeads l.stands end
   went_lookup_leads l facts m2 end s = went_at l facts l.stands facts.point refl m2 end s
 
-  pub went_lookup : (l : Lookup) → LookupFacts same hash mode root keys code c blocks l → (m2 : Mem (Node K V)) (end : Lookup × Progress (Option ℕ))
+  pub went_lookup : (l : Lookup) → LookupFacts same hash mode root keys code c blocks l → (m2 : Mem (Node K V)) (end : Lookup × Advance (Option ℕ))
       → Steps Took value_at m (lookup_plan {K = K} {V = V} keys l) m2 end → (m2 ≡ m) × LookupTold same hash mode root keys code c blocks end
   went_lookup l facts m2 end s = let r = went_lookup_leads l facts m2 end s in (r.0, r.1)

@@ -3,7 +3,7 @@ use Rattle.std.specs.Prelude.{if◌then◌else◌}
 use Rattle.std.proofs.Common.{◌≡◌, ℕ, suc, ◌^◌, ◌<◌, ◌≤◌, Bool, true, false, Option, Some, None, inl, inr, refl, ap, sym, subst, ◌∙◌, arith}
 use Rattle.map_rule.specs.Given.SeizeWordsMem.{Mem, value_at, Took}
 use Rattle.map_rule.specs.Given.SeizeWordsPlan.{Steps}
-use Rattle.papaya_raw.specs.Given.SeizeDeclared.progress.Progress.{Progress}
+use Rattle.papaya_raw.specs.Given.SeizeDeclared.advance.Advance.{Advance}
 use Rattle.papaya_raw.specs.Given.TablesChunks.{is_incremental}
 use Rattle.papaya_raw.specs.Given.TablesFinding.{finding}
 use Rattle.map_rule.specs.Given.ResizeLookup.{answered, going, beyond, passed, told_of, told, probes}
@@ -38,7 +38,7 @@ module _ {K V : Type 0} (same : K → K → Bool) (hash : K → ℕ) (lawful : I
   abbrev Facts : Lookup → Type 0
   Facts l = LookupFacts same hash mode root keys code c blocks l
 
-  abbrev Told : Lookup × Progress (Option ℕ) → Type 0
+  abbrev Told : Lookup × Advance (Option ℕ) → Type 0
   Told end = LookupTold same hash mode root keys code c blocks end
 
   -- it goes on elsewhere
@@ -48,7 +48,7 @@ module _ {K V : Type 0} (same : K → K → Bool) (hash : K → ℕ) (lawful : I
   module _ (l : Lookup) (facts : Facts l) (trial : Trial) (t j : ℕ) (tries : IsTrial c blocks trial code t j) (none : NoneBefore same hash (is_incremental mode) c keys t j)
       (rooted : is_incremental mode ≡ false → t ≡ c.first) (sees : SeesPlace hash keys code m c blocks trial t (c.place t (spot_at (c.len t) code j))) where
     -- with where it leads
-    abbrev ToldHere : Lookup × Progress (Option ℕ) → Type 0
+    abbrev ToldHere : Lookup × Advance (Option ℕ) → Type 0
     ToldHere end = Told end × LookupLeads (at.Probes trial) end
 
     -- the try is none too many
@@ -119,5 +119,5 @@ module _ {K V : Type 0} (same : K → K → Bool) (hash : K → ℕ) (lawful : I
         (says keys c.key blocks.pair _ mode Looks (c.place t i) same_key sees.has_block
         (shown_byte hash fits c.key (c.place t i)) sees.has_key tells))
 
-    pub went_probes : (m2 : Mem (Node K V)) (end : Lookup × Progress (Option ℕ)) → Steps Took value_at m (probes {K = K} {V = V} keys l trial) m2 end → (m2 ≡ m) × ToldHere end
+    pub went_probes : (m2 : Mem (Node K V)) (end : Lookup × Advance (Option ℕ)) → Steps Took value_at m (probes {K = K} {V = V} keys l trial) m2 end → (m2 ≡ m) × ToldHere end
     went_probes = probes_tell hash keys code m c blocks l facts.hash_is trial t (c.place t i) sees ToldHere went_same

@@ -5,7 +5,7 @@ use Rattle.map_rule.specs.Given.SeizeWordsMem.{Mem, value_at, word_at, Can, Took
 use Rattle.map_rule.specs.Given.SeizeWordsPlan.{May, MaySee, Steps, Ends, Now, Seeing}
 use Rattle.map_rule.proofs.Given.SeizeWordsOneOwner.Operations.{may_load, loaded}
 use Rattle.map_rule.proofs.Given.SeizeWordsPlans.{see_if, ends_if}
-use Rattle.papaya_raw.specs.Given.SeizeDeclared.progress.Progress.{Progress}
+use Rattle.papaya_raw.specs.Given.SeizeDeclared.advance.Advance.{Advance}
 use Rattle.papaya_raw.specs.Given.TablesLengths.{IsTableLen}
 use Rattle.papaya_raw.specs.Given.TablesFinding.{may_name}
 use Rattle.map_rule.specs.Given.ResizeLookup.{told, names_pair, word_read, word_found, probes}
@@ -59,8 +59,8 @@ module _ {K V : Type 0} (hash : K → ℕ) (keys : K → Bool) (code : ℕ) (m :
   may_probes = may_load m (word_found keys l trial) (place_tried trial) (is_some_of (word_at m (place_tried trial)) word sees.there) (λ found e. may_read found (read_is found e))
 
   -- Whatever is so of where it goes on by this word, as its pair is one of the keys or not, is so of where it goes on.
-  module _ (Told : Lookup × Progress (Option ℕ) → Type 0) (tells : (same_key : Bool) → Tells keys c.key place same_key → Told (told l trial (place_word hash c blocks place) same_key)) where
-    read_tells : (found : ℕ) → found ≡ place_word hash c blocks place → (end : Lookup × Progress (Option ℕ)) → Ends (value_at m) (word_read {K = K} {V = V} keys l trial found) end → Told end
+  module _ (Told : Lookup × Advance (Option ℕ) → Type 0) (tells : (same_key : Bool) → Tells keys c.key place same_key → Told (told l trial (place_word hash c blocks place) same_key)) where
+    read_tells : (found : ℕ) → found ≡ place_word hash c blocks place → (end : Lookup × Advance (Option ℕ)) → Ends (value_at m) (word_read {K = K} {V = V} keys l trial found) end → Told end
     read_tells found is end ends =
         by_name (ends_if (value_at m) (may_name l.hash found) (Seeing (found / 2048) (λ value. Now (told l trial found (names_pair keys value)))) (Now (told l trial found false)) end ends)
       where
@@ -74,7 +74,7 @@ module _ {K V : Type 0} (hash : K → ℕ) (keys : K → Bool) (code : ℕ) (m :
             subst (λ x. Told x) (sym e.1) (subst (λ x. Told (told l trial x false)) (sym is) (tells false
             (sees.other (subst (λ x. may_name x word ≡ false) hash_is (ap (may_name l.hash) (sym is) ∙ e.0)))))
 
-    pub probes_tell : (m2 : Mem (Node K V)) (end : Lookup × Progress (Option ℕ)) → Steps Took value_at m (probes {K = K} {V = V} keys l trial) m2 end → (m2 ≡ m) × Told end
+    pub probes_tell : (m2 : Mem (Node K V)) (end : Lookup × Advance (Option ℕ)) → Steps Took value_at m (probes {K = K} {V = V} keys l trial) m2 end → (m2 ≡ m) × Told end
     probes_tell m2 end s = let r = loaded m (word_found keys l trial) (place_tried trial) m2 end s in (r.2, read_tells r.0 (read_is r.0 r.1) end r.3)
 
 module _ {K V : Type 0} (same : K → K → Bool) (hash : K → ℕ) (fits : (k : K) → hash k < 2 ^ 64) (mode : ResizeMode) (root : ℕ) (keys : K → Bool) (code : ℕ)

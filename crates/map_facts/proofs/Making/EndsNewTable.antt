@@ -9,8 +9,8 @@ use Rattle.map_rule.specs.Given.SeizeWordsDeclared.fault.Fault.{Fault}
 use Rattle.map_rule.specs.Given.SeizeWordsDeclared.fault.Fault.TheVariants.{Capacity}
 use Rattle.map_rule.proofs.Given.SeizeWordsOneOwner.Operations.{stored, exchanged, made as make_made, taken}
 use Rattle.map_rule.proofs.Given.SeizeRuleRows.Leaving.{steps_back}
-use Rattle.papaya_raw.specs.Given.SeizeDeclared.progress.Progress.{Progress}
-use Rattle.papaya_raw.specs.Given.SeizeDeclared.progress.Progress.TheVariants as progress
+use Rattle.papaya_raw.specs.Given.SeizeDeclared.advance.Advance.{Advance}
+use Rattle.papaya_raw.specs.Given.SeizeDeclared.advance.Advance.TheVariants as progress
 use Rattle.papaya_raw.specs.Given.TablesLengths.{next_len, next_limit, next_turn}
 use Rattle.map_rule.specs.Given.ResizeNewTable.{planned, goes, counted, following, making_of, after_making, with_block, made, linked, other, plan_at, new_table_plan}
 use Rattle.map_rule.specs.Given.ResizeSum.{sum_plan}
@@ -51,17 +51,17 @@ made_below (Word block field) table = inl (omega arith)
 
 module _ {K V : Type 0} (m : Mem (Node K V)) (n : NewTable) where
   -- if the step goes on, its number is lower than where it stood
-  abbrev Lowers : Making → NewTable × Progress Table → Type 0
+  abbrev Lowers : Making → NewTable × Advance Table → Type 0
   Lowers stands end = end.1 ≡ progress.Goes → IsBelow (number_of_new_table end.0) (number_at_making stands)
 
-  lowers_counted : (before : Table) (reason : Reason) (sum sum2 : Sum) (p : Progress ℕ) → (p ≡ progress.Goes → IsBelow (number_of_sum sum2) (number_of_sum sum))
+  lowers_counted : (before : Table) (reason : Reason) (sum sum2 : Sum) (p : Advance ℕ) → (p ≡ progress.Goes → IsBelow (number_of_sum sum2) (number_of_sum sum))
       → Lowers (at.Sums before reason sum) (counted n before reason (sum2, p))
   lowers_counted before reason sum sum2 progress.Goes below goes = inr (refl, below refl)
   lowers_counted before reason sum sum2 progress.Waits below goes = absurd (cc goes)
   lowers_counted before reason sum sum2 (progress.Done count) below goes = making_below reason before (next_len reason before.len count n.setting.initial) sum
   lowers_counted before reason sum sum2 (progress.Refused fault) below goes = absurd (cc goes)
 
-  lowers_at : (stands : Making) (m2 : Mem (Node K V)) (end : NewTable × Progress Table) → Steps Took value_at m (plan_at n stands) m2 end → Lowers stands end
+  lowers_at : (stands : Making) (m2 : Mem (Node K V)) (end : NewTable × Advance Table) → Steps Took value_at m (plan_at n stands) m2 end → Lowers stands end
   lowers_at (at.Sums before reason sum) m2 end s =
       let b = steps_back (counted n before reason) m m2 (sum_plan sum) end s in
       subst (λ e. Lowers (at.Sums before reason sum) e) (sym b.2) (lowers_counted before reason sum b.0.0 b.0.1 (sum_lowers m sum m2 b.0 b.1))
@@ -84,7 +84,7 @@ module _ {K V : Type 0} (m : Mem (Node K V)) (n : NewTable) where
   lowers_at (at.Over table) m2 end s = subst (λ e. Lowers (at.Over table) e) (sym s.1) (λ goes. absurd (cc goes))
   lowers_at (at.Refused fault) m2 end s = subst (λ e. Lowers (at.Refused fault) e) (sym s.1) (λ goes. absurd (cc goes))
 
-pub new_table_lowers : {K V : Type 0} (m : Mem (Node K V)) (n : NewTable) (m2 : Mem (Node K V)) (end : NewTable × Progress Table) → Steps Took value_at m (new_table_plan n) m2 end
+pub new_table_lowers : {K V : Type 0} (m : Mem (Node K V)) (n : NewTable) (m2 : Mem (Node K V)) (end : NewTable × Advance Table) → Steps Took value_at m (new_table_plan n) m2 end
     → end.1 ≡ progress.Goes → IsBelow (number_of_new_table end.0) (number_of_new_table n)
 new_table_lowers m n m2 end s goes = lowers_at m n n.stands m2 end s goes
 

@@ -6,8 +6,8 @@ use Rattle.map_rule.specs.Given.SeizeWordsMem.{Mem, Can, Took, value_at}
 use Rattle.map_rule.specs.Given.SeizeWordsPlan.{May, Steps}
 use Rattle.map_rule.specs.Given.SeizeWordsDeclared.at.At.{At}
 use Rattle.papaya_raw.specs.Given.SeizeWorld.{World}
-use Rattle.papaya_raw.specs.Given.SeizeDeclared.progress.Progress.{Progress}
-use Rattle.papaya_raw.specs.Given.SeizeDeclared.progress.Progress.TheVariants as progress
+use Rattle.papaya_raw.specs.Given.SeizeDeclared.advance.Advance.{Advance}
+use Rattle.papaya_raw.specs.Given.SeizeDeclared.advance.Advance.TheVariants as progress
 use Rattle.map_rule.specs.Given.ResizeNewTable.{plan_at, new_table_plan}
 use Rattle.papaya_raw.specs.Given.TablesDeclared.node.Node.{Node}
 use Rattle.papaya_raw.specs.Given.TablesDeclared.resize_mode.ResizeMode.{ResizeMode}
@@ -36,12 +36,12 @@ pub links_current : {K : Type 0} (hash : K → ℕ) (mode : ResizeMode) (c c2 : 
 links_current hash mode c c2 (inl e) = subst (λ (x : Chart _). x.current ≡ c.current) (sym e) refl
 links_current hash mode c c2 (inr l) = subst (λ (x : Chart _). x.current ≡ c.current) (sym l.2) refl
 
-pub only_links : {K : Type 0} (hash : K → ℕ) (mode : ResizeMode) (turn : ℕ) (c c2 : Chart K) (end : NewTable × Progress Table) → LinksLast hash mode turn c c2 end → OnlyLinks hash mode c c2
+pub only_links : {K : Type 0} (hash : K → ℕ) (mode : ResizeMode) (turn : ℕ) (c c2 : Chart K) (end : NewTable × Advance Table) → LinksLast hash mode turn c c2 end → OnlyLinks hash mode c c2
 only_links hash mode turn c c2 end (inl e) = inl e
 only_links hash mode turn c c2 end (inr l) = inr (l.1.len, l.1.limit, l.3)
 
 -- if the step goes on, its number is lower
-abbrev pub Lowers : NewTable → NewTable × Progress Table → Type 0
+abbrev pub Lowers : NewTable → NewTable × Advance Table → Type 0
 Lowers n end = end.1 ≡ progress.Goes → IsBelow (number_of_new_table end.0) (number_of_new_table n)
 
 module _ {K V : Type 0} (same : K → K → Bool) (hash : K → ℕ) (w : World (Node K V)) (setting : Setting) (c : Chart K) (blocks : Blocks) (map : IsMapIn same hash setting w c blocks) where
@@ -57,7 +57,7 @@ module _ {K V : Type 0} (same : K → K → Bool) (hash : K → ℕ) (w : World 
       may_at (at.Over table) facts = tt
       may_at (at.Refused fault) facts = tt
 
-      went_at : IsLawful same (spot_of hash) → (stands : Point) → MakingFacts w caller setting c blocks link turn stands → (m2 : Mem (Node K V)) (end : NewTable × Progress Table)
+      went_at : IsLawful same (spot_of hash) → (stands : Point) → MakingFacts w caller setting c blocks link turn stands → (m2 : Mem (Node K V)) (end : NewTable × Advance Table)
           → Steps Took value_at w.memory (plan_at n stands) m2 end → NewTableWent same hash w caller setting c blocks link turn m2 end
       went_at lawful (at.Sums before reason sum) facts m2 end s =
           went_sums same hash w caller setting c blocks link turn map n setting_is link_is of initial_is before reason sum facts.0 facts.1 m2 end s
@@ -69,16 +69,16 @@ module _ {K V : Type 0} (same : K → K → Bool) (hash : K → ℕ) (w : World 
           went_drops same hash w caller setting c blocks map n table _ own found u made known found_is link turn at_turn m2 end s
       went_at lawful (at.Over table) facts m2 end s =
           told_still same hash w caller setting c blocks link turn map m2 s.0 end
-          (subst (λ (e : NewTable × Progress Table). NewTableTold w caller setting c blocks link turn e) (sym s.1) facts)
+          (subst (λ (e : NewTable × Advance Table). NewTableTold w caller setting c blocks link turn e) (sym s.1) facts)
       went_at lawful (at.Refused fault) facts m2 end s =
           told_still same hash w caller setting c blocks link turn map m2 s.0 end
-          (subst (λ (e : NewTable × Progress Table). NewTableTold w caller setting c blocks link turn e) (sym s.1) tt)
+          (subst (λ (e : NewTable × Advance Table). NewTableTold w caller setting c blocks link turn e) (sym s.1) tt)
 
     pub may_new_table : (n : NewTable) → NewTableFacts w caller setting c blocks link turn n → May Can Took value_at w.memory (new_table_plan n)
     may_new_table n facts = may_at n facts.setting_is facts.link_is facts.link_of n.stands facts.point
 
     -- each step that goes on is one of those left, and a table is linked by a last step
-    pub went_new_table_lowers : IsLawful same (spot_of hash) → (n : NewTable) → NewTableFacts w caller setting c blocks link turn n → (m2 : Mem (Node K V)) (end : NewTable × Progress Table)
+    pub went_new_table_lowers : IsLawful same (spot_of hash) → (n : NewTable) → NewTableFacts w caller setting c blocks link turn n → (m2 : Mem (Node K V)) (end : NewTable × Advance Table)
         → Steps Took value_at w.memory (new_table_plan n) m2 end
         → Went same hash setting caller w c blocks m2
         (λ w2 c2 blocks2. SparesPairs w w2 × LinksLast hash setting.mode turn c c2 end × NewTableTold w2 caller setting c2 blocks2 link turn end × Lowers n end)
@@ -88,7 +88,7 @@ module _ {K V : Type 0} (same : K → K → Bool) (hash : K → ℕ) (w : World 
         (λ w2 c2 blocks2 map2 moved same_blocks told. (told.0, told.1, told.2, new_table_lowers w.memory n m2 end s))
         (went_at n facts.setting_is facts.link_is facts.link_of lawful n.stands facts.point m2 end s)
 
-    pub went_new_table : IsLawful same (spot_of hash) → (n : NewTable) → NewTableFacts w caller setting c blocks link turn n → (m2 : Mem (Node K V)) (end : NewTable × Progress Table)
+    pub went_new_table : IsLawful same (spot_of hash) → (n : NewTable) → NewTableFacts w caller setting c blocks link turn n → (m2 : Mem (Node K V)) (end : NewTable × Advance Table)
         → Steps Took value_at w.memory (new_table_plan n) m2 end
         → Went same hash setting caller w c blocks m2 (λ w2 c2 blocks2. SparesPairs w w2 × OnlyLinks hash setting.mode c c2 × NewTableTold w2 caller setting c2 blocks2 link turn end)
     went_new_table lawful n facts m2 end s =

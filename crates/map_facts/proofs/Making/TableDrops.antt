@@ -7,7 +7,7 @@ use Rattle.map_rule.specs.Given.SeizeWordsDeclared.at.At.{At}
 use Rattle.map_rule.proofs.Given.SeizeWordsOneOwner.Operations.{may_take, taken}
 use Rattle.papaya_raw.specs.Given.SeizeLaw.{Dropped}
 use Rattle.papaya_raw.specs.Given.SeizeWorld.{World, NoBlock}
-use Rattle.papaya_raw.specs.Given.SeizeDeclared.progress.Progress.{Progress}
+use Rattle.papaya_raw.specs.Given.SeizeDeclared.advance.Advance.{Advance}
 use Rattle.papaya_raw.specs.Given.TablesNodes.{table_seen}
 use Rattle.map_rule.specs.Given.ResizeNewTable.{done, other, drops}
 use Rattle.papaya_raw.specs.Given.TablesDeclared.node.Node.{Node}
@@ -54,9 +54,9 @@ module _ {K V : Type 0} (same : K → K → Bool) (hash : K → ℕ) (w : World 
       (table_is hash left.memory c blocks setting.root left_in.map.shows u made known value (sym (ap (λ (x : ℕ). value_at left.memory (x / 2048)) found_is) ∙ is))
 
   -- Whatever is so of the end with the table that was found is so of where this step leads.
-  pub drops_tell : (Told : World (Node K V) → Chart K → Blocks → NewTable × Progress Table → Type 0)
+  pub drops_tell : (Told : World (Node K V) → Chart K → Blocks → NewTable × Advance Table → Type 0)
       → ((w2 : World (Node K V)) → IsMapIn same hash setting w2 c blocks → SparesPairs w w2 → (found_one : Table) → IsTable c blocks found_one u → Told w2 c blocks (done n found_one))
-      → (m2 : Mem (Node K V)) (end : NewTable × Progress Table) → Steps Took value_at w.memory (drops n table found) m2 end
+      → (m2 : Mem (Node K V)) (end : NewTable × Advance Table) → Steps Took value_at w.memory (drops n table found) m2 end
       → Went same hash setting caller w c blocks m2 (λ w2 c2 blocks2. Told w2 c2 blocks2 end)
   drops_tell Told tells m2 end s =
       let d = taken w.memory (λ out. other n found) (table.link / 2048) m2 end s in
@@ -64,11 +64,11 @@ module _ {K V : Type 0} (same : K → K → Bool) (hash : K → ℕ) (w : World 
       went_dropped same hash setting w c blocks map own.block caller (node.Table table.len table.limit table.turn) own.hand own.value (λ e. absurd (cc e)) m2
       (d.2 ∙ ap (λ b. with_block w.memory b None) block_is)
       (λ w2 c2 blocks2. Told w2 c2 blocks2 end)
-      (subst (λ (e : NewTable × Progress Table). Told left c blocks e) (sym ends.2)
+      (subst (λ (e : NewTable × Advance Table). Told left c blocks e) (sym ends.2)
       (tells left left_in (spares_taken w own.block NoBlock (Dropped own.block ∷ w.log) there (λ k v e. let is = own.value in absurd (cc)))
       (table_seen found ends.0) (found_table ends.0 ends.1)))
 
-  pub went_drops : (link : At) (turn : ℕ) → StandsAs setting c link turn u → (m2 : Mem (Node K V)) (end : NewTable × Progress Table) → Steps Took value_at w.memory (drops n table found) m2 end
+  pub went_drops : (link : At) (turn : ℕ) → StandsAs setting c link turn u → (m2 : Mem (Node K V)) (end : NewTable × Advance Table) → Steps Took value_at w.memory (drops n table found) m2 end
       → NewTableWent same hash w caller setting c blocks link turn m2 end
   went_drops link turn at_turn =
       drops_tell (λ w2 c2 blocks2 end. NewTableTells same hash w caller setting c blocks link turn end w2 c2 blocks2)

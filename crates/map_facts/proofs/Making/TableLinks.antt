@@ -11,7 +11,7 @@ use Rattle.map_rule.proofs.Given.SeizeWordsOneOwner.AfterWrites.{value_at-with_w
 use Rattle.map_rule.proofs.Given.SeizeWordsOneOwner.Operations.{may_exchange, exchanged}
 use Rattle.papaya_raw.specs.Given.SeizeLaw.{Linked}
 use Rattle.papaya_raw.specs.Given.SeizeWorld.{World, InUse, IsOwn, Links as LinksBlock, with_hand, with_effect}
-use Rattle.papaya_raw.specs.Given.SeizeDeclared.progress.Progress.{Progress}
+use Rattle.papaya_raw.specs.Given.SeizeDeclared.advance.Advance.{Advance}
 use Rattle.papaya_raw.specs.Given.TablesChunks.{is_incremental}
 use Rattle.papaya_raw.specs.Given.TablesNodes.{deferred_word}
 use Rattle.map_rule.specs.Given.ResizeNewTable.{goes, done, linked, links}
@@ -228,7 +228,7 @@ module _ {K V : Type 0} (same : K → K → Bool) (hash : K → ℕ) (w : World 
         (spares_hand (record w { memory = written }) own.block (InUse setting.counter) (Linked own.block setting.counter ∷ w.log)
         (λ j k v making is. let is_table = value_at-with_word w.memory link (own.block * 2048) own.block there ∙ own.value in absurd (cc)))
 
-    went_linked : (end : NewTable × Progress Table) → end ≡ done n table → NewTableWent same hash w caller setting c blocks link turn written end
+    went_linked : (end : NewTable × Advance Table) → end ≡ done n table → NewTableWent same hash w caller setting c blocks link turn written end
     went_linked end is =
         went_after same hash setting caller w c blocks map (Exchange link 0 (own.block * 2048)) (Exchanged (Ok 0)) stands.users written ((read, refl), refl)
         (LinksBlock caller own.block setting.counter ∷ []) (tt, tt) ((inl (own.hand, λ shards. (let value = own.value in cc (value, shards))), refl), tt) w2 (w2, ((caller, own.hand), refl), refl) refl
@@ -246,11 +246,11 @@ module _ {K V : Type 0} (same : K → K → Bool) (hash : K → ℕ) (w : World 
         (same_blocks_linked c blocks own.block)
         (NewTableTells same hash w caller setting c blocks link turn end) (
           spared,
-          inr (last, table, ap (λ (e : NewTable × Progress Table). e.1) is, refl),
-          subst (λ (e : NewTable × Progress Table). NewTableTold w2 caller setting c2 blocks2 link turn e) (sym is) stands_new,
+          inr (last, table, ap (λ (e : NewTable × Advance Table). e.1) is, refl),
+          subst (λ (e : NewTable × Advance Table). NewTableTold w2 caller setting c2 blocks2 link turn e) (sym is) stands_new,
         )
 
-  pub went_links : IsLawful same (spot_of hash) → (m2 : Mem (Node K V)) (end : NewTable × Progress Table) → Steps Took value_at w.memory (links n table) m2 end
+  pub went_links : IsLawful same (spot_of hash) → (m2 : Mem (Node K V)) (end : NewTable × Advance Table) → Steps Took value_at w.memory (links n table) m2 end
       → NewTableWent same hash w caller setting c blocks link turn m2 end
   went_links lawful m2 end s =
       elim (exchanged w.memory (linked n table) n.link 0 table.link m2 end s) as (λ _. NewTableWent same hash w caller setting c blocks link turn m2 end) [
@@ -258,6 +258,6 @@ module _ {K V : Type 0} (same : K → K → Bool) (hash : K → ℕ) (w : World 
             let wrote : m2 ≡ with_word w.memory link (own.block * 2048) = d.2 ∙ ap (λ l. with_word w.memory l table.link) link_is ∙ ap (λ x. with_word w.memory link x) own.link in
             subst (λ (m : Mem (Node K V)). NewTableWent same hash w caller setting c blocks link turn m end) (sym wrote) (went_linked lawful read end d.3))
         | inr d ↦ told_still same hash w caller setting c blocks link turn map m2 d.2 end
-            (subst (λ (e : NewTable × Progress Table). NewTableTold w caller setting c blocks link turn e) (sym d.3)
+            (subst (λ (e : NewTable × Advance Table). NewTableTold w caller setting c blocks link turn e) (sym d.3)
             (found_told d.0 (ap (word_at w.memory) (sym link_is) ∙ d.1.0) d.1.1))
       ]

@@ -6,15 +6,15 @@ use Rattle.map_rule.specs.Given.SeizeWordsMem.{Mem, Can, Took, value_at}
 use Rattle.map_rule.specs.Given.SeizeWordsPlan.{May, Steps}
 use Rattle.map_rule.proofs.Given.SeizeWordsPlans.{may_as}
 use Rattle.papaya_raw.specs.Given.SeizeWorld.{World}
-use Rattle.papaya_raw.specs.Given.SeizeDeclared.progress.Progress.{Progress}
-use Rattle.papaya_raw.specs.Given.SeizeDeclared.progress.Progress.TheVariants as progress
+use Rattle.papaya_raw.specs.Given.SeizeDeclared.advance.Advance.{Advance}
+use Rattle.papaya_raw.specs.Given.SeizeDeclared.advance.Advance.TheVariants as progress
 use Rattle.map_rule.proofs.Given.SeizeRuleRows.Leaving.{steps_back}
 use Rattle.map_rule.specs.Given.ResizeCopier.{plan_at, copier_plan}
 use Rattle.map_rule.specs.Given.ResizeCopierFurther.{grown, remade}
 use Rattle.map_rule.specs.Given.ResizeNewTable.{new_table_plan}
 use Rattle.papaya_raw.specs.Given.TablesDeclared.node.Node.{Node}
-use Rattle.map_rule.specs.Given.ResizeDeclared.outcome.Outcome.{Outcome}
-use Rattle.map_rule.specs.Given.ResizeDeclared.outcome.Outcome.TheVariants as outcome
+use Rattle.map_rule.specs.Given.ResizeDeclared.yielding.Yielding.{Yielding}
+use Rattle.map_rule.specs.Given.ResizeDeclared.yielding.Yielding.TheVariants as outcome
 use Rattle.papaya_raw.specs.Given.TablesDeclared.setting.Setting.{Setting}
 use Rattle.papaya_raw.specs.Given.TablesDeclared.table.Table.{Table}
 use Rattle.map_rule.specs.Given.ResizeDeclared.copier.Copier.{Copier}
@@ -34,14 +34,14 @@ use Rattle.map_facts.proofs.Values.Making.{MadeAfter, IsLinkedNow, making_leaves
 use Rattle.map_facts.proofs.Values.Copying.{CopierMadeNone, none_made_by_copier, none_refusing, IsPlainPoint, none_at, plain_at}
 
 -- the block of the table that is left to be linked, after a step
-abbrev pub MadeByCopierAfter : {N : Type 0} → Copier × Outcome N Table → ℕ → Type 0
+abbrev pub MadeByCopierAfter : {N : Type 0} → Copier × Yielding N Table → ℕ → Type 0
 MadeByCopierAfter (p, outcome.Goes) b = IsMadeByCopier p.stands b
 MadeByCopierAfter (p, outcome.Waits) b = IsMadeByCopier p.stands b
 MadeByCopierAfter (p, outcome.Gave value) b = IsMadeByCopier p.stands b
 MadeByCopierAfter (p, outcome.Done table) b = ⊥
 MadeByCopierAfter (p, outcome.Refused fault) b = ⊥
 
-none_after : {N : Type 0} (end : Copier × Outcome N Table) → CopierMadeNone end.0.stands → (b : ℕ) → MadeByCopierAfter end b → ⊥
+none_after : {N : Type 0} (end : Copier × Yielding N Table) → CopierMadeNone end.0.stands → (b : ℕ) → MadeByCopierAfter end b → ⊥
 none_after (p, outcome.Goes) none b h = none_made_by_copier p.stands none b h
 none_after (p, outcome.Waits) none b h = none_made_by_copier p.stands none b h
 none_after (p, outcome.Gave value) none b h = none_made_by_copier p.stands none b h
@@ -49,26 +49,26 @@ none_after (p, outcome.Done table) none b h = h
 none_after (p, outcome.Refused fault) none b h = h
 
 module _ (K V : Type 0) (p : Copier) (word code : ℕ) where
-  grown_to : (e : NewTable × Progress Table) (b : ℕ) → MadeAfter e b → MadeByCopierAfter (grown {K = K} {V = V} p word code e) b
+  grown_to : (e : NewTable × Advance Table) (b : ℕ) → MadeAfter e b → MadeByCopierAfter (grown {K = K} {V = V} p word code e) b
   grown_to (n, progress.Goes) b h = h
   grown_to (n, progress.Waits) b h = h
   grown_to (n, progress.Done table) b h = absurd h
   grown_to (n, progress.Refused fault) b h = absurd h
 
-  grown_of : (e : NewTable × Progress Table) (b : ℕ) → MadeByCopierAfter (grown {K = K} {V = V} p word code e) b → MadeAfter e b
+  grown_of : (e : NewTable × Advance Table) (b : ℕ) → MadeByCopierAfter (grown {K = K} {V = V} p word code e) b → MadeAfter e b
   grown_of (n, progress.Goes) b h = h
   grown_of (n, progress.Waits) b h = h
   grown_of (n, progress.Done table) b h = h
   grown_of (n, progress.Refused fault) b h = none_after (grown {K = K} {V = V} p word code (n, progress.Refused fault)) (none_refusing p word fault) b h
 
 module _ (K V : Type 0) (p : Copier) where
-  remade_to : (e : NewTable × Progress Table) (b : ℕ) → MadeAfter e b → MadeByCopierAfter (remade {K = K} {V = V} p e) b
+  remade_to : (e : NewTable × Advance Table) (b : ℕ) → MadeAfter e b → MadeByCopierAfter (remade {K = K} {V = V} p e) b
   remade_to (n, progress.Goes) b h = h
   remade_to (n, progress.Waits) b h = h
   remade_to (n, progress.Done table) b h = absurd h
   remade_to (n, progress.Refused fault) b h = absurd h
 
-  remade_of : (e : NewTable × Progress Table) (b : ℕ) → MadeByCopierAfter (remade {K = K} {V = V} p e) b → MadeAfter e b
+  remade_of : (e : NewTable × Advance Table) (b : ℕ) → MadeByCopierAfter (remade {K = K} {V = V} p e) b → MadeAfter e b
   remade_of (n, progress.Goes) b h = h
   remade_of (n, progress.Waits) b h = h
   remade_of (n, progress.Done table) b h = h
@@ -81,7 +81,7 @@ module _ {K V : Type 0} (w : World (Node K V)) (caller : ℕ) (setting : Setting
   MakesTable (at.Remakes making) = (link : At) × (turn : ℕ) × NewTableFacts w caller setting c blocks link turn making
   MakesTable _ = Unit {0}
 
-  module _ (hash : K → ℕ) (m2 : Mem (Node K V)) (p : Copier) (end : Copier × Outcome (Node K V) Table) where
+  module _ (hash : K → ℕ) (m2 : Mem (Node K V)) (p : Copier) (end : Copier × Yielding (Node K V) Table) where
     abbrev Left : (ℕ → Type 0) → Type 0
     Left Mine = Leaves w.memory m2 Mine (MadeByCopierAfter end) (IsLinkedNow w caller setting c blocks m2)
 
@@ -97,14 +97,14 @@ module _ {K V : Type 0} (w : World (Node K V)) (caller : ℕ) (setting : Setting
         → Steps Took value_at w.memory (plan_at hash p stands) m2 end → Left (IsMadeByCopier stands)
     leaves_at (at.Grows word code making) is f none may s =
         let d = steps_back (grown p word code) w.memory m2 (new_table_plan making) end s in
-        subst (λ (e : Copier × Outcome (Node K V) Table). Leaves w.memory m2 (IsMadeByCopier (at.Grows word code making)) (MadeByCopierAfter e) (IsLinkedNow w caller setting c blocks m2)) (sym d.2)
+        subst (λ (e : Copier × Yielding (Node K V) Table). Leaves w.memory m2 (IsMadeByCopier (at.Grows word code making)) (MadeByCopierAfter e) (IsLinkedNow w caller setting c blocks m2)) (sym d.2)
         (leaves_as w.memory m2 (IsMadeByCopier (at.Grows word code making)) (MadeAfter d.0) (IsLinkedNow w caller setting c blocks m2)
         (IsMadeByCopier (at.Grows word code making)) (MadeByCopierAfter (grown {K = K} {V = V} p word code d.0))
         (λ b h. h) (λ b h. h) (grown_to K V p word code d.0) (grown_of K V p word code d.0)
         (making_leaves w caller setting c blocks m2 f.0 f.1 making f.2 d.0 (may_as (grown p word code) Can Took value_at w.memory (new_table_plan making) may) d.1))
     leaves_at (at.Remakes making) is f none may s =
         let d = steps_back (remade p) w.memory m2 (new_table_plan making) end s in
-        subst (λ (e : Copier × Outcome (Node K V) Table). Leaves w.memory m2 (IsMadeByCopier (at.Remakes making)) (MadeByCopierAfter e) (IsLinkedNow w caller setting c blocks m2)) (sym d.2)
+        subst (λ (e : Copier × Yielding (Node K V) Table). Leaves w.memory m2 (IsMadeByCopier (at.Remakes making)) (MadeByCopierAfter e) (IsLinkedNow w caller setting c blocks m2)) (sym d.2)
         (leaves_as w.memory m2 (IsMadeByCopier (at.Remakes making)) (MadeAfter d.0) (IsLinkedNow w caller setting c blocks m2)
         (IsMadeByCopier (at.Remakes making)) (MadeByCopierAfter (remade {K = K} {V = V} p d.0))
         (λ b h. h) (λ b h. h) (remade_to K V p d.0) (remade_of K V p d.0)

@@ -22,7 +22,7 @@ use Rattle.papaya_raw.specs.Given.TablesDeclared.marks.TheConstants.{COPYING, CO
 use Rattle.papaya_raw.specs.Given.TablesDeclared.lengths.Reason.TheVariants.{NoPlace}
 use Rattle.papaya_raw.specs.Given.TablesDeclared.node.Node.{Node}
 use Rattle.papaya_raw.specs.Given.TablesDeclared.status.TheConstants.Status.{ABORTED, PROMOTED}
-use Rattle.map_rule.specs.Given.ResizeDeclared.outcome.Outcome.{Outcome}
+use Rattle.map_rule.specs.Given.ResizeDeclared.yielding.Yielding.{Yielding}
 use Rattle.papaya_raw.specs.Given.TablesDeclared.probe.Probe.{Probe}
 use Rattle.papaya_raw.specs.Given.TablesDeclared.table.Table.{Table}
 use Rattle.papaya_raw.specs.Given.TablesDeclared.table_words.TheConstants.{NEXT, CLAIM, STATUS, COPIED as COUNT}
@@ -118,14 +118,14 @@ IsPlainPoint (at.Remakes making) = ⊥
 IsPlainPoint (at.Retires settle rest) = ⊥
 IsPlainPoint _ = Unit {0}
 
-module _ {K V : Type 0} (hash : K → ℕ) (m m2 : Mem (Node K V)) (p : Copier) (end : Copier × Outcome (Node K V) Table) (here : CopierMadeNone p.stands) where
-  abbrev P : Copier × Outcome (Node K V) Table → Type 0
+module _ {K V : Type 0} (hash : K → ℕ) (m m2 : Mem (Node K V)) (p : Copier) (end : Copier × Yielding (Node K V) Table) (here : CopierMadeNone p.stands) where
+  abbrev P : Copier × Yielding (Node K V) Table → Type 0
   P e = CopierMadeNone e.0.stands
 
-  abbrev All : Then (Node K V) (Copier × Outcome (Node K V) Table) → Type 0
+  abbrev All : Then (Node K V) (Copier × Yielding (Node K V) Table) → Type 0
   All rest = AllThen P rest
 
-  by_all : (n : Mem (Node K V)) (rest : Then (Node K V) (Copier × Outcome (Node K V) Table)) → All rest → Ends (value_at n) rest end → P end
+  by_all : (n : Mem (Node K V)) (rest : Then (Node K V) (Copier × Yielding (Node K V) Table)) → All rest → Ends (value_at n) rest end → P end
   by_all n rest all ends = all_then P (value_at n) rest end all ends
 
   pub none_at : (stands : Point) → IsPlainPoint stands → Steps Took value_at m (plan_at hash p stands) m2 end → P end

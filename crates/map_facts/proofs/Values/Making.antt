@@ -10,8 +10,8 @@ use Rattle.map_rule.specs.Given.SeizeWordsPlan.{Now, May, Steps}
 use Rattle.map_rule.proofs.Given.SeizeWordsOneOwner.AfterWrites.{word_at-with_word}
 use Rattle.map_rule.proofs.Given.SeizeWordsOneOwner.Operations.{stored, exchanged, taken, made as made_by_step}
 use Rattle.papaya_raw.specs.Given.SeizeWorld.{World, Making}
-use Rattle.papaya_raw.specs.Given.SeizeDeclared.progress.Progress.{Progress}
-use Rattle.papaya_raw.specs.Given.SeizeDeclared.progress.Progress.TheVariants as progress
+use Rattle.papaya_raw.specs.Given.SeizeDeclared.advance.Advance.{Advance}
+use Rattle.papaya_raw.specs.Given.SeizeDeclared.advance.Advance.TheVariants as progress
 use Rattle.map_rule.proofs.Given.SeizeRuleRows.Leaving.{steps_back}
 use Rattle.map_rule.proofs.Given.SeizeMemoryWords.Named.{same_at-refl}
 use Rattle.papaya_raw.specs.Given.TablesNodes.{table_seen}
@@ -71,7 +71,7 @@ next_made_none reason before (Ok len) = following_none reason before (max len 8)
 next_made_none reason before (Err fault) = tt
 
 -- the block of the table that is left to be linked, after a step
-abbrev pub MadeAfter : NewTable × Progress Table → ℕ → Type 0
+abbrev pub MadeAfter : NewTable × Advance Table → ℕ → Type 0
 MadeAfter (n, progress.Goes) b = IsMadeBy n.stands b
 MadeAfter (n, progress.Waits) b = IsMadeBy n.stands b
 MadeAfter (n, progress.Done table) b = ⊥
@@ -82,18 +82,18 @@ module _ {K V : Type 0} (w : World (Node K V)) (caller : ℕ) (setting : Setting
   abbrev pub IsLinkedNow : ℕ → Type 0
   IsLinkedNow b = (link : At) × (turn : ℕ) × IsLinkOf setting c blocks link turn × (w.hand b ≡ Making caller) × (0 < b) × (word_at m2 link ≡ Some (b * 2048))
 
-  module _ (link : At) (turn : ℕ) (n : NewTable) (facts : NewTableFacts w caller setting c blocks link turn n) (end : NewTable × Progress Table) where
+  module _ (link : At) (turn : ℕ) (n : NewTable) (facts : NewTableFacts w caller setting c blocks link turn n) (end : NewTable × Advance Table) where
     abbrev Left : (ℕ → Type 0) → Type 0
     Left Mine = Leaves w.memory m2 Mine (MadeAfter end) IsLinkedNow
 
-    plain_sum : (sum : Sum) (stands : Summing) → IsPlainStep {R = Sum × Progress ℕ} (sum_plan_at {T = Node K V} sum stands)
+    plain_sum : (sum : Sum) (stands : Summing) → IsPlainStep {R = Sum × Advance ℕ} (sum_plan_at {T = Node K V} sum stands)
     plain_sum sum (sums.Adds shard total) = tt
     plain_sum sum (sums.Over count) = tt
 
-    counted_none : (before : Table) (reason : Reason) (e : Sum × Progress ℕ) → end ≡ counted n before reason e → (b : ℕ) → MadeAfter end b → ⊥
-    counted_none before reason e is b h = by e (subst (λ (x : NewTable × Progress Table). MadeAfter x b) is h)
+    counted_none : (before : Table) (reason : Reason) (e : Sum × Advance ℕ) → end ≡ counted n before reason e → (b : ℕ) → MadeAfter end b → ⊥
+    counted_none before reason e is b h = by e (subst (λ (x : NewTable × Advance Table). MadeAfter x b) is h)
       where
-        by : (e : Sum × Progress ℕ) → MadeAfter (counted n before reason e) b → ⊥
+        by : (e : Sum × Advance ℕ) → MadeAfter (counted n before reason e) b → ⊥
         by (sum, progress.Goes) h = h
         by (sum, progress.Waits) h = h
         by (sum, progress.Done count) h = none_made _ (next_made_none reason before _) b h
@@ -106,11 +106,11 @@ module _ {K V : Type 0} (w : World (Node K V)) (caller : ℕ) (setting : Setting
     made_there (Entry s i) table b = refl
     made_there (Word s i) table b = refl
 
-    to_end : (e : NewTable × Progress Table) → end ≡ e → (b : ℕ) → MadeAfter e b → MadeAfter end b
-    to_end e is b = subst (λ (x : NewTable × Progress Table). MadeAfter x b) (sym is)
+    to_end : (e : NewTable × Advance Table) → end ≡ e → (b : ℕ) → MadeAfter e b → MadeAfter end b
+    to_end e is b = subst (λ (x : NewTable × Advance Table). MadeAfter x b) (sym is)
 
-    at_end : (e : NewTable × Progress Table) → end ≡ e → (b : ℕ) → MadeAfter end b → MadeAfter e b
-    at_end e is b = subst (λ (x : NewTable × Progress Table). MadeAfter x b) is
+    at_end : (e : NewTable × Advance Table) → end ≡ e → (b : ℕ) → MadeAfter end b → MadeAfter e b
+    at_end e is b = subst (λ (x : NewTable × Advance Table). MadeAfter x b) is
 
     -- the word that was to link to it does
     now : (table : Table) (status : ℕ) → IsOwnTable w caller table status → (found : ℕ) → word_at w.memory n.link ≡ Some found → m2 ≡ with_word w.memory n.link table.link
@@ -140,13 +140,13 @@ module _ {K V : Type 0} (w : World (Node K V)) (caller : ℕ) (setting : Setting
     at_point (at.Makes table) f may s =
         elim (made_by_step w.memory (made n table) (node.Table table.len table.limit table.turn) ((table.len + PLACES) % 2 ^ 64) m2 end s) as (λ _. Left (IsMadeBy (at.Makes table))) [
           | inl (b, is, after, e) ↦
-              (let own : (k : ℕ) → MadeAfter end k ≡ (k ≡ b) = λ k. ap (λ (x : NewTable × Progress Table). MadeAfter x k) e ∙ made_there n.link (with_block table b) k
+              (let own : (k : ℕ) → MadeAfter end k ≡ (k ≡ b) = λ k. ap (λ (x : NewTable × Advance Table). MadeAfter x k) e ∙ made_there n.link (with_block table b) k
               ∙ ap (λ (x : ℕ). k ≡ x) (number_of b is.1) in
               leaves_made w.memory m2 (IsMadeBy (at.Makes table)) (MadeAfter end) IsLinkedNow _ _ b is.0 after
               (subst (λ (x : Type 0). x) (sym (own b)) refl) (λ k h. h) (λ k h. subst (λ (x : Type 0). x) (own k) h))
           | inr (back, is, after, e) ↦
               leaves_same w.memory m2 (IsMadeBy (at.Makes table)) (MadeAfter end) IsLinkedNow (λ b. ap (λ (x : Mem (Node K V)). value_at x b) after)
-              (λ b h. absurd h) (λ b h. subst (λ (x : NewTable × Progress Table). MadeAfter x b) e h)
+              (λ b h. absurd h) (λ b h. subst (λ (x : NewTable × Advance Table). MadeAfter x b) e h)
         ]
     at_point (at.Promotes table) f may s =
         let d = stored w.memory (λ out. Now (goes n (at.Links table))) (Word (table.link / 2048) STATUS) PROMOTED m2 end s in

@@ -8,8 +8,8 @@ use Rattle.map_rule.specs.Given.SeizeWordsPlan.{May, Steps}
 use Rattle.map_rule.proofs.Given.SeizeWordsOneOwner.Operations.{loaded, exchanged}
 use Rattle.map_rule.proofs.Given.SeizeWordsPlans.{may_as}
 use Rattle.papaya_raw.specs.Given.SeizeWorld.{World}
-use Rattle.papaya_raw.specs.Given.SeizeDeclared.progress.Progress.{Progress}
-use Rattle.papaya_raw.specs.Given.SeizeDeclared.progress.Progress.TheVariants as progress
+use Rattle.papaya_raw.specs.Given.SeizeDeclared.advance.Advance.{Advance}
+use Rattle.papaya_raw.specs.Given.SeizeDeclared.advance.Advance.TheVariants as progress
 use Rattle.map_rule.proofs.Given.SeizeRuleRows.Leaving.{steps_back}
 use Rattle.papaya_raw.specs.Call.{looked, looks_for, looks, root_found, roots, next_found, nexts, word_found, probes, tried, tries, first_made, firsts, next_made, allocs, helped, helps, copied, copies}
 use Rattle.papaya_raw.specs.CallPoints.{changed}
@@ -19,8 +19,8 @@ use Rattle.map_rule.specs.Given.ResizeNewTable.{new_table_plan}
 use Rattle.papaya_raw.specs.Given.TablesTablePlaces.{at_word}
 use Rattle.papaya_raw.specs.Given.TablesTrials.{place_tried}
 use Rattle.papaya_raw.specs.Given.TablesDeclared.node.Node.{Node}
-use Rattle.map_rule.specs.Given.ResizeDeclared.outcome.Outcome.{Outcome}
-use Rattle.map_rule.specs.Given.ResizeDeclared.outcome.Outcome.TheVariants as outcome
+use Rattle.map_rule.specs.Given.ResizeDeclared.yielding.Yielding.{Yielding}
+use Rattle.map_rule.specs.Given.ResizeDeclared.yielding.Yielding.TheVariants as outcome
 use Rattle.papaya_raw.specs.Given.TablesDeclared.setting.Setting.{Setting}
 use Rattle.papaya_raw.specs.Given.TablesDeclared.table.Table.{Table}
 use Rattle.papaya_raw.specs.Given.TablesDeclared.table_words.TheConstants.{NEXT}
@@ -72,85 +72,85 @@ module _ {K V Q : Type 0} where
 
   module _ (p : KeyCall K V Q) where
     -- a machine within it made a table
-    first_to : (e : NewTable × Progress Table) (b : ℕ) → MadeAfter e b → MadeByCallAfter (first_made p e) b
+    first_to : (e : NewTable × Advance Table) (b : ℕ) → MadeAfter e b → MadeByCallAfter (first_made p e) b
     first_to (n, progress.Goes) b h = h
     first_to (n, progress.Waits) b h = h
     first_to (n, progress.Done table) b h = absurd h
     first_to (n, progress.Refused fault) b h = absurd h
 
-    first_of : (e : NewTable × Progress Table) (b : ℕ) → MadeByCallAfter (first_made p e) b → MadeAfter e b
+    first_of : (e : NewTable × Advance Table) (b : ℕ) → MadeByCallAfter (first_made p e) b → MadeAfter e b
     first_of (n, progress.Goes) b h = h
     first_of (n, progress.Waits) b h = h
     first_of (n, progress.Done table) b h = h
     first_of (n, progress.Refused fault) b h = none_call_after (first_made p (n, progress.Refused fault)) (ending_so p (ends.Refused fault) tt).1 b h
 
-    next_to : (e : NewTable × Progress Table) (b : ℕ) → MadeAfter e b → MadeByCallAfter (next_made p e) b
+    next_to : (e : NewTable × Advance Table) (b : ℕ) → MadeAfter e b → MadeByCallAfter (next_made p e) b
     next_to (n, progress.Goes) b h = h
     next_to (n, progress.Waits) b h = h
     next_to (n, progress.Done table) b h = absurd h
     next_to (n, progress.Refused fault) b h = absurd h
 
-    next_of : (e : NewTable × Progress Table) (b : ℕ) → MadeByCallAfter (next_made p e) b → MadeAfter e b
+    next_of : (e : NewTable × Advance Table) (b : ℕ) → MadeByCallAfter (next_made p e) b → MadeAfter e b
     next_of (n, progress.Goes) b h = h
     next_of (n, progress.Waits) b h = h
     next_of (n, progress.Done table) b h = none_call_after (next_made p (n, progress.Done table)) (went_on_so p table).1 b h
     next_of (n, progress.Refused fault) b h = none_call_after (next_made p (n, progress.Refused fault)) (ending_so p (ends.Refused fault) tt).1 b h
 
-    helped_to : (goal : Table) (e : Copier × Outcome (Node K V) Table) (b : ℕ) → MadeByCopierAfter e b → MadeByCallAfter (helped p goal e) b
+    helped_to : (goal : Table) (e : Copier × Yielding (Node K V) Table) (b : ℕ) → MadeByCopierAfter e b → MadeByCallAfter (helped p goal e) b
     helped_to goal (n, outcome.Goes) b h = h
     helped_to goal (n, outcome.Waits) b h = h
     helped_to goal (n, outcome.Gave value) b h = h
     helped_to goal (n, outcome.Done table) b h = absurd h
     helped_to goal (n, outcome.Refused fault) b h = absurd h
 
-    helped_of : (goal : Table) (e : Copier × Outcome (Node K V) Table) (b : ℕ) → MadeByCallAfter (helped p goal e) b → MadeByCopierAfter e b
+    helped_of : (goal : Table) (e : Copier × Yielding (Node K V) Table) (b : ℕ) → MadeByCallAfter (helped p goal e) b → MadeByCopierAfter e b
     helped_of goal (n, outcome.Goes) b h = h
     helped_of goal (n, outcome.Waits) b h = h
     helped_of goal (n, outcome.Gave value) b h = h
     helped_of goal (n, outcome.Done table) b h = h
     helped_of goal (n, outcome.Refused fault) b h = none_call_after (helped p goal (n, outcome.Refused fault)) (ending_so p (ends.Refused fault) tt).1 b h
 
-    copied_to : (e : Copier × Outcome (Node K V) Table) (b : ℕ) → MadeByCopierAfter e b → MadeByCallAfter (copied p e) b
+    copied_to : (e : Copier × Yielding (Node K V) Table) (b : ℕ) → MadeByCopierAfter e b → MadeByCallAfter (copied p e) b
     copied_to (n, outcome.Goes) b h = h
     copied_to (n, outcome.Waits) b h = h
     copied_to (n, outcome.Gave value) b h = h
     copied_to (n, outcome.Done table) b h = absurd h
     copied_to (n, outcome.Refused fault) b h = absurd h
 
-    copied_of : (e : Copier × Outcome (Node K V) Table) (b : ℕ) → MadeByCallAfter (copied p e) b → MadeByCopierAfter e b
+    copied_of : (e : Copier × Yielding (Node K V) Table) (b : ℕ) → MadeByCallAfter (copied p e) b → MadeByCopierAfter e b
     copied_of (n, outcome.Goes) b h = h
     copied_of (n, outcome.Waits) b h = h
     copied_of (n, outcome.Gave value) b h = h
     copied_of (n, outcome.Done table) b h = h
     copied_of (n, outcome.Refused fault) b h = none_call_after (copied p (n, outcome.Refused fault)) (ending_so p (ends.Refused fault) tt).1 b h
 
-    pub first_so : (e : NewTable × Progress Table) → GoesSeeking p (first_made p e)
+    pub first_so : (e : NewTable × Advance Table) → GoesSeeking p (first_made p e)
     first_so (n, progress.Goes) = (refl, tt)
     first_so (n, progress.Waits) = (refl, tt)
     first_so (n, progress.Done table) = (refl, tt)
     first_so (n, progress.Refused fault) = (ending_so p (ends.Refused fault) tt).0
 
-    next_so : (e : NewTable × Progress Table) → GoesSeeking p (next_made p e)
+    next_so : (e : NewTable × Advance Table) → GoesSeeking p (next_made p e)
     next_so (n, progress.Goes) = (refl, tt)
     next_so (n, progress.Waits) = (refl, tt)
     next_so (n, progress.Done table) = (went_on_so p table).0
     next_so (n, progress.Refused fault) = (ending_so p (ends.Refused fault) tt).0
 
-    pub helped_so : (goal : Table) (e : Copier × Outcome (Node K V) Table) → GoesSeeking p (helped p goal e)
+    pub helped_so : (goal : Table) (e : Copier × Yielding (Node K V) Table) → GoesSeeking p (helped p goal e)
     helped_so goal (n, outcome.Goes) = (refl, tt)
     helped_so goal (n, outcome.Waits) = (refl, tt)
     helped_so goal (n, outcome.Gave value) = (refl, tt)
     helped_so goal (n, outcome.Done table) = (refl, tt)
     helped_so goal (n, outcome.Refused fault) = (ending_so p (ends.Refused fault) tt).0
 
-    pub copied_so : (e : Copier × Outcome (Node K V) Table) → GoesSeeking p (copied p e)
+    pub copied_so : (e : Copier × Yielding (Node K V) Table) → GoesSeeking p (copied p e)
     copied_so (n, outcome.Goes) = (refl, tt)
     copied_so (n, outcome.Waits) = (refl, tt)
     copied_so (n, outcome.Gave value) = (refl, tt)
     copied_so (n, outcome.Done table) = (refl, tt)
     copied_so (n, outcome.Refused fault) = (ending_so p (ends.Refused fault) tt).0
 
-    looked_so : p.own ≡ 0 → (e : Lookup × Progress (Option ℕ)) → GoesPlainly p (looked p e)
+    looked_so : p.own ≡ 0 → (e : Lookup × Advance (Option ℕ)) → GoesPlainly p (looked p e)
     looked_so none (l, progress.Goes) = ((refl, tt), tt)
     looked_so none (l, progress.Waits) = ((refl, tt), tt)
     looked_so none (l, progress.Done (Some found)) = over_so p (ends.Answered (answers.Found found)) tt none

@@ -6,8 +6,8 @@ use Rattle.map_facts.specs.Given.SeizeWordsMem.{Mem, value_at, Took}
 use Rattle.map_facts.specs.Given.SeizeWordsPlan.{Steps}
 use Rattle.map_facts.proofs.Given.SeizeRuleRows.Leaving.{steps_back}
 use Rattle.map_facts.specs.Given.SeizeWorld.{World}
-use Rattle.map_facts.specs.Given.SeizeDeclared.progress.Progress.{Progress}
-use Rattle.map_facts.specs.Given.SeizeDeclared.progress.Progress.TheVariants as progress
+use Rattle.map_facts.specs.Given.SeizeDeclared.advance.Advance.{Advance}
+use Rattle.map_facts.specs.Given.SeizeDeclared.advance.Advance.TheVariants as progress
 use Rattle.map_facts.specs.Given.TablesChunks.{is_incremental}
 use Rattle.map_facts.specs.Given.TablesDeclared.node.Node.{Node}
 use Rattle.map_facts.specs.Given.TablesDeclared.setting.Setting.{Setting}
@@ -48,7 +48,7 @@ module _ {K V Q : Type 0} (same : K → K → Bool) (hash : K → ℕ) (asks : Q
     seeks : Seeking same hash asks caller setting keys w2 c2 blocks2 p
     seeks = seeking_lasts same hash asks caller setting keys w w2 c c2 blocks blocks2 spares p (idle_linked same hash caller setting lawful w c blocks map w2 c2 blocks2 links s.idle) s
 
-    next_comes : (t : ℕ) → IsTable c2 blocks2 p.trial.table t → Left c2 began t → c2.from (suc t) ≡ t → (end : NewTable × Progress Table)
+    next_comes : (t : ℕ) → IsTable c2 blocks2 p.trial.table t → Left c2 began t → c2.from (suc t) ≡ t → (end : NewTable × Advance Table)
         → NewTableTold w2 caller setting c2 blocks2 (Word (blocks2.table t) NEXT) (suc t) end → Late w2 c2 blocks2 (next_made p end)
     next_comes t entered left from (next, progress.Goes) told =
         goes_late same hash asks caller setting alone keys began w2 c2 blocks2 p seeks p.trial (at.Allocs next) (λ answer h. h) (seeks.own, t, entered, left, told)
@@ -57,15 +57,15 @@ module _ {K V Q : Type 0} (same : K → K → Bool) (hash : K → ℕ) (asks : Q
         goes_on_late same hash asks caller setting alone keys began lawful w2 c2 blocks2 map2.map p seeks t entered left from table (subst (λ (x : ℕ). IsTable c2 blocks2 table x) told.1 told.2)
     next_comes t entered left from (next, progress.Refused fault) told = refuses_late same hash asks caller setting alone keys began w2 c2 blocks2 p seeks fault
 
-    first_comes : (table : Table) (u : ℕ) → IsTable c2 blocks2 table u → Left c2 began u → (end : NewTable × Progress Table) → end.1 ≡ progress.Done table → Late w2 c2 blocks2 (first_made p end)
+    first_comes : (table : Table) (u : ℕ) → IsTable c2 blocks2 table u → Left c2 began u → (end : NewTable × Advance Table) → end.1 ≡ progress.Done table → Late w2 c2 blocks2 (first_made p end)
     first_comes table u entered left (next, progress) is =
-        subst (λ (x : Progress Table). Late w2 c2 blocks2 (first_made p (next, x))) (sym is)
+        subst (λ (x : Advance Table). Late w2 c2 blocks2 (first_made p (next, x))) (sym is)
         (enters_told same hash asks caller setting alone keys began lawful w2 c2 blocks2 map2.map p seeks table u entered (inr left))
 
   module _ (m2 : Mem (Node K V)) (end : KeyCall K V Q × Called (Node K V)) where
     -- the table behind its own is made
     pub went_allocs : (t : ℕ) → IsTable c blocks p.trial.table t → Left c began t → c.from (suc t) ≡ t → suc t < c.past
-        → ((m2 : Mem (Node K V)) (end : NewTable × Progress Table) → Steps Took value_at w.memory (new_table_plan making) m2 end
+        → ((m2 : Mem (Node K V)) (end : NewTable × Advance Table) → Steps Took value_at w.memory (new_table_plan making) m2 end
         → Went same hash setting caller w c blocks m2 (λ w2 c2 blocks2. SparesPairs w w2 × OnlyLinks hash setting.mode c c2
         × NewTableTold w2 caller setting c2 blocks2 (Word (blocks.table t) NEXT) (suc t) end))
         → Steps Took value_at w.memory (allocs p making) m2 end → LateWent same hash asks caller setting alone keys began w c blocks p m2 end

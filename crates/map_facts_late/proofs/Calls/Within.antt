@@ -5,8 +5,8 @@ use Rattle.map_facts.specs.Given.SeizeWordsMem.{Mem, value_at, Took}
 use Rattle.map_facts.specs.Given.SeizeWordsPlan.{Steps}
 use Rattle.map_facts.proofs.Given.SeizeRuleRows.Leaving.{steps_back}
 use Rattle.map_facts.specs.Given.SeizeWorld.{World}
-use Rattle.map_facts.specs.Given.SeizeDeclared.progress.Progress.{Progress}
-use Rattle.map_facts.specs.Given.SeizeDeclared.progress.Progress.TheVariants as progress
+use Rattle.map_facts.specs.Given.SeizeDeclared.advance.Advance.{Advance}
+use Rattle.map_facts.specs.Given.SeizeDeclared.advance.Advance.TheVariants as progress
 use Rattle.map_facts.specs.Given.TablesChunks.{is_incremental}
 use Rattle.map_facts.specs.Given.TablesDeclared.node.Node.{Node}
 use Rattle.map_facts.specs.Given.TablesDeclared.setting.Setting.{Setting}
@@ -17,8 +17,8 @@ use Rattle.map_facts.specs.Given.ResizeDeclared.copier.Copier.{Copier}
 use Rattle.map_facts.specs.Given.ResizeDeclared.copier.Copying.{Copying as Point}
 use Rattle.map_facts.specs.Given.ResizeDeclared.copier.Copying.TheVariants as copies_at
 use Rattle.map_facts.specs.Given.ResizeDeclared.lookup.Lookup.{Lookup}
-use Rattle.map_facts.specs.Given.ResizeDeclared.outcome.Outcome.{Outcome}
-use Rattle.map_facts.specs.Given.ResizeDeclared.outcome.Outcome.TheVariants as outcome
+use Rattle.map_facts.specs.Given.ResizeDeclared.yielding.Yielding.{Yielding}
+use Rattle.map_facts.specs.Given.ResizeDeclared.yielding.Yielding.TheVariants as outcome
 use Rattle.map_facts.specs.Given.RawCall.{looks_for, looked, looks, copied, copies}
 use Rattle.map_facts.specs.Given.RawDeclared.machines.answer.KeyAnswer.TheVariants as answers
 use Rattle.map_facts.specs.Given.RawDeclared.machines.answer.Called.{Called}
@@ -45,7 +45,7 @@ module _ {K V Q : Type 0} (same : K → K → Bool) (hash : K → ℕ) (asks : Q
     (w : World (Node K V)) (c : Chart K) (blocks : Blocks) (p : KeyCall K V Q) (s : Seeking same hash asks caller setting keys w c blocks p) where
   -- its lookup
   module _ (l : Lookup) (point : LateCalling same hash asks w caller setting c blocks keys began p (at.Looks l)) where
-    looked_comes : (end : Lookup × Progress (Option ℕ)) → LateLookupTold same hash setting.mode setting.root keys p.hash c blocks began end
+    looked_comes : (end : Lookup × Advance (Option ℕ)) → LateLookupTold same hash setting.mode setting.root keys p.hash c blocks began end
         → LateComes same hash asks caller setting alone keys began w c blocks (looked p end)
     looked_comes (next, progress.Goes) told =
         goes_late same hash asks caller setting alone keys began w c blocks p s p.trial (at.Looks next) (λ answer h. h) (point.0, point.1, point.2, point.3, point.4, point.5, told)
@@ -54,7 +54,7 @@ module _ {K V Q : Type 0} (same : K → K → Bool) (hash : K → ℕ) (asks : Q
     looked_comes (next, progress.Done None) told = answers_at_once same hash asks caller setting alone keys began w c blocks p s answers.Absent told
     looked_comes (next, progress.Refused fault) told = absurd told
 
-    pub went_looks : ((m2 : Mem (Node K V)) (end : Lookup × Progress (Option ℕ)) → Steps Took value_at w.memory (lookup_plan (asks point.3) l) m2 end
+    pub went_looks : ((m2 : Mem (Node K V)) (end : Lookup × Advance (Option ℕ)) → Steps Took value_at w.memory (lookup_plan (asks point.3) l) m2 end
         → (m2 ≡ w.memory) × LateLookupTold same hash setting.mode setting.root keys p.hash c blocks began end)
         → (m2 : Mem (Node K V)) (end : KeyCall K V Q × Called (Node K V)) → Steps Took value_at w.memory (looks asks p l) m2 end
         → (m2 ≡ w.memory) × LateComes same hash asks caller setting alone keys began w c blocks end
@@ -122,7 +122,7 @@ module _ {K V Q : Type 0} (same : K → K → Bool) (hash : K → ℕ) (asks : Q
         point = (own2, late);
       }
 
-      copied_comes : (end : Copier × Outcome (Node K V) Table) → LateCopierAfter same hash caller setting began w2 c2 blocks2 end
+      copied_comes : (end : Copier × Yielding (Node K V) Table) → LateCopierAfter same hash caller setting began w2 c2 blocks2 end
           → LateComes same hash asks caller setting alone keys began w2 c2 blocks2 (copied p end)
       copied_comes (next, outcome.Goes) told = (goes_there next told, λ answer h. absurd h)
       copied_comes (next, outcome.Waits) told = (goes_there next (inr told), λ answer h. absurd h)
@@ -132,7 +132,7 @@ module _ {K V Q : Type 0} (same : K → K → Bool) (hash : K → ℕ) (asks : Q
       copied_comes (next, outcome.Refused fault) told = refuses_late same hash asks caller setting alone keys began w2 c2 blocks2 p (seeks told) fault
 
   pub went_copies : IsLawful same (spot_of hash) → (copier : Copier) → IsCopying p.stands → (m2 : Mem (Node K V)) (end : KeyCall K V Q × Called (Node K V))
-      → ((m2 : Mem (Node K V)) (end : Copier × Outcome (Node K V) Table) → Steps Took value_at w.memory (copier_plan hash copier) m2 end
+      → ((m2 : Mem (Node K V)) (end : Copier × Yielding (Node K V) Table) → Steps Took value_at w.memory (copier_plan hash copier) m2 end
       → Went same hash setting caller w c blocks m2 (λ w2 c2 blocks2. SparesPairs w w2 × LateCopierTold same hash caller setting began w2 c2 blocks2 c end))
       → Steps Took value_at w.memory (copies hash p copier) m2 end → LateWent same hash asks caller setting alone keys began w c blocks p m2 end
   went_copies lawful copier copying m2 end inner steps =

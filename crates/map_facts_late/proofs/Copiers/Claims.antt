@@ -19,8 +19,8 @@ use Rattle.map_facts.specs.Given.ResizeCopierClaims.{chunk, range_claimed, claim
 use Rattle.map_facts.specs.Given.ResizeCopierStates.{none_left}
 use Rattle.map_facts.specs.Given.ResizeDeclared.copier.Copier.{Copier}
 use Rattle.map_facts.specs.Given.ResizeDeclared.copier.Copying.TheVariants as at
-use Rattle.map_facts.specs.Given.ResizeDeclared.outcome.Outcome.{Outcome}
-use Rattle.map_facts.specs.Given.ResizeDeclared.outcome.Outcome.TheVariants.{Goes}
+use Rattle.map_facts.specs.Given.ResizeDeclared.yielding.Yielding.{Yielding}
+use Rattle.map_facts.specs.Given.ResizeDeclared.yielding.Yielding.TheVariants.{Goes}
 use Rattle.map_facts.specs.Given.RuleChart.{Chart}
 use Rattle.map_facts.specs.Given.RuleInWorld.{IsMapIn}
 use Rattle.map_facts.specs.Given.RuleMaps.{spot_of}
@@ -90,7 +90,7 @@ module _ {K V : Type 0} (same : K → K → Bool) (hash : K → ℕ) (caller : �
       by (inl is) = is
       by (inr all) = let whole : c.len u ≤ c.claim t = subst (λ (x : ℕ). c.len x ≤ c.claim t) late.from all in absurd (omega (arith, below, whole))
 
-  pub went_claim : (m2 : Mem (Node K V)) (end : Copier × Outcome (Node K V) Table) → Steps Took value_at w.memory (claims p) m2 end
+  pub went_claim : (m2 : Mem (Node K V)) (end : Copier × Yielding (Node K V) Table) → Steps Took value_at w.memory (claims p) m2 end
       → LateCame same hash caller setting began w c blocks m2 end
   went_claim m2 end s =
       let add = added w.memory (claimed p) (at_word p.target CLAIM) (chunk p) m2 end s in

@@ -21,8 +21,8 @@ use Rattle.map_facts.specs.Given.ResizeCopierFurther.{aborts, to}
 use Rattle.map_facts.specs.Given.ResizeCopierStates.{standing, behind}
 use Rattle.map_facts.specs.Given.ResizeDeclared.copier.Copier.{Copier}
 use Rattle.map_facts.specs.Given.ResizeDeclared.copier.Copying.TheVariants as at
-use Rattle.map_facts.specs.Given.ResizeDeclared.outcome.Outcome.{Outcome}
-use Rattle.map_facts.specs.Given.ResizeDeclared.outcome.Outcome.TheVariants.{Goes}
+use Rattle.map_facts.specs.Given.ResizeDeclared.yielding.Yielding.{Yielding}
+use Rattle.map_facts.specs.Given.ResizeDeclared.yielding.Yielding.TheVariants.{Goes}
 use Rattle.map_facts.specs.Given.RuleChart.{Chart}
 use Rattle.map_facts.specs.Given.RuleInWorld.{IsMapIn}
 use Rattle.map_facts.specs.Given.RuleMaps.{spot_of}
@@ -79,7 +79,7 @@ module _ {K V : Type 0} (same : K → K → Bool) (hash : K → ℕ) (caller : �
       late_again same hash caller setting began w (record w { memory = counted_memory }) c counted_chart blocks refl refl refl refl refl refl refl p q source
       target whole u t no_shares late
 
-  pub went_count : IsLawful same (spot_of hash) → is_incremental setting.mode ≡ false → (m2 : Mem (Node K V)) (end : Copier × Outcome (Node K V) Table)
+  pub went_count : IsLawful same (spot_of hash) → is_incremental setting.mode ≡ false → (m2 : Mem (Node K V)) (end : Copier × Yielding (Node K V) Table)
       → Steps Took value_at w.memory (counts p) m2 end → LateCame same hash caller setting began w c blocks m2 end
   went_count lawful blocking m2 end s =
       let add = added w.memory (counted p) (at_word p.target COPIED) p.done m2 end s in
@@ -118,7 +118,7 @@ module _ {K V : Type 0} (same : K → K → Bool) (hash : K → ℕ) (caller : �
       ap (λ (x : At). with_word w.memory x ABORTED) (word_stands hash w.memory c blocks setting.root map.map.shows p.target t late.target STATUS)
       ∙ written_again w.memory (blocks.table t) STATUS ABORTED ((map.map.shows.tables t late.target.made late.target.known).status ∙ ap Some aborted.1)
 
-  pub went_abort : (m2 : Mem (Node K V)) (end : Copier × Outcome (Node K V) Table) → Steps Took value_at w.memory (aborts p) m2 end
+  pub went_abort : (m2 : Mem (Node K V)) (end : Copier × Yielding (Node K V) Table) → Steps Took value_at w.memory (aborts p) m2 end
       → LateCame same hash caller setting began w c blocks m2 end
   went_abort m2 end s =
       let store = stored w.memory (λ out. to (standing p at.Replaces)) (at_word p.target STATUS) ABORTED m2 end s in

@@ -19,8 +19,8 @@ use Rattle.map_facts.specs.Given.ResizeCopierPromotes.{to, also_retired, retirin
 use Rattle.map_facts.specs.Given.ResizeCopierStates.{standing, behind}
 use Rattle.map_facts.specs.Given.ResizeDeclared.copier.Copier.{Copier}
 use Rattle.map_facts.specs.Given.ResizeDeclared.copier.Copying.TheVariants as at
-use Rattle.map_facts.specs.Given.ResizeDeclared.outcome.Outcome.{Outcome}
-use Rattle.map_facts.specs.Given.ResizeDeclared.outcome.Outcome.TheVariants.{Goes}
+use Rattle.map_facts.specs.Given.ResizeDeclared.yielding.Yielding.{Yielding}
+use Rattle.map_facts.specs.Given.ResizeDeclared.yielding.Yielding.TheVariants.{Goes}
 use Rattle.map_facts.specs.Given.RuleChart.{Chart, put}
 use Rattle.map_facts.specs.Given.RuleInWorld.{IsMapIn}
 use Rattle.map_facts.specs.Given.RuleMaps.{spot_of, IsTable}
@@ -59,7 +59,7 @@ module _ {K V : Type 0} (same : K → K → Bool) (hash : K → ℕ) (caller : �
         let left = late.left.behind in
         omega (arith, turn, left)
 
-    pub went_promote : (m2 : Mem (Node K V)) (end : Copier × Outcome (Node K V) Table) → Steps Took value_at w.memory (promotes p) m2 end
+    pub went_promote : (m2 : Mem (Node K V)) (end : Copier × Yielding (Node K V) Table) → Steps Took value_at w.memory (promotes p) m2 end
         → LateCame same hash caller setting began w c blocks m2 end
     went_promote m2 end s =
         elim (exchanged w.memory (promoted p) (Root p.setting.root) p.source.link p.target.link m2 end s) as (λ _. LateCame same hash caller setting began w c blocks m2 end) [
@@ -91,7 +91,7 @@ module _ {K V : Type 0} (same : K → K → Bool) (hash : K → ℕ) (caller : �
     }
 
     pub went_announce : IsLawful same (spot_of hash) → is_incremental setting.mode ≡ false → IsTable c blocks p.source s
-        → (m2 : Mem (Node K V)) (end : Copier × Outcome (Node K V) Table)
+        → (m2 : Mem (Node K V)) (end : Copier × Yielding (Node K V) Table)
         → Steps Took value_at w.memory (announces p) m2 end → LateCame same hash caller setting began w c blocks m2 end
     went_announce lawful blocking source m2 end steps =
         let store = stored w.memory (λ out. to (standing p (at.Succeeds p.source.link))) (at_word p.target STATUS) PROMOTED m2 end steps in
@@ -114,7 +114,7 @@ module _ {K V : Type 0} (same : K → K → Bool) (hash : K → ℕ) (caller : �
           ap (λ (x : Table). x.link) source.is,
         )
 
-    pub went_succeed : (table : ℕ) → table ≡ blocks.table s * 2048 → (m2 : Mem (Node K V)) (end : Copier × Outcome (Node K V) Table)
+    pub went_succeed : (table : ℕ) → table ≡ blocks.table s * 2048 → (m2 : Mem (Node K V)) (end : Copier × Yielding (Node K V) Table)
         → Steps Took value_at w.memory (succeeds p table) m2 end
         → LateCame same hash caller setting began w c blocks m2 end
     went_succeed table table_is m2 end steps =

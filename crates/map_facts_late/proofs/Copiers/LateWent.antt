@@ -12,8 +12,8 @@ use Rattle.map_facts.specs.Given.TablesDeclared.setting.Setting.{Setting}
 use Rattle.map_facts.specs.Given.TablesDeclared.status.TheConstants.Status.{ABORTED}
 use Rattle.map_facts.specs.Given.TablesDeclared.table.Table.{Table}
 use Rattle.map_facts.specs.Given.ResizeDeclared.copier.Copier.{Copier}
-use Rattle.map_facts.specs.Given.ResizeDeclared.outcome.Outcome.{Outcome}
-use Rattle.map_facts.specs.Given.ResizeDeclared.outcome.Outcome.TheVariants.{Goes}
+use Rattle.map_facts.specs.Given.ResizeDeclared.yielding.Yielding.{Yielding}
+use Rattle.map_facts.specs.Given.ResizeDeclared.yielding.Yielding.TheVariants.{Goes}
 use Rattle.map_facts.specs.Given.RuleChart.{Chart}
 use Rattle.map_facts.specs.Given.RuleRule.{IsLawful}
 use Rattle.map_facts.specs.Given.RuleLasts.{IsBy}
@@ -35,20 +35,20 @@ use Rattle.map_facts_late.specs.LateTold.{LateCopierAfter, LateCopierTold}
 module _ {K V : Type 0} (same : K → K → Bool) (hash : K → ℕ) (caller : ℕ) (setting : Setting) (began : ℕ) (w : World (Node K V)) (c : Chart K)
     (blocks : Blocks) where
   -- own pairs are spared, the map has the same pairs, and the copier's facts or its end are told
-  abbrev pub LateSays : Copier × Outcome (Node K V) Table → World (Node K V) → Chart K → Blocks → Type 0
+  abbrev pub LateSays : Copier × Yielding (Node K V) Table → World (Node K V) → Chart K → Blocks → Type 0
   LateSays end w2 c2 blocks2 = SparesPairs w w2 × LateCopierTold same hash caller setting began w2 c2 blocks2 c end
 
-  abbrev pub LateCame : Mem (Node K V) → Copier × Outcome (Node K V) Table → Type 0
+  abbrev pub LateCame : Mem (Node K V) → Copier × Yielding (Node K V) Table → Type 0
   LateCame m2 end = Went same hash setting caller w c blocks m2 (LateSays end)
 
   module _ (map : IsMapIn same hash setting w c blocks) where
-    pub late_still : (m2 : Mem (Node K V)) (end r : Copier × Outcome (Node K V) Table) → m2 ≡ w.memory → end ≡ r
+    pub late_still : (m2 : Mem (Node K V)) (end r : Copier × Yielding (Node K V) Table) → m2 ≡ w.memory → end ≡ r
         → LateCopierAfter same hash caller setting began w c blocks r → LateCame m2 end
     late_still m2 end r still is told =
         subst (LateCame m2) (sym is) (went_still same hash setting caller w c blocks map m2 still (LateSays r) (spares_same w, (told, refl)))
 
     -- it goes on as late as it was
-    pub late_goes : (m2 : Mem (Node K V)) (end : Copier × Outcome (Node K V) Table) (q : Copier) → m2 ≡ w.memory → end ≡ (q, Goes) → q.setting ≡ setting
+    pub late_goes : (m2 : Mem (Node K V)) (end : Copier × Yielding (Node K V) Table) (q : Copier) → m2 ≡ w.memory → end ≡ (q, Goes) → q.setting ≡ setting
         → LateCopying same hash w caller setting c blocks began q q.stands → LateCame m2 end
     late_goes m2 end q still is setting_is point = late_still m2 end (q, Goes) still is (inr (record { setting_is = setting_is; point = point }))
 
@@ -66,7 +66,7 @@ module _ {K V : Type 0} (same : K → K → Bool) (hash : K → ℕ) (caller : �
           → IsSome (word_at w.memory at)
           → (m2 : Mem (Node K V)) → Gives w.memory op out → m2 ≡ with_word w.memory at word → with_word w.memory at word ≡ mem_after w.memory op out
           → late_chart.past ≡ c.past → Shows hash (with_word w.memory at word) late_chart blocks setting.root → Hands same hash setting w late_chart blocks
-          → late_chart.current ≡ c.current → (end : Copier × Outcome (Node K V) Table) (q : Copier) → end ≡ (q, Goes) → q.setting ≡ setting
+          → late_chart.current ≡ c.current → (end : Copier × Yielding (Node K V) Table) (q : Copier) → end ≡ (q, Goes) → q.setting ≡ setting
           → LateCopying same hash (record w { memory = with_word w.memory at word }) caller setting late_chart blocks began q q.stands → LateCame m2 end
       late_wrote op out at word own some m2 gives is wrote past shows hands current end q ends setting_is point =
           subst (LateCame m2) (sym ends)

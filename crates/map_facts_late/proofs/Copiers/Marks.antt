@@ -15,8 +15,8 @@ use Rattle.map_facts.specs.Given.TablesDeclared.table_words.TheConstants.{PLACES
 use Rattle.map_facts.specs.Given.ResizeCopierMarks.{without_copying, probing, marks}
 use Rattle.map_facts.specs.Given.ResizeCopierStates.{place_done}
 use Rattle.map_facts.specs.Given.ResizeDeclared.copier.Copier.{Copier}
-use Rattle.map_facts.specs.Given.ResizeDeclared.outcome.Outcome.{Outcome}
-use Rattle.map_facts.specs.Given.ResizeDeclared.outcome.Outcome.TheVariants.{Goes}
+use Rattle.map_facts.specs.Given.ResizeDeclared.yielding.Yielding.{Yielding}
+use Rattle.map_facts.specs.Given.ResizeDeclared.yielding.Yielding.TheVariants.{Goes}
 use Rattle.map_facts.specs.Given.RuleChart.{Phase, Still, Copying, Copied, Place, Empty, Tombstone, Holds, Chart, is_marked}
 use Rattle.map_facts.specs.Given.RuleInWorld.{IsMapIn}
 use Rattle.map_facts.specs.Given.RuleMaps.{spot_of}
@@ -81,7 +81,7 @@ module _ {K V : Type 0} (same : K → K → Bool) (hash : K → ℕ) (fits : (k 
   pub may_mark : May Can Took value_at w.memory (marks hash p)
   may_mark = may_mark_source same hash fits setting w c blocks map blocking p setting_is u late.source low
 
-  module _ (m2 : Mem (Node K V)) (still : m2 ≡ w.memory) (end : Copier × Outcome (Node K V) Table) where
+  module _ (m2 : Mem (Node K V)) (still : m2 ≡ w.memory) (end : Copier × Yielding (Node K V) Table) where
     -- a place without a pair is done
     went_skip : end ≡ (place_done p, Goes) → LateCame same hash caller setting began w c blocks m2 end
     went_skip ends =
@@ -114,7 +114,7 @@ module _ {K V : Type 0} (same : K → K → Bool) (hash : K → ℕ) (fits : (k 
           word_is = ap (λ (x : Place). without_copying (place_word hash c blocks x)) place_is ∙ without_copying-copying blocks.pair (λ o. byte_of hash (c.key o)) n false;
         }
 
-  pub went_mark : (m2 : Mem (Node K V)) (end : Copier × Outcome (Node K V) Table) → Steps Took value_at w.memory (marks hash p) m2 end
+  pub went_mark : (m2 : Mem (Node K V)) (end : Copier × Yielding (Node K V) Table) → Steps Took value_at w.memory (marks hash p) m2 end
       → LateCame same hash caller setting began w c blocks m2 end
   went_mark m2 end s =
       let seen = mark_tells same hash fits setting w c blocks map blocking p setting_is u late.source low m2 end s in

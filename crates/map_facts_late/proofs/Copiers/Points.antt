@@ -12,7 +12,7 @@ use Rattle.map_facts.specs.Given.ResizeCopier.{plan_at, copier_plan}
 use Rattle.map_facts.specs.Given.ResizeDeclared.copier.Copier.{Copier}
 use Rattle.map_facts.specs.Given.ResizeDeclared.copier.Copying.{Copying as Point}
 use Rattle.map_facts.specs.Given.ResizeDeclared.copier.Copying.TheVariants as at
-use Rattle.map_facts.specs.Given.ResizeDeclared.outcome.Outcome.{Outcome}
+use Rattle.map_facts.specs.Given.ResizeDeclared.yielding.Yielding.{Yielding}
 use Rattle.map_facts.specs.Given.RuleChart.{Chart}
 use Rattle.map_facts.specs.Given.RuleInWorld.{IsMapIn}
 use Rattle.map_facts.specs.Given.RuleMaps.{spot_of}
@@ -73,7 +73,7 @@ module _ {K V : Type 0} (same : K → K → Bool) (hash : K → ℕ) (fits : (k 
   may_at (at.Refused fault) point none = absurd point
 
   went_at : (stands : Point) → LateCopying same hash w caller setting c blocks began p stands → (IsRowOfCopier stands → ⊥) → (m2 : Mem (Node K V))
-      (end : Copier × Outcome (Node K V) Table) → Steps Took value_at w.memory (plan_at hash p stands) m2 end
+      (end : Copier × Yielding (Node K V) Table) → Steps Took value_at w.memory (plan_at hash p stands) m2 end
       → LateCame same hash caller setting began w c blocks m2 end
   went_at at.Begins point none m2 end s = absurd point
   went_at at.Follows point none m2 end s = absurd point
@@ -115,7 +115,7 @@ module _ {K V : Type 0} (same : K → K → Bool) (hash : K → ℕ) (fits : (k 
   may_late_copier none = may_at p.stands facts.point none
 
   -- where a step leads
-  pub went_late_copier : (IsRowOfCopier p.stands → ⊥) → (m2 : Mem (Node K V)) (end : Copier × Outcome (Node K V) Table)
+  pub went_late_copier : (IsRowOfCopier p.stands → ⊥) → (m2 : Mem (Node K V)) (end : Copier × Yielding (Node K V) Table)
       → Steps Took value_at w.memory (copier_plan hash p) m2 end
       → LateCame same hash caller setting began w c blocks m2 end
   went_late_copier none m2 end s = went_at p.stands facts.point none m2 end s

@@ -17,8 +17,8 @@ use Rattle.map_facts.specs.Given.ResizeCopierClaims.{asks, sees, status_read, cl
 use Rattle.map_facts.specs.Given.ResizeCopierStates.{standing, none_left}
 use Rattle.map_facts.specs.Given.ResizeDeclared.copier.Copier.{Copier}
 use Rattle.map_facts.specs.Given.ResizeDeclared.copier.Copying.TheVariants as at
-use Rattle.map_facts.specs.Given.ResizeDeclared.outcome.Outcome.{Outcome}
-use Rattle.map_facts.specs.Given.ResizeDeclared.outcome.Outcome.TheVariants.{Goes, Waits, Done}
+use Rattle.map_facts.specs.Given.ResizeDeclared.yielding.Yielding.{Yielding}
+use Rattle.map_facts.specs.Given.ResizeDeclared.yielding.Yielding.TheVariants.{Goes, Waits, Done}
 use Rattle.map_facts.specs.Given.RuleChart.{Chart}
 use Rattle.map_facts.specs.Given.RuleInWorld.{IsMapIn}
 use Rattle.map_facts.specs.Given.RuleMaps.{IsTable}
@@ -57,7 +57,7 @@ module _ {K V : Type 0} (same : K → K → Bool) (hash : K → ℕ) (caller : �
           since = (let since = late.left.since in let rise = moments.passed_rise u t late.order l in omega (arith, since, rise));
         }
 
-    pub went_ask : (m2 : Mem (Node K V)) (end : Copier × Outcome (Node K V) Table) → Steps Took value_at w.memory (asks p) m2 end
+    pub went_ask : (m2 : Mem (Node K V)) (end : Copier × Yielding (Node K V) Table) → Steps Took value_at w.memory (asks p) m2 end
         → LateCame same hash caller setting began w c blocks m2 end
     went_ask m2 end s =
         let read = loaded w.memory (status_read p) (at_word p.target STATUS) m2 end s in
@@ -86,7 +86,7 @@ module _ {K V : Type 0} (same : K → K → Bool) (hash : K → ℕ) (caller : �
             (over_at (sym e ∙ eqb-true status PROMOTED a.0))
         by_promoted status e still (inr a) = by_aborted status e still (ends_if (value_at w.memory) (status == ABORTED) _ _ end a.1)
 
-    pub went_see : (m2 : Mem (Node K V)) (end : Copier × Outcome (Node K V) Table) → Steps Took value_at w.memory (sees p) m2 end
+    pub went_see : (m2 : Mem (Node K V)) (end : Copier × Yielding (Node K V) Table) → Steps Took value_at w.memory (sees p) m2 end
         → LateCame same hash caller setting began w c blocks m2 end
     went_see m2 end s =
         let read = loaded w.memory (claim_read p) (at_word p.target CLAIM) m2 end s in
@@ -108,7 +108,7 @@ module _ {K V : Type 0} (same : K → K → Bool) (hash : K → ℕ) (caller : �
 
   -- it has come to its end
   pub went_over : (t : ℕ) → IsTable c blocks p.target t → Left c began t → HasNoShares same hash w caller setting c blocks
-      → (m2 : Mem (Node K V)) (end : Copier × Outcome (Node K V) Table)
+      → (m2 : Mem (Node K V)) (end : Copier × Yielding (Node K V) Table)
       → (m2 ≡ w.memory) × (end ≡ (p, Done p.target)) → LateCame same hash caller setting began w c blocks m2 end
   went_over t target left none m2 end steps =
       late_still same hash caller setting began w c blocks map m2 end (p, Done p.target) steps.0 steps.1 ((t, target, inr left), none)

@@ -6,8 +6,8 @@ use Rattle.map_facts.specs.Given.SeizeWordsMem.{Mem, Can, Took, value_at}
 use Rattle.map_facts.specs.Given.SeizeWordsPlan.{May, Steps}
 use Rattle.map_facts.proofs.Given.SeizeWordsPlans.{as_may}
 use Rattle.map_facts.specs.Given.SeizeWorld.{World}
-use Rattle.map_facts.specs.Given.SeizeDeclared.progress.Progress.{Progress}
-use Rattle.map_facts.specs.Given.SeizeDeclared.progress.Progress.TheVariants as progress
+use Rattle.map_facts.specs.Given.SeizeDeclared.advance.Advance.{Advance}
+use Rattle.map_facts.specs.Given.SeizeDeclared.advance.Advance.TheVariants as progress
 use Rattle.map_facts.proofs.Given.SeizeRuleRows.Leaving.{steps_back}
 use Rattle.map_facts.specs.Given.TablesChunks.{is_incremental}
 use Rattle.map_facts.specs.Given.TablesDeclared.node.Node.{Node}
@@ -20,7 +20,7 @@ use Rattle.map_facts.specs.Given.ResizeNewTable.{new_table_plan}
 use Rattle.map_facts.specs.Given.ResizeDeclared.copier.Copier.{Copier}
 use Rattle.map_facts.specs.Given.ResizeDeclared.copier.Copying.TheVariants as at
 use Rattle.map_facts.specs.Given.ResizeDeclared.new_table.NewTable.{NewTable}
-use Rattle.map_facts.specs.Given.ResizeDeclared.outcome.Outcome.{Outcome}
+use Rattle.map_facts.specs.Given.ResizeDeclared.yielding.Yielding.{Yielding}
 use Rattle.map_facts.specs.Given.RuleChart.{Chart, put}
 use Rattle.map_facts.specs.Given.RuleInWorld.{IsMapIn, SameBlocks, SparesPairs}
 use Rattle.map_facts.specs.Given.RuleMaps.{spot_of, IsTable}
@@ -76,7 +76,7 @@ module _ {K V : Type 0} (same : K → K → Bool) (hash : K → ℕ) (caller : �
         idle = late.idle;
       }
 
-      remade_told : (end : NewTable × Progress Table) → NewTableTold w2 caller setting chart blocks2 (Word (blocks2.table t) NEXT) (suc t) end
+      remade_told : (end : NewTable × Advance Table) → NewTableTold w2 caller setting chart blocks2 (Word (blocks2.table t) NEXT) (suc t) end
           → LateCopierAfter same hash caller setting began w2 chart blocks2 (remade p end)
       remade_told (n, progress.Goes) told = inr (record {
         setting_is = setting_is;
@@ -104,12 +104,12 @@ module _ {K V : Type 0} (same : K → K → Bool) (hash : K → ℕ) (caller : �
           linked = moments.follows refl t made aborted.1 ∙ late.from
       remade_told (n, progress.Refused fault) told = inl (record { setting_is = setting_is; point = late.idle })
 
-      longer_told : (end : NewTable × Progress Table) → NewTableTold w2 caller setting chart blocks2 (Word (blocks.table t) NEXT) (suc t) end
+      longer_told : (end : NewTable × Advance Table) → NewTableTold w2 caller setting chart blocks2 (Word (blocks.table t) NEXT) (suc t) end
           → LateCopierAfter same hash caller setting began w2 chart blocks2 (remade p end)
       longer_told end told =
           remade_told end (subst (λ (b : ℕ). NewTableTold w2 caller setting chart blocks2 (Word b NEXT) (suc t) end) (sym (blocks_same.tables t late.target.made late.target.known).0) told)
 
-    linked_told : (end : NewTable × Progress Table) (c2 : Chart K) → OnlyLinks hash setting.mode c c2
+    linked_told : (end : NewTable × Advance Table) (c2 : Chart K) → OnlyLinks hash setting.mode c c2
         → NewTableTold w2 caller setting c2 blocks2 (Word (blocks.table t) NEXT) (suc t) end
         → LateCopierAfter same hash caller setting began w2 c2 blocks2 (remade p end) × (c2.current ≡ c.current)
     linked_told end c2 (inl is) = subst
@@ -134,7 +134,7 @@ module _ {K V : Type 0} (same : K → K → Bool) (hash : K → ℕ) (caller : �
         as_may (remade p) Can Took value_at w.memory (new_table_plan making)
         (may_new_table same hash w setting c blocks map caller (Word (blocks.table t) NEXT) (suc t) initial making facts)
 
-    pub went_remake : IsLawful same (spot_of hash) → (m2 : Mem (Node K V)) (end : Copier × Outcome (Node K V) Table)
+    pub went_remake : IsLawful same (spot_of hash) → (m2 : Mem (Node K V)) (end : Copier × Yielding (Node K V) Table)
         → Steps Took value_at w.memory (remakes p making) m2 end
         → LateCame same hash caller setting began w c blocks m2 end
     went_remake lawful m2 end s =

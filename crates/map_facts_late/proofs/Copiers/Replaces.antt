@@ -19,8 +19,8 @@ use Rattle.map_facts.specs.Given.ResizeCopierStates.{standing}
 use Rattle.map_facts.specs.Given.ResizeNewTable.{table_after}
 use Rattle.map_facts.specs.Given.ResizeDeclared.copier.Copier.{Copier}
 use Rattle.map_facts.specs.Given.ResizeDeclared.copier.Copying.TheVariants as at
-use Rattle.map_facts.specs.Given.ResizeDeclared.outcome.Outcome.{Outcome}
-use Rattle.map_facts.specs.Given.ResizeDeclared.outcome.Outcome.TheVariants.{Goes}
+use Rattle.map_facts.specs.Given.ResizeDeclared.yielding.Yielding.{Yielding}
+use Rattle.map_facts.specs.Given.ResizeDeclared.yielding.Yielding.TheVariants.{Goes}
 use Rattle.map_facts.specs.Given.RuleChart.{Chart}
 use Rattle.map_facts.specs.Given.RuleInWorld.{IsMapIn}
 use Rattle.map_facts.specs.Given.RuleLinks.{IsLinkTo}
@@ -46,7 +46,7 @@ module _ {K V : Type 0} (same : K → K → Bool) (hash : K → ℕ) (caller : �
   leads : (link : ℕ) → word_at w.memory (at_word p.target NEXT) ≡ Some link → IsLinkTo c blocks link (suc t)
   leads link read = link_made c blocks link (suc t) (leads_on same hash setting w c blocks map p t aborted.0.target link read) made
 
-  pub went_replace : (m2 : Mem (Node K V)) (end : Copier × Outcome (Node K V) Table) → Steps Took value_at w.memory (replaces p) m2 end
+  pub went_replace : (m2 : Mem (Node K V)) (end : Copier × Yielding (Node K V) Table) → Steps Took value_at w.memory (replaces p) m2 end
       → LateCame same hash caller setting began w c blocks m2 end
   went_replace m2 end s =
       let read = loaded w.memory (replacement_read p) (at_word p.target NEXT) m2 end s in

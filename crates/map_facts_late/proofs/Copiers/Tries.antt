@@ -22,8 +22,8 @@ use Rattle.map_facts.specs.Given.ResizeCopierStates.{standing}
 use Rattle.map_facts.specs.Given.ResizeDeclared.copier.Copier.{Copier}
 use Rattle.map_facts.specs.Given.ResizeDeclared.copier.Copying.{Copying as Point}
 use Rattle.map_facts.specs.Given.ResizeDeclared.copier.Copying.TheVariants as at
-use Rattle.map_facts.specs.Given.ResizeDeclared.outcome.Outcome.{Outcome}
-use Rattle.map_facts.specs.Given.ResizeDeclared.outcome.Outcome.TheVariants.{Goes}
+use Rattle.map_facts.specs.Given.ResizeDeclared.yielding.Yielding.{Yielding}
+use Rattle.map_facts.specs.Given.ResizeDeclared.yielding.Yielding.TheVariants.{Goes}
 use Rattle.map_facts.specs.Given.RuleChart.{Phase, Still, Copying, Place, Holds, Chart}
 use Rattle.map_facts.specs.Given.RuleInWorld.{IsMapIn}
 use Rattle.map_facts.specs.Given.RuleMaps.{spot_of, IsTrial}
@@ -76,7 +76,7 @@ module _ {K V : Type 0} (same : K → K → Bool) (hash : K → ℕ) (caller : �
     word_is = works.word_is;
   }
 
-  module _ (m2 : Mem (Node K V)) (still : m2 ≡ w.memory) (end : Copier × Outcome (Node K V) Table) where
+  module _ (m2 : Mem (Node K V)) (still : m2 ≡ w.memory) (end : Copier × Yielding (Node K V) Table) where
     -- the place is another pair's
     went_further : end ≡ (next_try p pair code table probe, Goes) → LateCame same hash caller setting began w c blocks m2 end
     went_further ends =
@@ -104,7 +104,7 @@ module _ {K V : Type 0} (same : K → K → Bool) (hash : K → ℕ) (caller : �
             late_goes same hash caller setting began w c blocks map m2 end (record p { place = 0; end = 0; done = 0; stands = at.Aborts }) still
             (ends ∙ rw (e, p_blocking) refl) setting_is (u, t, on (record p { place = 0; end = 0; done = 0; stands = at.Aborts }) refl refl refl)
 
-  pub went_probe : (m2 : Mem (Node K V)) (end : Copier × Outcome (Node K V) Table) → Steps Took value_at w.memory (probes p pair code table probe) m2 end
+  pub went_probe : (m2 : Mem (Node K V)) (end : Copier × Yielding (Node K V) Table) → Steps Took value_at w.memory (probes p pair code table probe) m2 end
       → LateCame same hash caller setting began w c blocks m2 end
   went_probe m2 end s =
       let read = loaded w.memory (place_read p pair code table probe) at_try m2 end s in
@@ -155,7 +155,7 @@ module _ {K V : Type 0} (same : K → K → Bool) (hash : K → ℕ) (caller : �
       late_again same hash caller setting began w (record w { memory = put_memory }) c put_chart blocks refl refl refl refl refl refl refl p p refl refl refl u
       t late.idle late
 
-  went_in : (m2 : Mem (Node K V)) → m2 ≡ put_memory → place_word hash c blocks place ≡ 0 → (end : Copier × Outcome (Node K V) Table)
+  went_in : (m2 : Mem (Node K V)) → m2 ≡ put_memory → place_word hash c blocks place ≡ 0 → (end : Copier × Yielding (Node K V) Table)
       → end ≡ (pair_put p pair, Goes)
       → LateCame same hash caller setting began w c blocks m2 end
   went_in m2 m2_is empty end ends =
@@ -178,7 +178,7 @@ module _ {K V : Type 0} (same : K → K → Bool) (hash : K → ℕ) (caller : �
         ap (λ (x : ℕ). c.place x p.place) works.copies.0.from ∙ works.place,
       )
 
-  pub went_put : (m2 : Mem (Node K V)) (end : Copier × Outcome (Node K V) Table) → Steps Took value_at w.memory (puts p pair code table probe) m2 end
+  pub went_put : (m2 : Mem (Node K V)) (end : Copier × Yielding (Node K V) Table) → Steps Took value_at w.memory (puts p pair code table probe) m2 end
       → LateCame same hash caller setting began w c blocks m2 end
   went_put m2 end s =
       elim (exchanged w.memory (put_told p pair code table probe) at_try 0 (copied_word p pair) m2 end s) as (λ _. LateCame same hash caller setting began w c blocks m2 end) [

@@ -1,8 +1,8 @@
 -- A lookup with what a call is asked with, and one of its keys, in a table that the root has left: they are one.
 use Rattle.std.specs.Prelude.{◌≡◌, ℕ, Bool, Option, Some, None}
 use Rattle.std.proofs.Common.{sym, ◌∙◌}
-use Rattle.map_facts.specs.Given.SeizeDeclared.progress.Progress.{Progress}
-use Rattle.map_facts.specs.Given.SeizeDeclared.progress.Progress.TheVariants as progress
+use Rattle.map_facts.specs.Given.SeizeDeclared.advance.Advance.{Advance}
+use Rattle.map_facts.specs.Given.SeizeDeclared.advance.Advance.TheVariants as progress
 use Rattle.map_facts.specs.Given.TablesDeclared.resize_mode.ResizeMode.{ResizeMode}
 use Rattle.map_facts.specs.Given.ResizeDeclared.lookup.Lookup.{Lookup}
 use Rattle.map_facts.specs.Given.ResizeDeclared.lookup.Looking.{Looking}
@@ -29,7 +29,7 @@ module _ {K : Type 0} (same : K → K → Bool) (hash : K → ℕ) (mode : Resiz
   pub lookup_asked : (l : Lookup) → LateLookupFacts same hash keys code c blocks began mode root l → LateLookupFacts same hash asked code c blocks began mode root l
   lookup_asked l f = record { root_is = f.root_is; mode_is = f.mode_is; hash_is = f.hash_is; point = looking_asked l.stands f.point }
 
-  pub told_asked : (end : Lookup × Progress (Option ℕ)) → LateLookupTold same hash mode root keys code c blocks began end → LateLookupTold same hash mode root asked code c blocks began end
+  pub told_asked : (end : Lookup × Advance (Option ℕ)) → LateLookupTold same hash mode root keys code c blocks began end → LateLookupTold same hash mode root asked code c blocks began end
   told_asked (l, progress.Goes) told = lookup_asked l told
   told_asked (l, progress.Waits) told = told
   told_asked (l, progress.Done found) told = so_asked found told

@@ -2,7 +2,7 @@
 use Rattle.std.proofs.Common.{◌≡◌, ℕ, ◌^◌, ◌<◌, Bool, false, Option}
 use Rattle.map_facts.specs.Given.SeizeWordsMem.{Mem, value_at, Can, Took}
 use Rattle.map_facts.specs.Given.SeizeWordsPlan.{May, Steps}
-use Rattle.map_facts.specs.Given.SeizeDeclared.progress.Progress.{Progress}
+use Rattle.map_facts.specs.Given.SeizeDeclared.advance.Advance.{Advance}
 use Rattle.map_facts.specs.Given.TablesChunks.{is_incremental}
 use Rattle.map_facts.specs.Given.TablesDeclared.node.Node.{Node}
 use Rattle.map_facts.specs.Given.TablesDeclared.resize_mode.ResizeMode.{ResizeMode}
@@ -31,7 +31,7 @@ module _ {K V : Type 0} (same : K → K → Bool) (hash : K → ℕ) (lawful : I
   may_at (at.Nexts table) point = absurd point
   may_at (at.Over found) point = absurd point
 
-  went_at : (stands : Looking) → LateLooking same hash keys code c blocks began stands → (m2 : Mem (Node K V)) (end : Lookup × Progress (Option ℕ))
+  went_at : (stands : Looking) → LateLooking same hash keys code c blocks began stands → (m2 : Mem (Node K V)) (end : Lookup × Advance (Option ℕ))
       → Steps Took value_at m (plan_at {K = K} {V = V} keys l stands) m2 end → (m2 ≡ m) × LateLookupTold same hash mode root keys code c blocks began end
   went_at at.Roots point m2 end s = absurd point
   went_at (at.Probes trial) (t, j, tries, before, left) m2 end s =
@@ -42,7 +42,7 @@ module _ {K V : Type 0} (same : K → K → Bool) (hash : K → ℕ) (lawful : I
   pub may_lookup : May Can Took value_at m (lookup_plan {K = K} {V = V} keys l)
   may_lookup = may_at l.stands facts.point
 
-  pub went_lookup : (m2 : Mem (Node K V)) (end : Lookup × Progress (Option ℕ)) → Steps Took value_at m (lookup_plan {K = K} {V = V} keys l) m2 end
+  pub went_lookup : (m2 : Mem (Node K V)) (end : Lookup × Advance (Option ℕ)) → Steps Took value_at m (lookup_plan {K = K} {V = V} keys l) m2 end
       → (m2 ≡ m) × LateLookupTold same hash mode root keys code c blocks began end
   went_lookup m2 end s = went_at l.stands facts.point m2 end s
 

@@ -3,7 +3,7 @@ use Rattle.std.specs.Prelude.{if◌then◌else◌}
 use Rattle.std.proofs.Common.{◌≡◌, ℕ, suc, ◌^◌, ◌<◌, Bool, true, false, Option, Some, None, inl, inr, refl, ap, sym, subst, ◌∙◌}
 use Rattle.map_facts.specs.Given.SeizeWordsMem.{Mem, value_at, Took}
 use Rattle.map_facts.specs.Given.SeizeWordsPlan.{Steps}
-use Rattle.map_facts.specs.Given.SeizeDeclared.progress.Progress.{Progress}
+use Rattle.map_facts.specs.Given.SeizeDeclared.advance.Advance.{Advance}
 use Rattle.map_facts.specs.Given.TablesChunks.{is_incremental}
 use Rattle.map_facts.specs.Given.TablesFinding.{finding}
 use Rattle.map_facts.specs.Given.TablesTrials.{next_trial}
@@ -35,7 +35,7 @@ module _ {K V : Type 0} (same : K → K → Bool) (hash : K → ℕ) (lawful : I
     (root : ℕ) (keys : K → Bool) (code : ℕ) (class : IsClass same hash keys code) (m : Mem (Node K V)) (c : Chart K) (blocks : Blocks) (map : IsMap same hash mode root m c blocks)
     (moments : Moments false c) (began : ℕ) (l : Lookup) (facts : LateLookupFacts same hash keys code c blocks began mode root l) (trial : Trial) (t j : ℕ) (tries : IsTrial c blocks trial code t j)
     (before : (k : K) → keys k ≡ true → Passed same (spot_of hash) false c t k j) (left : Left c began t) where
-  abbrev Told : Lookup × Progress (Option ℕ) → Type 0
+  abbrev Told : Lookup × Advance (Option ℕ) → Type 0
   Told end = LateLookupTold same hash mode root keys code c blocks began end
 
   rule : Rule same (spot_of hash) false c
@@ -84,6 +84,6 @@ module _ {K V : Type 0} (same : K → K → Bool) (hash : K → ℕ) (lawful : I
       (subst (λ (b : Bool). Says keys c.key here b Looks (finding mode Looks (place_word hash c blocks here) same_key)) alone
       (says keys c.key blocks.pair _ mode Looks here same_key sees.has_block (shown_byte hash fits c.key here) sees.has_key tells)))
 
-  pub went_probes : (m2 : Mem (Node K V)) (end : Lookup × Progress (Option ℕ)) → Steps Took value_at m (probes {K = K} {V = V} keys l trial) m2 end
+  pub went_probes : (m2 : Mem (Node K V)) (end : Lookup × Advance (Option ℕ)) → Steps Took value_at m (probes {K = K} {V = V} keys l trial) m2 end
       → (m2 ≡ m) × LateLookupTold same hash mode root keys code c blocks began end
   went_probes = probes_tell hash keys code m c blocks l facts.hash_is trial t here sees Told went_same

@@ -5,7 +5,7 @@ use Rattle.map_facts.specs.Given.SeizeWordsMem.{Mem, Can, Took, value_at}
 use Rattle.map_facts.specs.Given.SeizeWordsPlan.{May, Steps}
 use Rattle.map_facts.proofs.Given.SeizeWordsOneOwner.Operations.{taken}
 use Rattle.map_facts.specs.Given.SeizeWorld.{World}
-use Rattle.map_facts.specs.Given.SeizeDeclared.progress.Progress.{Progress}
+use Rattle.map_facts.specs.Given.SeizeDeclared.advance.Advance.{Advance}
 use Rattle.map_facts.proofs.Given.SeizeRuleRows.Leaving.{steps_back}
 use Rattle.map_facts.specs.Given.TablesDeclared.node.Node.{Node}
 use Rattle.map_facts.specs.Given.TablesDeclared.setting.Setting.{Setting}
@@ -62,7 +62,7 @@ module _ {K V Q : Type 0} (same : K → K → Bool) (hash : K → ℕ) (asks : Q
   on stands h = inl (h.0, h.1.unmoved)
 
   -- its table came too late: it is taken away again
-  first_moved : (making : NewTable) (stands : Making) → LateFirst w caller setting c blocks began stands → (end : NewTable × Progress Table) → Steps Took value_at w.memory (new.plan_at making stands) m2 end → Moved
+  first_moved : (making : NewTable) (stands : Making) → LateFirst w caller setting c blocks began stands → (end : NewTable × Advance Table) → Steps Took value_at w.memory (new.plan_at making stands) m2 end → Moved
   first_moved making (makes.Drops table found) f end s =
       let d = taken w.memory (λ out. other making found) (table.link / 2048) m2 end s in
       (leaves_taken w.memory m2 (λ b. b ≡ table.link / 2048) (λ b. ⊥) (λ b. ⊥) (table.link / 2048) d.0 d.1 d.2 refl (λ b h. h) (λ b h. h)).unmoved

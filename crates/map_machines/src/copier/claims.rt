@@ -4,7 +4,7 @@ ghost use Rattle.seize_words.specs.OneMemory.Plan.{May, Steps};
 ghost use Rattle.map_machines.specs.CopierClaims.{chunk, range_claimed, begins, follows, asks, sees, claims};
 
 use crate::copier::{Copier, Copying};
-use crate::outcome::Outcome;
+use crate::yielding::Yielding;
 use map_tables::table_words::{CLAIM, NEXT, STATUS};
 use map_tables::{Node, Status, Table};
 use seize_words::{At, Link, Memory};
@@ -15,14 +15,14 @@ impl Copier {
     pub(super) fn begins<K, V, M: Memory<Node<K, V>>>(
         &mut self,
         memory: &mut M,
-    ) -> Outcome<Node<K, V>, Table>
+    ) -> Yielding<Node<K, V>, Table>
         requires { May M.can M.took M.shown memory.old (begins self.old) }
         ensures { Steps M.took M.shown memory.old (begins self.old) memory.new (self.new, result) }
     {
         let link = memory.load(At::Root(self.setting.root));
         self.source = Table::seen(link, memory.value(Link::block_of(link)));
         self.stands = Copying::Follows;
-        Outcome::Goes
+        Yielding::Goes
     }
 
     /// Reads which table follows. Where none does, there is nothing to copy.
@@ -30,7 +30,7 @@ impl Copier {
     pub(super) fn follows<K, V, M: Memory<Node<K, V>>>(
         &mut self,
         memory: &mut M,
-    ) -> Outcome<Node<K, V>, Table>
+    ) -> Yielding<Node<K, V>, Table>
         requires { May M.can M.took M.shown memory.old (follows self.old) }
         ensures { Steps M.took M.shown memory.old (follows self.old) memory.new (self.new, result) }
     {
@@ -41,7 +41,7 @@ impl Copier {
             self.target = Table::seen(link, memory.value(Link::block_of(link)));
             self.stands = Copying::Sees;
         }
-        Outcome::Goes
+        Yielding::Goes
     }
 
     /// Reads the status of the table that is copied into. Where nothing is left to be claimed, the others are waited for.
@@ -49,7 +49,7 @@ impl Copier {
     pub(super) fn asks<K, V, M: Memory<Node<K, V>>>(
         &mut self,
         memory: &mut M,
-    ) -> Outcome<Node<K, V>, Table>
+    ) -> Yielding<Node<K, V>, Table>
         requires { May M.can M.took M.shown memory.old (asks self.old) }
         ensures { Steps M.took M.shown memory.old (asks self.old) memory.new (self.new, result) }
     {
@@ -60,11 +60,11 @@ impl Copier {
             self.spent = false;
             self.stands = Copying::Replaces;
         } else if self.spent {
-            return Outcome::Waits;
+            return Yielding::Waits;
         } else {
             self.stands = Copying::Sees;
         }
-        Outcome::Goes
+        Yielding::Goes
     }
 
     /// Reads how many places are claimed: a claim past the table's end is not raised further.
@@ -72,7 +72,7 @@ impl Copier {
     pub(super) fn sees<K, V, M: Memory<Node<K, V>>>(
         &mut self,
         memory: &mut M,
-    ) -> Outcome<Node<K, V>, Table>
+    ) -> Yielding<Node<K, V>, Table>
         requires { May M.can M.took M.shown memory.old (sees self.old) }
         ensures { Steps M.took M.shown memory.old (sees self.old) memory.new (self.new, result) }
     {
@@ -82,7 +82,7 @@ impl Copier {
         } else {
             self.none_left();
         }
-        Outcome::Goes
+        Yielding::Goes
     }
 
     /// Claims a chunk.
@@ -90,7 +90,7 @@ impl Copier {
     pub(super) fn claims<K, V, M: Memory<Node<K, V>>>(
         &mut self,
         memory: &mut M,
-    ) -> Outcome<Node<K, V>, Table>
+    ) -> Yielding<Node<K, V>, Table>
         requires { May M.can M.took M.shown memory.old (claims self.old) }
         ensures { Steps M.took M.shown memory.old (claims self.old) memory.new (self.new, result) }
     {
@@ -101,7 +101,7 @@ impl Copier {
         } else {
             self.none_left();
         }
-        Outcome::Goes
+        Yielding::Goes
     }
 
     /// How many places are claimed at once.

@@ -4,7 +4,7 @@ ghost use Rattle.seize_words.specs.OneMemory.Plan.{May, Steps};
 ghost use Rattle.map_machines.specs.CopierCounts.{refusing, given_up, counts, tallies, unmarks, unclaims};
 
 use crate::copier::{Copier, Copying};
-use crate::outcome::Outcome;
+use crate::yielding::Yielding;
 use map_tables::table_words::{CLAIM, COPIED};
 use map_tables::{Node, Table};
 use seize_words::{Fault, Memory};
@@ -15,7 +15,7 @@ impl Copier {
     pub(super) fn counts<K, V, M: Memory<Node<K, V>>>(
         &mut self,
         memory: &mut M,
-    ) -> Outcome<Node<K, V>, Table>
+    ) -> Yielding<Node<K, V>, Table>
         requires { May M.can M.took M.shown memory.old (counts self.old) }
         ensures { Steps M.took M.shown memory.old (counts self.old) memory.new (self.new, result) }
     {
@@ -29,7 +29,7 @@ impl Copier {
         } else {
             self.go_on();
         }
-        Outcome::Goes
+        Yielding::Goes
     }
 
     /// Goes on where a pair could have no place: what is done is counted first, since a marked place is never counted again.
@@ -51,13 +51,13 @@ impl Copier {
         memory: &mut M,
         word: u64,
         fault: Fault,
-    ) -> Outcome<Node<K, V>, Table>
+    ) -> Yielding<Node<K, V>, Table>
         requires { May M.can M.took M.shown memory.old (tallies self.old word fault) }
         ensures { Steps M.took M.shown memory.old (tallies self.old word fault) memory.new (self.new, result) }
     {
         memory.add(self.target.word(COPIED), self.done);
         self.tallied(word, fault);
-        Outcome::Goes
+        Yielding::Goes
     }
 
     /// Goes on once they are counted.
@@ -76,13 +76,13 @@ impl Copier {
         memory: &mut M,
         word: u64,
         fault: Fault,
-    ) -> Outcome<Node<K, V>, Table>
+    ) -> Yielding<Node<K, V>, Table>
         requires { May M.can M.took M.shown memory.old (unmarks self.old word fault) }
         ensures { Steps M.took M.shown memory.old (unmarks self.old word fault) memory.new (self.new, result) }
     {
         memory.store(self.source.at(self.place), word);
         self.stands = Copying::Unclaims { fault };
-        Outcome::Goes
+        Yielding::Goes
     }
 
     /// Sets the claim to 0: another caller comes to the place, whose mark is gone.
@@ -91,13 +91,13 @@ impl Copier {
         &mut self,
         memory: &mut M,
         fault: Fault,
-    ) -> Outcome<Node<K, V>, Table>
+    ) -> Yielding<Node<K, V>, Table>
         requires { May M.can M.took M.shown memory.old (unclaims self.old fault) }
         ensures { Steps M.took M.shown memory.old (unclaims self.old fault) memory.new (self.new, result) }
     {
         memory.store(self.target.word(CLAIM), 0);
         self.give_up(fault);
-        Outcome::Goes
+        Yielding::Goes
     }
 
     /// Ends without its copy.

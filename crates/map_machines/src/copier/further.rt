@@ -8,9 +8,9 @@ ghost use Rattle.map_machines.specs.CopierFurther.{anew, passes, grown, aborts, 
 
 use crate::copier::{Copier, Copying};
 use crate::new_table::NewTable;
-use crate::outcome::Outcome;
+use crate::yielding::Yielding;
 use map_tables::lengths::Reason;
-use map_tables::named::{Machine, Progress};
+use map_tables::named::{Advance, StepMachine};
 use map_tables::table_words::{NEXT, STATUS};
 use map_tables::{Node, Status, Table};
 use seize_words::{Link, Memory};
@@ -24,7 +24,7 @@ impl Copier {
         word: u64,
         hash: u64,
         table: Table,
-    ) -> Outcome<Node<K, V>, Table>
+    ) -> Yielding<Node<K, V>, Table>
         requires { May M.can M.took M.shown memory.old (passes self.old word hash table) }
         ensures { Steps M.took M.shown memory.old (passes self.old word hash table) memory.new (self.new, result) }
     {
@@ -39,7 +39,7 @@ impl Copier {
             let further = Table::seen(link, memory.value(Link::block_of(link)));
             self.probe(word, hash, further);
         }
-        Outcome::Goes
+        Yielding::Goes
     }
 
     /// Takes a step of the making of a table for a pair, where it stands. Where it is refused, the pair stays where it is.
@@ -47,7 +47,7 @@ impl Copier {
     pub(super) fn grows<K: Drop, V: Drop, M: Memory<Node<K, V>>>(
         &mut self,
         memory: &mut M,
-    ) -> Outcome<Node<K, V>, Table>
+    ) -> Yielding<Node<K, V>, Table>
         requires making { (word : ℕ) × (hash : ℕ) × (making : NewTable) × (self.old.stands ≡ at.Grows word hash making) }
         requires may { (hashes : K → ℕ) × May M.can M.took M.shown memory.old (copier_plan {V = V} hashes self.old) }
         ensures { (hashes : K → ℕ) → Steps M.took M.shown memory.old (copier_plan {V = V} hashes self.old) memory.new (self.new, result) }
@@ -66,20 +66,20 @@ impl Copier {
         &mut self,
         word: u64,
         hash: u64,
-        progress: Progress<Table>,
-    ) -> Outcome<Node<K, V>, Table>
+        progress: Advance<Table>,
+    ) -> Yielding<Node<K, V>, Table>
         ensures { (begun : Copier) (making : NewTable) → self.old ≡ standing begun (at.Grows word hash making) → (self.new, result) ≡ grown begun word hash (making, progress) }
     {
         match progress {
-            Progress::Goes => Outcome::Goes,
-            Progress::Waits => Outcome::Waits,
-            Progress::Done(table) => {
+            Advance::Goes => Yielding::Goes,
+            Advance::Waits => Yielding::Waits,
+            Advance::Done(table) => {
                 self.probe(word, hash, table);
-                Outcome::Goes
+                Yielding::Goes
             }
-            Progress::Refused(fault) => {
+            Advance::Refused(fault) => {
                 self.refuse(word, fault);
-                Outcome::Goes
+                Yielding::Goes
             }
         }
     }
@@ -89,13 +89,13 @@ impl Copier {
     pub(super) fn aborts<K, V, M: Memory<Node<K, V>>>(
         &mut self,
         memory: &mut M,
-    ) -> Outcome<Node<K, V>, Table>
+    ) -> Yielding<Node<K, V>, Table>
         requires { May M.can M.took M.shown memory.old (aborts self.old) }
         ensures { Steps M.took M.shown memory.old (aborts self.old) memory.new (self.new, result) }
     {
         memory.store(self.target.word(STATUS), Status::ABORTED);
         self.stands = Copying::Replaces;
-        Outcome::Goes
+        Yielding::Goes
     }
 
     /// Reads which table follows one that was aborted.
@@ -103,7 +103,7 @@ impl Copier {
     pub(super) fn replaces<K, V, M: Memory<Node<K, V>>>(
         &mut self,
         memory: &mut M,
-    ) -> Outcome<Node<K, V>, Table>
+    ) -> Yielding<Node<K, V>, Table>
         requires { May M.can M.took M.shown memory.old (replaces self.old) }
         ensures { Steps M.took M.shown memory.old (replaces self.old) memory.new (self.new, result) }
     {
@@ -116,7 +116,7 @@ impl Copier {
             let further = Table::seen(link, memory.value(Link::block_of(link)));
             self.begin_anew(further);
         }
-        Outcome::Goes
+        Yielding::Goes
     }
 
     /// Takes a step of the making of another table to copy into, where it stands. Where it is refused, so is the call.
@@ -124,7 +124,7 @@ impl Copier {
     pub(super) fn remakes<K: Drop, V: Drop, M: Memory<Node<K, V>>>(
         &mut self,
         memory: &mut M,
-    ) -> Outcome<Node<K, V>, Table>
+    ) -> Yielding<Node<K, V>, Table>
         requires making { (making : NewTable) × (self.old.stands ≡ at.Remakes making) }
         requires may { (hashes : K → ℕ) × May M.can M.took M.shown memory.old (copier_plan {V = V} hashes self.old) }
         ensures { (hashes : K → ℕ) → Steps M.took M.shown memory.old (copier_plan {V = V} hashes self.old) memory.new (self.new, result) }
@@ -138,19 +138,19 @@ impl Copier {
 
     /// Goes on after a step of that making.
     #[inline(always)]
-    fn remade<K, V>(&mut self, progress: Progress<Table>) -> Outcome<Node<K, V>, Table>
+    fn remade<K, V>(&mut self, progress: Advance<Table>) -> Yielding<Node<K, V>, Table>
         ensures { (begun : Copier) (making : NewTable) → self.old ≡ standing begun (at.Remakes making) → (self.new, result) ≡ remade begun (making, progress) }
     {
         match progress {
-            Progress::Goes => Outcome::Goes,
-            Progress::Waits => Outcome::Waits,
-            Progress::Done(table) => {
+            Advance::Goes => Yielding::Goes,
+            Advance::Waits => Yielding::Waits,
+            Advance::Done(table) => {
                 self.begin_anew(table);
-                Outcome::Goes
+                Yielding::Goes
             }
-            Progress::Refused(fault) => {
+            Advance::Refused(fault) => {
                 self.give_up(fault);
-                Outcome::Goes
+                Yielding::Goes
             }
         }
     }

@@ -4,7 +4,7 @@ ghost use Rattle.seize_words.specs.OneMemory.Plan.{May, Steps};
 ghost use Rattle.map_machines.specs.CopierMarks.{is_mine, is_awaited, probing, key_hash, marks, covers};
 
 use crate::copier::{Copier, Copying};
-use crate::outcome::Outcome;
+use crate::yielding::Yielding;
 use map_tables::marks::{COPIED, COPYING, has};
 use map_tables::{Hashes, Node, Probe, Table};
 use seize_words::{Link, Memory};
@@ -57,7 +57,7 @@ impl Copier {
         &mut self,
         memory: &mut M,
         hasher: &S,
-    ) -> Outcome<Node<K, V>, Table>
+    ) -> Yielding<Node<K, V>, Table>
         requires { May M.can M.took M.shown memory.old (marks (S.hash hasher.now) self.old) }
         ensures { Steps M.took M.shown memory.old (marks (S.hash hasher.now) self.old) memory.new (self.new, result) }
     {
@@ -70,11 +70,11 @@ impl Copier {
                 self.probe(word - word % 2, hash, self.target);
             }
         } else if self.is_awaited(word) {
-            return Outcome::Waits;
+            return Yielding::Waits;
         } else {
             self.next_place();
         }
-        Outcome::Goes
+        Yielding::Goes
     }
 
     /// Marks a place as copied.
@@ -83,12 +83,12 @@ impl Copier {
         &mut self,
         memory: &mut M,
         word: u64,
-    ) -> Outcome<Node<K, V>, Table>
+    ) -> Yielding<Node<K, V>, Table>
         requires { May M.can M.took M.shown memory.old (covers self.old word) }
         ensures { Steps M.took M.shown memory.old (covers self.old word) memory.new (self.new, result) }
     {
         memory.store(self.source.at(self.place), word | COPYING | COPIED);
         self.place_done();
-        Outcome::Goes
+        Yielding::Goes
     }
 }

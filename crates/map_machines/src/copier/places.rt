@@ -4,7 +4,7 @@ ghost use Rattle.seize_words.specs.OneMemory.Plan.{May, Steps};
 ghost use Rattle.map_machines.specs.CopierPlaces.{copied_word, next_try, pair_put, probes, puts};
 
 use crate::copier::{Copier, Copying};
-use crate::outcome::Outcome;
+use crate::yielding::Yielding;
 use map_tables::marks::{BORROWED, unmarked};
 use map_tables::{Node, Probe, Table};
 use seize_words::Memory;
@@ -68,7 +68,7 @@ impl Copier {
         hash: u64,
         table: Table,
         probe: Probe,
-    ) -> Outcome<Node<K, V>, Table>
+    ) -> Yielding<Node<K, V>, Table>
         requires { May M.can M.took M.shown memory.old (probes self.old word hash table probe) }
         ensures { Steps M.took M.shown memory.old (probes self.old word hash table probe) memory.new (self.new, result) }
     {
@@ -83,7 +83,7 @@ impl Copier {
         } else {
             self.next_try(word, hash, table, probe);
         }
-        Outcome::Goes
+        Yielding::Goes
     }
 
     /// Puts the pair into a place that was empty.
@@ -95,7 +95,7 @@ impl Copier {
         hash: u64,
         table: Table,
         probe: Probe,
-    ) -> Outcome<Node<K, V>, Table>
+    ) -> Yielding<Node<K, V>, Table>
         requires { May M.can M.took M.shown memory.old (puts self.old word hash table probe) }
         ensures { Steps M.took M.shown memory.old (puts self.old word hash table probe) memory.new (self.new, result) }
     {
@@ -103,6 +103,6 @@ impl Copier {
             Ok(_) => self.pair_put(word),
             Err(_) => self.next_try(word, hash, table, probe),
         }
-        Outcome::Goes
+        Yielding::Goes
     }
 }

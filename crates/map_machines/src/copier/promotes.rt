@@ -7,8 +7,8 @@ ghost use Rattle.map_machines.specs.declared.copier.Copying.TheVariants as at;
 ghost use Rattle.map_machines.specs.CopierPromotes.{table_retired, promotes, announces, succeeds, retired};
 
 use crate::copier::{Copier, Copying};
-use crate::outcome::Outcome;
-use map_tables::named::{Machine, Settle, Settled};
+use crate::yielding::Yielding;
+use map_tables::named::{Settle, Settled, StepMachine};
 use map_tables::table_words::{NEXT, STATUS};
 use map_tables::{Node, Status, Table};
 use seize_words::{At, Link, Memory};
@@ -19,7 +19,7 @@ impl Copier {
     pub(super) fn promotes<K, V, M: Memory<Node<K, V>>>(
         &mut self,
         memory: &mut M,
-    ) -> Outcome<Node<K, V>, Table>
+    ) -> Yielding<Node<K, V>, Table>
         requires { May M.can M.took M.shown memory.old (promotes self.old) }
         ensures { Steps M.took M.shown memory.old (promotes self.old) memory.new (self.new, result) }
     {
@@ -28,7 +28,7 @@ impl Copier {
             Ok(_) => self.stands = Copying::Announces,
             Err(_) => self.go_on(),
         }
-        Outcome::Goes
+        Yielding::Goes
     }
 
     /// Says in its status that the next table is the root.
@@ -36,7 +36,7 @@ impl Copier {
     pub(super) fn announces<K, V, M: Memory<Node<K, V>>>(
         &mut self,
         memory: &mut M,
-    ) -> Outcome<Node<K, V>, Table>
+    ) -> Yielding<Node<K, V>, Table>
         requires { May M.can M.took M.shown memory.old (announces self.old) }
         ensures { Steps M.took M.shown memory.old (announces self.old) memory.new (self.new, result) }
     {
@@ -44,7 +44,7 @@ impl Copier {
         self.stands = Copying::Succeeds {
             table: self.source.link,
         };
-        Outcome::Goes
+        Yielding::Goes
     }
 
     /// Reads which table comes after one that is to be retired, before that one is gone.
@@ -53,7 +53,7 @@ impl Copier {
         &mut self,
         memory: &mut M,
         table: u64,
-    ) -> Outcome<Node<K, V>, Table>
+    ) -> Yielding<Node<K, V>, Table>
         requires { May M.can M.took M.shown memory.old (succeeds self.old table) }
         ensures { Steps M.took M.shown memory.old (succeeds self.old table) memory.new (self.new, result) }
     {
@@ -67,7 +67,7 @@ impl Copier {
             settle: Settle::retire(self.setting.slot, self.setting.batch_size, table),
             rest,
         };
-        Outcome::Goes
+        Yielding::Goes
     }
 
     /// Takes a step of the retirement of a table, where it stands.
@@ -75,7 +75,7 @@ impl Copier {
     pub(super) fn retires<K, V, M: Memory<Node<K, V>>>(
         &mut self,
         memory: &mut M,
-    ) -> Outcome<Node<K, V>, Table>
+    ) -> Yielding<Node<K, V>, Table>
         requires retiring { (settle : Settle) × (rest : ℕ) × (self.old.stands ≡ at.Retires settle rest) }
         requires may { (hashes : K → ℕ) × May M.can M.took M.shown memory.old (copier_plan {V = V} hashes self.old) }
         ensures { (hashes : K → ℕ) → Steps M.took M.shown memory.old (copier_plan {V = V} hashes self.old) memory.new (self.new, result) }
@@ -94,16 +94,16 @@ impl Copier {
         &mut self,
         rest: u64,
         progress: Settled<Node<K, V>>,
-    ) -> Outcome<Node<K, V>, Table>
+    ) -> Yielding<Node<K, V>, Table>
         ensures { (begun : Copier) (settle : Settle) → self.old ≡ standing begun (at.Retires settle rest) → (self.new, result) ≡ retired begun rest (settle, progress) }
     {
         match progress {
-            Settled::Goes => Outcome::Goes,
-            Settled::Waits => Outcome::Waits,
-            Settled::Gave(value) => Outcome::Gave(value),
+            Settled::Goes => Yielding::Goes,
+            Settled::Waits => Yielding::Waits,
+            Settled::Gave(value) => Yielding::Gave(value),
             Settled::Done => {
                 self.go_behind(rest);
-                Outcome::Goes
+                Yielding::Goes
             }
         }
     }

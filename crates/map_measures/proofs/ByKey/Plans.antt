@@ -6,8 +6,8 @@ use Rattle.seize_words.specs.OneMemory.Op.{Out, Add, Exchange, Load, Make, Rewri
 use Rattle.seize_words.specs.OneMemory.Plan.{Plan, Then, Turn, Do, Now, Seeing, Sure, then_as, plan_as}
 use Rattle.seize_words.specs.OneMemory.Word.{block_in}
 use Rattle.seize_words.specs.declared.at.At.TheVariants.{Root, Word}
-use Rattle.seize.specs.declared.progress.Progress.{Progress}
-use Rattle.seize.specs.declared.progress.Progress.TheVariants as progress
+use Rattle.seize.specs.declared.advance.Advance.{Advance}
+use Rattle.seize.specs.declared.advance.Advance.TheVariants as progress
 use Rattle.seize.specs.declared.rows.settle.Settled.{Settled}
 use Rattle.seize.specs.declared.rows.settle.Settled.TheVariants as settling
 use Rattle.map_tables.specs.Counts.{count_change}
@@ -28,8 +28,8 @@ use Rattle.map_machines.specs.declared.copier.Copier.{Copier}
 use Rattle.map_machines.specs.declared.dispose.Dispose.{Dispose}
 use Rattle.map_machines.specs.declared.lookup.Lookup.{Lookup}
 use Rattle.map_machines.specs.declared.new_table.NewTable.{NewTable}
-use Rattle.map_machines.specs.declared.outcome.Outcome.{Outcome}
-use Rattle.map_machines.specs.declared.outcome.Outcome.TheVariants as outcome
+use Rattle.map_machines.specs.declared.yielding.Yielding.{Yielding}
+use Rattle.map_machines.specs.declared.yielding.Yielding.TheVariants as outcome
 use Rattle.map_sweeps.specs.Reserves.Reserve.{reserve_plan}
 use Rattle.map_sweeps.specs.Sweeps.Sweep.{sweep_plan}
 use Rattle.many_calls.specs.Given.RawCall.{have_one_key, made, makes_of, root_found, next_found, dropped, key_read, pair_read, word_read, word_found, tried, looked, looks_for, first_made, next_made, disposed, helped, copied, plan_at, call_plan}
@@ -136,7 +136,7 @@ module _ {K V Q : Type 0} (eq : K → K → Bool) (stands_for : Q → K) where
   tried_on c word new (Exchanged (Err found)) = word_on false c found
   tried_on c word new _ = refl
 
-  looked_on : (c : KeyCall K V Q) (end : Lookup × Progress (Option ℕ)) → looked (It c) end ≡ On (looked c end)
+  looked_on : (c : KeyCall K V Q) (end : Lookup × Advance (Option ℕ)) → looked (It c) end ≡ On (looked c end)
   looked_on c (lookup, progress.Goes) = refl
   looked_on c (lookup, progress.Waits) = refl
   looked_on c (lookup, progress.Done (Some found)) = refl
@@ -147,13 +147,13 @@ module _ {K V Q : Type 0} (eq : K → K → Bool) (stands_for : Q → K) where
   looks_on c lookup (Some asked) = plan_through (looked (It c)) On (looked c) (looked_on c) (lookup_plan (asked_as eq stands_for asked) lookup)
   looks_on c lookup None = refl
 
-  first_on : (c : KeyCall K V Q) (end : NewTable × Progress Table) → first_made (It c) end ≡ On (first_made c end)
+  first_on : (c : KeyCall K V Q) (end : NewTable × Advance Table) → first_made (It c) end ≡ On (first_made c end)
   first_on c (making, progress.Goes) = refl
   first_on c (making, progress.Waits) = refl
   first_on c (making, progress.Done table) = refl
   first_on c (making, progress.Refused fault) = ending_on stands_for c (ends.Refused fault)
 
-  next_made_on : (c : KeyCall K V Q) (end : NewTable × Progress Table) → next_made (It c) end ≡ On (next_made c end)
+  next_made_on : (c : KeyCall K V Q) (end : NewTable × Advance Table) → next_made (It c) end ≡ On (next_made c end)
   next_made_on c (making, progress.Goes) = refl
   next_made_on c (making, progress.Waits) = refl
   next_made_on c (making, progress.Done table) = went_further stands_for c table
@@ -165,14 +165,14 @@ module _ {K V Q : Type 0} (eq : K → K → Bool) (stands_for : Q → K) where
   disposed_on c answer (dispose, settling.Gave value) = refl
   disposed_on c answer (dispose, settling.Done) = refl
 
-  helped_on : (c : KeyCall K V Q) (goal : Table) (end : Copier × Outcome (Node K V) Table) → helped (It c) goal end ≡ On (helped c goal end)
+  helped_on : (c : KeyCall K V Q) (goal : Table) (end : Copier × Yielding (Node K V) Table) → helped (It c) goal end ≡ On (helped c goal end)
   helped_on c goal (copier, outcome.Goes) = refl
   helped_on c goal (copier, outcome.Waits) = refl
   helped_on c goal (copier, outcome.Gave value) = refl
   helped_on c goal (copier, outcome.Done table) = refl
   helped_on c goal (copier, outcome.Refused fault) = ending_on stands_for c (ends.Refused fault)
 
-  copied_on : (c : KeyCall K V Q) (end : Copier × Outcome (Node K V) Table) → copied (It c) end ≡ On (copied c end)
+  copied_on : (c : KeyCall K V Q) (end : Copier × Yielding (Node K V) Table) → copied (It c) end ≡ On (copied c end)
   copied_on c (copier, outcome.Goes) = refl
   copied_on c (copier, outcome.Waits) = refl
   copied_on c (copier, outcome.Gave value) = refl

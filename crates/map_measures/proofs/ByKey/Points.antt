@@ -28,8 +28,8 @@ use Rattle.many_calls.specs.Given.RawDeclared.machines.answer.There.TheVariants 
 use Rattle.many_calls.specs.Given.RawDeclared.machines.asking.Asking.TheVariants as asking
 use Rattle.many_calls.specs.Given.RawDeclared.machines.asking.Gap.{Gap}
 use Rattle.many_calls.specs.Given.RawDeclared.machines.asking.Gap.TheVariants as gaps
-use Rattle.many_calls.specs.Given.RawDeclared.machines.asking.Reply.{Reply}
-use Rattle.many_calls.specs.Given.RawDeclared.machines.asking.Reply.TheVariants as reply
+use Rattle.many_calls.specs.Given.RawDeclared.machines.asking.MachineReply.{MachineReply}
+use Rattle.many_calls.specs.Given.RawDeclared.machines.asking.MachineReply.TheVariants as reply
 use Rattle.many_calls.specs.Given.RawDeclared.machines.asking.Takes.{Takes}
 use Rattle.many_calls.specs.Given.RawDeclared.machines.asking.Takes.TheVariants as takes
 use Rattle.many_calls.specs.Given.RawDeclared.machines.asking.Told.{Told}
@@ -163,20 +163,20 @@ module _ {K V Q : Type 0} (stands_for : Q → K) where
       either (removed == 0) (over c (ends.Answered (answers.Stored c.own))) (going c (at.Disposes (disposing c.setting removed c.trial.table) (answers.Removed removed)))
 
   -- by a reply
-  abbrev pub Replied : KeyCall K V Q × Result Unit (Reply V) → KeyCall K V K × Result Unit (Reply V)
+  abbrev pub Replied : KeyCall K V Q × Result Unit (MachineReply V) → KeyCall K V K × Result Unit (MachineReply V)
   Replied end = (by end.0, end.1)
 
-  taken : {x : KeyCall K V K × Called (Node K V)} (y : KeyCall K V Q × Called (Node K V)) → x ≡ on y → ◌≡◌ {A = KeyCall K V K × Result Unit (Reply V)} (x.0, Ok tt) (by y.0, Ok tt)
+  taken : {x : KeyCall K V K × Called (Node K V)} (y : KeyCall K V Q × Called (Node K V)) → x ≡ on y → ◌≡◌ {A = KeyCall K V K × Result Unit (MachineReply V)} (x.0, Ok tt) (by y.0, Ok tt)
   taken y is = ap (λ (z : KeyCall K V K × Called (Node K V)). (z.0, Ok tt)) is
 
-  absent_on : (t : Takes) (c : KeyCall K V Q) (gap : Gap) (told : Reply V) → absent_told t (by c) gap told ≡ Replied (absent_told t c gap told)
+  absent_on : (t : Takes) (c : KeyCall K V Q) (gap : Gap) (told : MachineReply V) → absent_told t (by c) gap told ≡ Replied (absent_told t c gap told)
   absent_on takes.Values c gap (reply.Insert value) = taken (at_gap gap (with_absent c value)) (at_gap_on gap (with_absent c value))
   absent_on takes.Changes c gap (reply.Insert value) = taken (at_gap gap (with_absent c value)) (at_gap_on gap (with_absent c value))
   absent_on takes.Changes c gap reply.Remove = taken (ending c (ends.Refused RemoveNothing)) (ending_on c (ends.Refused RemoveNothing))
   absent_on takes.Changes c gap reply.Abort = taken (ending c (ends.Answered answers.Absent)) (ending_on c (ends.Answered answers.Absent))
   absent_on _ c gap told = refl
 
-  present_on : (t : Takes) (c : KeyCall K V Q) (word : ℕ) (told : Reply V) → present_told t (by c) word told ≡ Replied (present_told t c word told)
+  present_on : (t : Takes) (c : KeyCall K V Q) (word : ℕ) (told : MachineReply V) → present_told t (by c) word told ≡ Replied (present_told t c word told)
   present_on takes.Values c word (reply.Insert value) = refl
   present_on takes.Changes c word (reply.Insert value) = refl
   present_on takes.Changes c word reply.Remove = taken (burying (with_present c word tells.Removes) word) (burying_on (with_present c word tells.Removes) word)
@@ -185,7 +185,7 @@ module _ {K V Q : Type 0} (stands_for : Q → K) where
   present_on takes.Choices c word reply.No = taken (ending c (ends.Answered (answers.Found word))) (ending_on c (ends.Answered (answers.Found word)))
   present_on _ c word told = refl
 
-  pub replied_on : (p : Calling) (c : KeyCall K V Q) (told : Reply V) → told_at p (by c) told ≡ Replied (told_at p c told)
+  pub replied_on : (p : Calling) (c : KeyCall K V Q) (told : MachineReply V) → told_at p (by c) told ≡ Replied (told_at p c told)
   replied_on (at.Asks (asking.Absent gap)) c told = absent_on c.replies.takes c gap told
   replied_on (at.Asks (asking.Present word)) c told = present_on c.replies.takes c word told
   replied_on _ c told = refl

@@ -27,8 +27,8 @@ use Rattle.map_machines.specs.Dispose.{disposing, dispose_plan}
 use Rattle.map_machines.specs.Sum.{summing}
 use Rattle.map_machines.specs.declared.copier.Copier.{Copier}
 use Rattle.map_machines.specs.declared.dispose.Dispose.{Dispose}
-use Rattle.map_machines.specs.declared.outcome.Outcome.{Outcome}
-use Rattle.map_machines.specs.declared.outcome.Outcome.TheVariants as outcome
+use Rattle.map_machines.specs.declared.yielding.Yielding.{Yielding}
+use Rattle.map_machines.specs.declared.yielding.Yielding.TheVariants as outcome
 use Rattle.map_sweeps.specs.Sweeps.Sweep.{word_found, tried, root_read, next_read, copied, disposed, plan_at, sweep_plan}
 use Rattle.map_sweeps.specs.Sweeps.SweepPoints.{removes, tableless, beginning, entering, told, telling, going, seen}
 use Rattle.map_sweeps.specs.declared.sweep.Sweep.{Sweep}
@@ -135,7 +135,7 @@ module _ {K V : Type 0} (same : K → K → Bool) (hash : K → ℕ) (setting : 
         (by b.0 (copies_fall same hash setting w.memory c blocks m2 c2 blocks2 on copier none (is_incremental p.setting.mode)
         (copier_stands same hash w caller setting c blocks began p.setting setting_is copier facts) b.0 b.1))
       where
-        by : (to : Copier × Outcome (Node K V) Table)
+        by : (to : Copier × Yielding (Node K V) Table)
             → CopyFalls same hash setting w.memory c blocks m2 c2 blocks2 on copier none (is_incremental p.setting.mode) to
             → Goal (at.Copies copier) (copied p to)
         by (next, outcome.Goes) falls goes = falls

@@ -14,8 +14,8 @@ use Rattle.map_machines.specs.Copier.{copier_plan}
 use Rattle.map_machines.specs.Dispose.{dispose_plan}
 use Rattle.map_machines.specs.declared.copier.Copier.{Copier}
 use Rattle.map_machines.specs.declared.dispose.Dispose.{Dispose}
-use Rattle.map_machines.specs.declared.outcome.Outcome.{Outcome}
-use Rattle.map_machines.specs.declared.outcome.Outcome.TheVariants as outcome
+use Rattle.map_machines.specs.declared.yielding.Yielding.{Yielding}
+use Rattle.map_machines.specs.declared.yielding.Yielding.TheVariants as outcome
 use Rattle.map_sweeps.specs.Sweeps.Sweep.{copied, disposed, plan_at}
 use Rattle.map_sweeps.specs.Sweeps.SweepPoints.{removes, further}
 use Rattle.map_sweeps.specs.declared.sweep.Sweep.{Sweep}
@@ -80,7 +80,7 @@ module _ {K V : Type 0} (same : K → K → Bool) (hash : K → ℕ) (setting : 
       )
 
   -- a table is retired
-  copied_on : (copier : Copier) → IsRowOfSweep (at.Copies copier) → (to : Copier × Outcome (Node K V) Table)
+  copied_on : (copier : Copier) → IsRowOfSweep (at.Copies copier) → (to : Copier × Yielding (Node K V) Table)
       → Steps Took value_at w.memory (copier_plan hash copier) m2 to
       → Goal (at.Copies copier) (copied p to)
   copied_on copier row (next, outcome.Goes) s goes = row_copied hash w.memory m2 c blocks p.setting copier next row outcome.Goes tt s

@@ -14,8 +14,8 @@ use Rattle.map_tables.specs.declared.table.Table.{Table}
 use Rattle.map_machines.specs.Copier.{copier_plan}
 use Rattle.map_machines.specs.CopierPromotes.{retired}
 use Rattle.map_machines.specs.declared.copier.Copier.{Copier}
-use Rattle.map_machines.specs.declared.outcome.Outcome.{Outcome}
-use Rattle.map_machines.specs.declared.outcome.Outcome.TheVariants.{Goes, Waits, Gave, Done, Refused}
+use Rattle.map_machines.specs.declared.yielding.Yielding.{Yielding}
+use Rattle.map_machines.specs.declared.yielding.Yielding.TheVariants.{Goes, Waits, Gave, Done, Refused}
 use Rattle.map_sweeps.specs.Reserves.Reserve.{copied}
 use Rattle.map_sweeps.specs.declared.reserve.Reserve.{Reserve}
 use Rattle.map_sweeps.specs.declared.reserve.Reserving.TheVariants as at
@@ -61,16 +61,16 @@ module _ {K V : Type 0} (hash : K → ℕ) (m m2 : Mem (Node K V)) (c : Chart K)
       let r = in_row copier row in
       let inner = retires_back hash m m2 copier r.0 r.1 r.2 (next, Done root) s in by r.1 inner.0 inner.1
     where
-      by : (rest : ℕ) (to : Settle × Settled (Node K V)) → ◌≡◌ {A = Copier × Outcome (Node K V) Table} (next, Done root) (retired copier rest to) → ⊥
-      by rest (settle, settled.Goes) e = let told = ap (λ (x : Copier × Outcome (Node K V) Table). x.1) e in cc told
-      by rest (settle, settled.Waits) e = let told = ap (λ (x : Copier × Outcome (Node K V) Table). x.1) e in cc told
-      by rest (settle, settled.Gave value) e = let told = ap (λ (x : Copier × Outcome (Node K V) Table). x.1) e in cc told
-      by rest (settle, settled.Done) e = let told = ap (λ (x : Copier × Outcome (Node K V) Table). x.1) e in cc told
+      by : (rest : ℕ) (to : Settle × Settled (Node K V)) → ◌≡◌ {A = Copier × Yielding (Node K V) Table} (next, Done root) (retired copier rest to) → ⊥
+      by rest (settle, settled.Goes) e = let told = ap (λ (x : Copier × Yielding (Node K V) Table). x.1) e in cc told
+      by rest (settle, settled.Waits) e = let told = ap (λ (x : Copier × Yielding (Node K V) Table). x.1) e in cc told
+      by rest (settle, settled.Gave value) e = let told = ap (λ (x : Copier × Yielding (Node K V) Table). x.1) e in cc told
+      by rest (settle, settled.Done) e = let told = ap (λ (x : Copier × Yielding (Node K V) Table). x.1) e in cc told
 
   abbrev RowOn : Type 0
   RowOn = (IsRowOfCopier next.stands × (numbers next ≡ numbers copier)) ⊎ ((IsRowOfCopier next.stands → ⊥) × IsBelow (numbers next) (numbers copier))
 
-  pub row_copied : IsRowOfCopier copier.stands → (told : Outcome (Node K V) Table) → GoesFurther told → Steps Took value_at m (copier_plan hash copier) m2 (next, told) → RowOn
+  pub row_copied : IsRowOfCopier copier.stands → (told : Yielding (Node K V) Table) → GoesFurther told → Steps Took value_at m (copier_plan hash copier) m2 (next, told) → RowOn
   row_copied row Goes goes s =
       reserve_rows_fall hash (reserve_with own copier) row m m2 (copied (reserve_with own copier) (next, Goes))
       (steps_as (copied (reserve_with own copier)) Can Took value_at m m2 (copier_plan hash copier) (next, Goes) s) tt c blocks

@@ -4,8 +4,8 @@ use Rattle.std.proofs.Common.{◌≡◌, refl, sym, subst}
 use Rattle.seize_words.specs.OneMemory.Mem.{Mem, value_at, Took}
 use Rattle.seize_words.specs.OneMemory.Op.{Out, Found, Exchanged, Made, Taken}
 use Rattle.seize_words.specs.OneMemory.Plan.{Then, Steps}
-use Rattle.seize.specs.declared.progress.Progress.{Progress}
-use Rattle.seize.specs.declared.progress.Progress.TheVariants as progress
+use Rattle.seize.specs.declared.advance.Advance.{Advance}
+use Rattle.seize.specs.declared.advance.Advance.TheVariants as progress
 use Rattle.seize.specs.declared.rows.settle.Settled.{Settled}
 use Rattle.seize.specs.declared.rows.settle.Settled.TheVariants as settled
 use Rattle.map_tables.specs.Chunks.{is_incremental}
@@ -127,20 +127,20 @@ module _ {K V Q : Type 0} where
     counted_new removed = either (removed == 0) _ _ tt tt
 
     -- what machines within it tell
-    looked_new : (end : Lookup × Progress (Option ℕ)) → NewStep (looked p end)
+    looked_new : (end : Lookup × Advance (Option ℕ)) → NewStep (looked p end)
     looked_new (l, progress.Goes) = tt
     looked_new (l, progress.Waits) = tt
     looked_new (l, progress.Done (Some found)) = tt
     looked_new (l, progress.Done None) = tt
     looked_new (l, progress.Refused fault) = tt
 
-    first_new : (end : NewTable × Progress Table) → NewStep (first_made p end)
+    first_new : (end : NewTable × Advance Table) → NewStep (first_made p end)
     first_new (n, progress.Goes) = tt
     first_new (n, progress.Waits) = tt
     first_new (n, progress.Done table) = tt
     first_new (n, progress.Refused fault) = ending_new _
 
-    next_new : (end : NewTable × Progress Table) → NewStep (next_made p end)
+    next_new : (end : NewTable × Advance Table) → NewStep (next_made p end)
     next_new (n, progress.Goes) = tt
     next_new (n, progress.Waits) = tt
     next_new (n, progress.Done table) = on_new table

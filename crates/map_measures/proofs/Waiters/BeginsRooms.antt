@@ -5,15 +5,15 @@ use Rattle.seize_words.specs.OneMemory.Mem.{Mem, Took, value_at}
 use Rattle.seize_words.specs.OneMemory.Op.{Out, Found}
 use Rattle.seize_words.specs.OneMemory.Plan.{Steps}
 use Rattle.seize_words.specs.declared.fault.Fault.TheVariants.{Capacity}
-use Rattle.seize.specs.declared.progress.Progress.{Progress}
-use Rattle.seize.specs.declared.progress.Progress.TheVariants as progress
+use Rattle.seize.specs.declared.advance.Advance.{Advance}
+use Rattle.seize.specs.declared.advance.Advance.TheVariants as progress
 use Rattle.map_tables.specs.declared.node.Node.{Node}
 use Rattle.map_tables.specs.declared.table.Table.{Table}
 use Rattle.map_machines.specs.NewTable.{new_table_plan}
 use Rattle.map_machines.specs.Sum.{sum_plan}
 use Rattle.map_machines.specs.declared.new_table.NewTable.{NewTable}
-use Rattle.map_machines.specs.declared.outcome.Outcome.{Outcome}
-use Rattle.map_machines.specs.declared.outcome.Outcome.TheVariants as outcome
+use Rattle.map_machines.specs.declared.yielding.Yielding.{Yielding}
+use Rattle.map_machines.specs.declared.yielding.Yielding.TheVariants as outcome
 use Rattle.map_machines.specs.declared.sum.Sum.{Sum}
 use Rattle.map_sweeps.specs.Reserves.Reserve.{standing, refusing, enough, summed, made, grown, needed, root_read, next_read, plan_at, reserve_plan}
 use Rattle.map_sweeps.specs.declared.reserve.Reserve.{Reserve}
@@ -28,17 +28,17 @@ abbrev pub IsNewRoom : Reserving → Type 0
 IsNewRoom stands = IsNew (copier_in_room stands)
 
 module _ {K V : Type 0} where
-  abbrev pub NewRoom : Reserve × Outcome (Node K V) Unit → Type 0
+  abbrev pub NewRoom : Reserve × Yielding (Node K V) Unit → Type 0
   NewRoom end = IsNewRoom end.0.stands
 
 module _ (K V : Type 0) (hash : K → ℕ) (p : Reserve) (here : IsNewRoom p.stands) where
-  made_new : (end : NewTable × Progress Table) → NewRoom (made {K = K} {V = V} p end)
+  made_new : (end : NewTable × Advance Table) → NewRoom (made {K = K} {V = V} p end)
   made_new (making, progress.Goes) = tt
   made_new (making, progress.Waits) = tt
   made_new (making, progress.Done table) = tt
   made_new (making, progress.Refused fault) = tt
 
-  grown_new : (table : Table) (end : NewTable × Progress Table) → NewRoom (grown {K = K} {V = V} p table end)
+  grown_new : (table : Table) (end : NewTable × Advance Table) → NewRoom (grown {K = K} {V = V} p table end)
   grown_new table (making, progress.Goes) = tt
   grown_new table (making, progress.Waits) = tt
   grown_new table (making, progress.Done next) = begun_new p.setting table next
@@ -53,7 +53,7 @@ module _ (K V : Type 0) (hash : K → ℕ) (p : Reserve) (here : IsNewRoom p.sta
       by false true = tt
       by false false = tt
 
-  summed_new : (table : Table) (end : Sum × Progress ℕ) → NewRoom {K = K} {V = V} (summed p table end)
+  summed_new : (table : Table) (end : Sum × Advance ℕ) → NewRoom {K = K} {V = V} (summed p table end)
   summed_new table (sum, progress.Goes) = tt
   summed_new table (sum, progress.Waits) = tt
   summed_new table (sum, progress.Done count) = enough_new table (needed p.additional count)
@@ -78,5 +78,5 @@ module _ (K V : Type 0) (hash : K → ℕ) (p : Reserve) (here : IsNewRoom p.sta
   room_plan (reserves.Refused fault) none = here
 
 module _ {K V : Type 0} (hash : K → ℕ) (m m2 : Mem (Node K V)) where
-  pub room_new : (p : Reserve) (end : Reserve × Outcome (Node K V) Unit) → copier_in_room p.stands ≡ None → Steps Took value_at m (reserve_plan hash p) m2 end → NewRoom end
+  pub room_new : (p : Reserve) (end : Reserve × Yielding (Node K V) Unit) → copier_in_room p.stands ≡ None → Steps Took value_at m (reserve_plan hash p) m2 end → NewRoom end
   room_new p end none s = always_steps NewRoom m m2 (reserve_plan hash p) end (room_plan K V hash p (as_none none) p.stands none) s

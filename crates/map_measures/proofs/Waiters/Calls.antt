@@ -10,8 +10,8 @@ use Rattle.map_tables.specs.declared.node.Node.{Node}
 use Rattle.map_tables.specs.declared.setting.Setting.{Setting}
 use Rattle.map_tables.specs.declared.table.Table.{Table}
 use Rattle.map_machines.specs.Copier.{copier_plan}
-use Rattle.map_machines.specs.declared.outcome.Outcome.{Outcome}
-use Rattle.map_machines.specs.declared.outcome.Outcome.TheVariants as outcome
+use Rattle.map_machines.specs.declared.yielding.Yielding.{Yielding}
+use Rattle.map_machines.specs.declared.yielding.Yielding.TheVariants as outcome
 use Rattle.map_machines.specs.declared.copier.Copier.{Copier}
 use Rattle.many_calls.specs.Given.RawDeclared.machines.answer.Called.{Called}
 use Rattle.many_calls.specs.Given.RawDeclared.machines.call.KeyCall.{KeyCall}
@@ -91,7 +91,7 @@ first_removes hash mode c d (inl is) = ap (λ (x : Chart _). x.first) is
 first_removes hash mode c d (inr (t, place, is)) = ap (λ (x : Chart _). x.first) is
 
 -- where a step of its copier leads a call: it goes on within that, or has left it, which then does not go on
-abbrev pub GoesWithin : {K V Q : Type 0} → Option (UnderWay K V Q) → Copier × Outcome (Node K V) Table → Type 0
+abbrev pub GoesWithin : {K V Q : Type 0} → Option (UnderWay K V Q) → Copier × Yielding (Node K V) Table → Type 0
 GoesWithin next b = ((b.1 ≡ outcome.Goes → ⊥) × (copier_then next ≡ None)) ⊎ (copier_then next ≡ Some b.0)
 
 module _ {K V Q : Type 0} (like : CallOnKey K V Q) where
@@ -115,7 +115,7 @@ module _ {K V Q : Type 0} (like : CallOnKey K V Q) where
       by true = refl
       by false = refl
 
-  pub key_within : (p : KeyCall K V Q) (b : Copier × Outcome (Node K V) Table) (end : KeyCall K V Q × Called (Node K V)) → end ≡ copied p b → GoesWithin (key_then end) b
+  pub key_within : (p : KeyCall K V Q) (b : Copier × Yielding (Node K V) Table) (end : KeyCall K V Q × Called (Node K V)) → end ≡ copied p b → GoesWithin (key_then end) b
   key_within p (q, outcome.Goes) end e = inr (ap (λ (x : KeyCall K V Q × Called (Node K V)). copier_then (key_then x)) e)
   key_within p (q, outcome.Waits) end e = inr (ap (λ (x : KeyCall K V Q × Called (Node K V)). copier_then (key_then x)) e)
   key_within p (q, outcome.Gave value) end e = inr (ap (λ (x : KeyCall K V Q × Called (Node K V)). copier_then (key_then x)) e)
@@ -126,20 +126,20 @@ module _ {K V Q : Type 0} (like : CallOnKey K V Q) where
   )
 
 module _ {K V : Type 0} (Q : Type 0) where
-  abbrev pub room_then : ℕ → Reserve × Outcome (Node K V) Unit → Option (UnderWay K V Q)
+  abbrev pub room_then : ℕ → Reserve × Yielding (Node K V) Unit → Option (UnderWay K V Q)
   room_then began end = next_for_room (record { began = began; reserve = end.0 }) end.1
 
-  room_spent : (c : Chart K) (began : ℕ) (p : Reserve) (end : Outcome (Node K V) Unit) → IsNew (copier_in_room p.stands) → OwnSpent c (copier_then (room_then began (p, end)))
+  room_spent : (c : Chart K) (began : ℕ) (p : Reserve) (end : Yielding (Node K V) Unit) → IsNew (copier_in_room p.stands) → OwnSpent c (copier_then (room_then began (p, end)))
   room_spent c began p (outcome.Done it) new = tt
   room_spent c began p (outcome.Refused fault) new = tt
   room_spent c began p _ new = new_spent c (copier_in_room p.stands) new
 
-  pub room_within : (began : ℕ) (p : Reserve) (b : Copier × Outcome (Node K V) Table) (end : Reserve × Outcome (Node K V) Unit) → end ≡ room_plans.copied p b → GoesWithin (room_then began end) b
-  room_within began p (q, outcome.Goes) end e = inr (ap (λ (x : Reserve × Outcome (Node K V) Unit). copier_then (room_then began x)) e)
-  room_within began p (q, outcome.Waits) end e = inr (ap (λ (x : Reserve × Outcome (Node K V) Unit). copier_then (room_then began x)) e)
-  room_within began p (q, outcome.Gave value) end e = inr (ap (λ (x : Reserve × Outcome (Node K V) Unit). copier_then (room_then began x)) e)
-  room_within began p (q, outcome.Done table) end e = inl ((λ goes. cc goes), ap (λ (x : Reserve × Outcome (Node K V) Unit). copier_then (room_then began x)) e)
-  room_within began p (q, outcome.Refused fault) end e = inl ((λ goes. cc goes), ap (λ (x : Reserve × Outcome (Node K V) Unit). copier_then (room_then began x)) e)
+  pub room_within : (began : ℕ) (p : Reserve) (b : Copier × Yielding (Node K V) Table) (end : Reserve × Yielding (Node K V) Unit) → end ≡ room_plans.copied p b → GoesWithin (room_then began end) b
+  room_within began p (q, outcome.Goes) end e = inr (ap (λ (x : Reserve × Yielding (Node K V) Unit). copier_then (room_then began x)) e)
+  room_within began p (q, outcome.Waits) end e = inr (ap (λ (x : Reserve × Yielding (Node K V) Unit). copier_then (room_then began x)) e)
+  room_within began p (q, outcome.Gave value) end e = inr (ap (λ (x : Reserve × Yielding (Node K V) Unit). copier_then (room_then began x)) e)
+  room_within began p (q, outcome.Done table) end e = inl ((λ goes. cc goes), ap (λ (x : Reserve × Yielding (Node K V) Unit). copier_then (room_then began x)) e)
+  room_within began p (q, outcome.Refused fault) end e = inl ((λ goes. cc goes), ap (λ (x : Reserve × Yielding (Node K V) Unit). copier_then (room_then began x)) e)
 
   module _ (o : CallOverAll) (entered : ℕ) (done : List ℕ) where
     abbrev pub sweep_then : Sweep × Swept (Node K V) → Option (UnderWay K V Q)
@@ -155,7 +155,7 @@ module _ {K V : Type 0} (Q : Type 0) where
     sweep_spent c p (swept.Refused fault) new = tt
     sweep_spent c p _ new = new_spent c (copier_in_sweep p.stands) new
 
-    pub sweep_within : (p : Sweep) (b : Copier × Outcome (Node K V) Table) (end : Sweep × Swept (Node K V)) → end ≡ sweep_plans.copied p b → GoesWithin (sweep_then end) b
+    pub sweep_within : (p : Sweep) (b : Copier × Yielding (Node K V) Table) (end : Sweep × Swept (Node K V)) → end ≡ sweep_plans.copied p b → GoesWithin (sweep_then end) b
     sweep_within p (q, outcome.Goes) end e = inr (ap (λ (x : Sweep × Swept (Node K V)). copier_then (sweep_then x)) e)
     sweep_within p (q, outcome.Waits) end e = inr (ap (λ (x : Sweep × Swept (Node K V)). copier_then (sweep_then x)) e)
     sweep_within p (q, outcome.Gave value) end e = inr (ap (λ (x : Sweep × Swept (Node K V)). copier_then (sweep_then x)) e)
@@ -234,7 +234,7 @@ module _ {K Q : Type 0} (V : Type 0) (same : K → K → Bool) (hash : K → ℕ
       call_keeps : After
       call_keeps = key_at u.call.stands refl
 
-    module _ (r : CallForRoom) (has : calls i ≡ Some (ForRoom r)) (none : IsRowOfReserve r.reserve.stands → ⊥) (p2 : Reserve) (end : Outcome (Node K V) Unit)
+    module _ (r : CallForRoom) (has : calls i ≡ Some (ForRoom r)) (none : IsRowOfReserve r.reserve.stands → ⊥) (p2 : Reserve) (end : Yielding (Node K V) Unit)
         (steps : Steps Took value_at w.memory (room_plans.reserve_plan hash r.reserve) m2 (p2, end))
         (leads : RoomStepsTogether V same hash asks setting slot w c blocks sights calls i r m2 p2 end) where
       abbrev rooms_next : Option (UnderWay K V Q)

@@ -18,7 +18,7 @@ use Rattle.map_machines.specs.Copier.{copier_plan, plan_at}
 use Rattle.map_machines.specs.declared.copier.Copier.{Copier}
 use Rattle.map_machines.specs.declared.copier.Copying.{Copying as Point}
 use Rattle.map_machines.specs.declared.copier.Copying.TheVariants as at
-use Rattle.map_machines.specs.declared.outcome.Outcome.{Outcome}
+use Rattle.map_machines.specs.declared.yielding.Yielding.{Yielding}
 use Rattle.many_calls.specs.Given.RuleChart.{Chart}
 use Rattle.many_calls.specs.Given.RuleInWorld.{IsMapIn}
 use Rattle.many_calls.specs.Given.RuleMaps.{IsTable, spot_of}
@@ -81,7 +81,7 @@ module _ {K V : Type 0} (same : K → K → Bool) (hash : K → ℕ) (caller : �
 
 module _ {K V : Type 0} (same : K → K → Bool) (hash : K → ℕ) (fits : (k : K) → hash k < 2 ^ 64) (lawful : IsLawful same (spot_of hash)) (caller : ℕ) (setting : Setting)
     (mode : is_incremental setting.mode ≡ false) (initial : IsPowerOfTwo setting.initial) (w : World (Node K V)) (c : Chart K) (blocks : Blocks) (map : IsMapIn same hash setting w c blocks)
-    (p : Copier) (facts : CopierFactsBlocking same hash w caller setting c blocks p) (m2 : Mem (Node K V)) (end : Copier × Outcome (Node K V) Table)
+    (p : Copier) (facts : CopierFactsBlocking same hash w caller setting c blocks p) (m2 : Mem (Node K V)) (end : Copier × Yielding (Node K V) Table)
     (steps : Steps Took value_at w.memory (copier_plan hash p) m2 end) (d : Chart K) (blocks2 : Blocks) (r : Reached same hash setting mode w caller c blocks map m2 d blocks2)
     (P A G : ℕ → Type 0) where
   -- the root is as it was, but where it makes its target the root

@@ -18,8 +18,8 @@ use Rattle.map_machines.specs.CopierCounts.{counted as count_told}
 use Rattle.map_machines.specs.CopierStates.{behind}
 use Rattle.map_machines.specs.declared.copier.Copier.{Copier}
 use Rattle.map_machines.specs.declared.copier.Copying.TheVariants as at
-use Rattle.map_machines.specs.declared.outcome.Outcome.{Outcome}
-use Rattle.map_machines.specs.declared.outcome.Outcome.TheVariants.{Goes}
+use Rattle.map_machines.specs.declared.yielding.Yielding.{Yielding}
+use Rattle.map_machines.specs.declared.yielding.Yielding.TheVariants.{Goes}
 use Rattle.many_calls.specs.Given.RuleChart.{Chart, Share, Free, Claimed, Done, Counted, Lost, is_counted}
 use Rattle.many_calls.specs.Given.RuleInWorld.{IsMapIn}
 use Rattle.many_calls.specs.Given.RuleLasts.{IsBy}
@@ -59,7 +59,7 @@ some_uncounted d (suc n) few = by (some_uncounted d n) (d n) refl
     by before Lost is = here Lost is (λ e. cc e)
 
 module _ {K V : Type 0} (same : K → K → Bool) (hash : K → ℕ) (caller : ℕ) (setting : Setting) (mode : is_incremental setting.mode ≡ false) (w : World (Node K V)) (c : Chart K) (blocks : Blocks)
-    (map : IsMapIn same hash setting w c blocks) (p : Copier) (m2 : Mem (Node K V)) (end : Copier × Outcome (Node K V) Table)
+    (map : IsMapIn same hash setting w c blocks) (p : Copier) (m2 : Mem (Node K V)) (end : Copier × Yielding (Node K V) Table)
     (steps : Steps Took value_at w.memory (plan_at hash p at.Counts) m2 end) (d : Chart K) (blocks2 : Blocks) (r : Reached same hash setting mode w caller c blocks map m2 d blocks2)
     (P A G : ℕ → Type 0) (t : ℕ) (into : CopiesInto same hash w caller setting c blocks p t) (some : 0 < p.done) (done : HasDoneIn same hash w caller setting c blocks t p.done) where
   abbrev sum : ℕ

@@ -22,7 +22,7 @@ use Rattle.map_tables.specs.declared.table.Table.{Table}
 use Rattle.map_machines.specs.declared.copier.Copying.{Copying as Point}
 use Rattle.many_calls.specs.Given.RuleMaps.{IsTable}
 use Rattle.many_calls.specs.Given.RuleInWorld.{IsMapIn}
-use Rattle.map_machines.specs.declared.outcome.Outcome.{Outcome}
+use Rattle.map_machines.specs.declared.yielding.Yielding.{Yielding}
 use Rattle.many_calls.proofs.Claims.Knows.{late_knows}
 use Rattle.seize_words.proofs.OneMemory.OneOwner.Operations.{exchanged}
 use Rattle.many_calls.proofs.Given.RuleSpared.{step_spares}
@@ -36,7 +36,7 @@ use Rattle.map_measures.proofs.Waiters.Copiers.{written}
 module _ {K V : Type 0} (same : K → K → Bool) (hash : K → ℕ) (caller : ℕ) (setting : Setting) (mode : is_incremental setting.mode ≡ false)
     (w : World (Node K V)) (c : Chart K) (blocks : Blocks) (map : IsMapIn same hash setting w c blocks) (began : ℕ)
     (p : Copier) (facts : LateCopierFacts same hash w caller setting c blocks began p) (row : IsRowOfCopier p.stands → ⊥) (may : May Can Took value_at w.memory (copier_plan {V = V} hash p))
-    (m2 : Mem (Node K V)) (end : Copier × Outcome (Node K V) Table) (steps : Steps Took value_at w.memory (copier_plan hash p) m2 end) (d : Chart K) (blocks2 : Blocks)
+    (m2 : Mem (Node K V)) (end : Copier × Yielding (Node K V) Table) (steps : Steps Took value_at w.memory (copier_plan hash p) m2 end) (d : Chart K) (blocks2 : Blocks)
     (r : Reached same hash setting mode w caller c blocks map m2 d blocks2) (P A G : ℕ → Type 0) where
   -- it has no part in a copying that goes on
   late_idle : (stands : Point) → LateCopying same hash w caller setting c blocks began p stands → HasNoShares same hash w caller setting c blocks

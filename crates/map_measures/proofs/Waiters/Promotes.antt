@@ -14,8 +14,8 @@ use Rattle.map_machines.specs.CopierPromotes.{promoted}
 use Rattle.map_machines.specs.CopierStates.{standing}
 use Rattle.map_machines.specs.declared.copier.Copier.{Copier}
 use Rattle.map_machines.specs.declared.copier.Copying.TheVariants as at
-use Rattle.map_machines.specs.declared.outcome.Outcome.{Outcome}
-use Rattle.map_machines.specs.declared.outcome.Outcome.TheVariants.{Goes}
+use Rattle.map_machines.specs.declared.yielding.Yielding.{Yielding}
+use Rattle.map_machines.specs.declared.yielding.Yielding.TheVariants.{Goes}
 use Rattle.many_calls.specs.Given.RuleChart.{Chart}
 use Rattle.many_calls.specs.Given.RuleInWorld.{IsMapIn}
 use Rattle.many_calls.specs.Given.RuleWords.{Blocks, Shows}
@@ -30,7 +30,7 @@ use Rattle.map_measures.proofs.Waiters.Moves.{AllKept}
 use Rattle.map_measures.proofs.Waiters.Reached.{Reached, past_on, promotes_keep, root_before, root_now, shows}
 
 module _ {K V : Type 0} (same : K → K → Bool) (hash : K → ℕ) (caller : ℕ) (setting : Setting) (mode : is_incremental setting.mode ≡ false) (w : World (Node K V)) (c : Chart K) (blocks : Blocks)
-    (map : IsMapIn same hash setting w c blocks) (p : Copier) (setting_is : p.setting ≡ setting) (m2 : Mem (Node K V)) (end : Copier × Outcome (Node K V) Table)
+    (map : IsMapIn same hash setting w c blocks) (p : Copier) (setting_is : p.setting ≡ setting) (m2 : Mem (Node K V)) (end : Copier × Yielding (Node K V) Table)
     (steps : Steps Took value_at w.memory (plan_at hash p at.Promotes) m2 end) (d : Chart K) (blocks2 : Blocks) (r : Reached same hash setting mode w caller c blocks map m2 d blocks2)
     (P A G : ℕ → Type 0) (t : ℕ) (rests : RestsIn same hash w caller setting c blocks p t) where
   target_is : p.target.link ≡ blocks.table t * 2048

@@ -9,7 +9,7 @@ use Rattle.map_tables.specs.declared.node.Node.{Node}
 use Rattle.map_tables.specs.declared.setting.Setting.{Setting}
 use Rattle.map_tables.specs.declared.table.Table.{Table}
 use Rattle.map_machines.specs.Copier.{copier_plan, plan_at as copying_at}
-use Rattle.map_machines.specs.declared.outcome.Outcome.{Outcome}
+use Rattle.map_machines.specs.declared.yielding.Yielding.{Yielding}
 use Rattle.map_machines.specs.declared.copier.Copier.{Copier}
 use Rattle.many_calls.specs.Given.RawDeclared.machines.answer.Called.{Called}
 use Rattle.many_calls.specs.Given.RawDeclared.machines.call.KeyCall.{KeyCall}
@@ -60,7 +60,7 @@ use Rattle.map_measures.proofs.Waiters.Likes.{IsFreshCopier}
 
 -- a row of a copier leaves it as one that has not found each place claimed
 module _ (K V : Type 0) (hash : K → ℕ) (p : Copier) (none : p.spent ≡ false) where
-  abbrev RowUnspent : Copier × Outcome (Node K V) Table → Type 0
+  abbrev RowUnspent : Copier × Yielding (Node K V) Table → Type 0
   RowUnspent end = IsUnspent end.0
 
   over_unspent : (rest : ℕ) → IsUnspent (table_retired p rest)
@@ -76,7 +76,7 @@ module _ (K V : Type 0) (hash : K → ℕ) (p : Copier) (none : p.spent ≡ fals
   retired_unspent rest (settle, settled.Gave value) = none
   retired_unspent rest (settle, settled.Done) = over_unspent rest
 
-  row_unspent : (m m2 : Mem (Node K V)) (end : Copier × Outcome (Node K V) Table) → IsRowOfCopier p.stands → Steps Took value_at m (copier_plan hash p) m2 end → IsUnspent end.0
+  row_unspent : (m m2 : Mem (Node K V)) (end : Copier × Yielding (Node K V) Table) → IsRowOfCopier p.stands → Steps Took value_at m (copier_plan hash p) m2 end → IsUnspent end.0
   row_unspent m m2 end row s = by p.stands row s
     where
       by : (stands : Point) → IsRowOfCopier stands → Steps Took value_at m (copying_at hash p stands) m2 end → IsUnspent end.0
@@ -89,7 +89,7 @@ row_spent : {K : Type 0} (c : Chart K) (p : Copier) (stands : Point) → IsRowOf
 row_spent c p (copies.Retires settle rest) row spent = spent
 row_spent c p _ row spent = absurd row
 
-within_fresh : {K V Q : Type 0} (next : Option (UnderWay K V Q)) (b : Copier × Outcome (Node K V) Table) → GoesWithin next b → IsUnspent b.0 → IsFreshCopier (copier_then next)
+within_fresh : {K V Q : Type 0} (next : Option (UnderWay K V Q)) (b : Copier × Yielding (Node K V) Table) → GoesWithin next b → IsUnspent b.0 → IsFreshCopier (copier_then next)
 within_fresh next b (inl none) unspent = subst IsFreshCopier (sym none.1) tt
 within_fresh next b (inr is) unspent = subst IsFreshCopier (sym is) unspent
 
@@ -143,7 +143,7 @@ module _ {K Q : Type 0} (V : Type 0) (same : K → K → Bool) (hash : K → ℕ
             new_key like p2 progress (call_new asks same hash u.call w.memory m2 (p2, progress) (ap copier_in here) steps)
         by _ here its = absurd its
 
-  module _ (r : CallForRoom) (has : calls i ≡ Some (ForRoom r)) (row : IsRowOfReserve r.reserve.stands) (p2 : Reserve) (end : Outcome (Node K V) Unit)
+  module _ (r : CallForRoom) (has : calls i ≡ Some (ForRoom r)) (row : IsRowOfReserve r.reserve.stands) (p2 : Reserve) (end : Yielding (Node K V) Unit)
       (steps : Steps Took value_at w.memory (room_plans.reserve_plan hash r.reserve) m2 (p2, end)) where
     pub room_row_fresh : IsFreshCopier (copier_then (room_then Q r.began (p2, end)))
     room_row_fresh = by r.reserve.stands refl row

@@ -5,8 +5,8 @@ use Rattle.std.proofs.lemmas.Bool.{ltb-false, ne_eqb}
 use Rattle.seize_words.specs.OneMemory.Op.{Out, Found, Exchanged}
 use Rattle.seize_words.specs.OneMemory.Mem.{Mem, Took, value_at, with_word, word_at}
 use Rattle.seize_words.specs.OneMemory.Plan.{Steps, Now}
-use Rattle.seize.specs.declared.progress.Progress.{Progress}
-use Rattle.seize.specs.declared.progress.Progress.TheVariants as progress
+use Rattle.seize.specs.declared.advance.Advance.{Advance}
+use Rattle.seize.specs.declared.advance.Advance.TheVariants as progress
 use Rattle.map_machines.specs.Copier.{plan_at, copier_plan}
 use Rattle.map_machines.specs.CopierClaims.{chunk, claim_read, claimed, status_read}
 use Rattle.map_machines.specs.CopierCounts.{counted}
@@ -17,8 +17,8 @@ use Rattle.map_machines.specs.CopierPromotes.{promoted, successor_read}
 use Rattle.map_machines.specs.CopierStates.{behind, none_left, next_place, place_done, standing}
 use Rattle.map_machines.specs.NewTable.{new_table_plan}
 use Rattle.map_machines.specs.declared.new_table.NewTable.{NewTable}
-use Rattle.map_machines.specs.declared.outcome.Outcome.{Outcome}
-use Rattle.map_machines.specs.declared.outcome.Outcome.TheVariants.{Goes, Waits}
+use Rattle.map_machines.specs.declared.yielding.Yielding.{Yielding}
+use Rattle.map_machines.specs.declared.yielding.Yielding.TheVariants.{Goes, Waits}
 use Rattle.map_tables.specs.declared.probe.Probe.{Probe}
 use Rattle.map_tables.specs.declared.table_words.TheConstants.{CLAIM}
 use Rattle.many_calls.specs.Given.RuleMoves.{Move, Links, Stores, Replaces, Removes, Marks, MarksBlocking, Skips, Unmarks, Puts, Covers, PutsLate, Claims, Reclaims, Counts, GivesUp, Aborts, Promotes, Announces, Allowed, after}
@@ -88,11 +88,11 @@ done_unspent : (p : Copier) → is_incremental p.setting.mode ≡ false → p.sp
 done_unspent p mode none = next_unspent (record p { done = (p.done + 1) % 2 ^ 64 }) mode none
 
 module _ (K V : Type 0) (hash : K → ℕ) (p : Copier) where
-  abbrev pub Unspent : Copier × Outcome (Node K V) Table → Type 0
+  abbrev pub Unspent : Copier × Yielding (Node K V) Table → Type 0
   Unspent end = IsUnspent end.0
 
   -- it asks again, or goes on from there
-  abbrev pub AsksOn : Copier × Outcome (Node K V) Table → Type 0
+  abbrev pub AsksOn : Copier × Yielding (Node K V) Table → Type 0
   AsksOn end = (end.0 ≡ p) ⊎ IsUnspent end.0
 
   asked_on : (out : Out (Node K V)) → Always AsksOn (status_read p out)
@@ -139,14 +139,14 @@ module _ (K V : Type 0) (hash : K → ℕ) (p : Copier) where
     successor_unspent table (Found link) = none
     successor_unspent table _ = here
 
-    remade_unspent : (end : NewTable × Progress Table) → Unspent (remade p end)
+    remade_unspent : (end : NewTable × Advance Table) → Unspent (remade p end)
     remade_unspent (making, progress.Goes) = none
     remade_unspent (making, progress.Waits) = none
     remade_unspent (making, progress.Done table) = none
     remade_unspent (making, progress.Refused fault) = none
 
   module _ (w : World (Node K V)) (caller : ℕ) (setting : Setting) (c : Chart K) (blocks : Blocks) (mode : is_incremental p.setting.mode ≡ false) (m m2 : Mem (Node K V))
-      (end : Copier × Outcome (Node K V) Table) where
+      (end : Copier × Yielding (Node K V) Table) where
     pub blind_unspent : CopierKnows w caller setting c blocks p p.stands → IsBlind p.stands → SpentAt c p p.stands → Steps Took value_at m (copier_plan hash p) m2 end → IsUnspent end.0
     blind_unspent knows blind spent s = by p.stands refl knows blind spent s
       where
@@ -186,7 +186,7 @@ module _ (K V : Type 0) (hash : K → ℕ) (p : Copier) where
     SeesClaim = IsUnspent end.0 ⊎ ((claim : ℕ) × (word_at m (at_word p.target CLAIM) ≡ Some claim) × (p.source.len ≤ claim) × (end.0 ≡ none_left p))
 
     found_none : (claim : ℕ) → word_at m (at_word p.target CLAIM) ≡ Some claim → nat_lt claim p.source.len ≡ false → end ≡ (none_left p, Goes) → SeesClaim
-    found_none claim there full is = inr (claim, there, ltb-false claim p.source.len full, ap (λ (x : Copier × Outcome (Node K V) Table). x.0) is)
+    found_none claim there full is = inr (claim, there, ltb-false claim p.source.len full, ap (λ (x : Copier × Yielding (Node K V) Table). x.0) is)
 
     pub sees_claim : p.spent ≡ false → p.stands ≡ at.Sees → Steps Took value_at m (copier_plan hash p) m2 end → SeesClaim
     sees_claim none is s =

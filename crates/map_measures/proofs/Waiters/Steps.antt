@@ -8,8 +8,8 @@ use Rattle.seize_words.specs.declared.at.At.TheVariants.{Word}
 use Rattle.seize.specs.World.{World, IsInside, with_at}
 use Rattle.map_machines.specs.Copier.{copier_plan, plan_at}
 use Rattle.map_machines.specs.CopierStates.{behind, none_left, standing}
-use Rattle.map_machines.specs.declared.outcome.Outcome.{Outcome}
-use Rattle.map_machines.specs.declared.outcome.Outcome.TheVariants.{Goes}
+use Rattle.map_machines.specs.declared.yielding.Yielding.{Yielding}
+use Rattle.map_machines.specs.declared.yielding.Yielding.TheVariants.{Goes}
 use Rattle.map_tables.specs.TablePlaces.{at_word}
 use Rattle.map_tables.specs.declared.table_words.TheConstants.{CLAIM, COPIED}
 use Rattle.many_calls.specs.Given.RuleMoments.{Moments}
@@ -116,7 +116,7 @@ module _ {K Q : Type 0} (V : Type 0) (same : K → K → Bool) (hash : K → ℕ
         spent others_spent
 
     -- a step of the copier within which it stands
-    module _ (p : Copier) (within : copier_of x ≡ Some p) (row : IsRowOfCopier p.stands → ⊥) (b : Copier × Outcome (Node K V) Table)
+    module _ (p : Copier) (within : copier_of x ≡ Some p) (row : IsRowOfCopier p.stands → ⊥) (b : Copier × Yielding (Node K V) Table)
         (steps : Steps Took value_at w.memory (copier_plan hash p) m2 b) (comes : ((b.1 ≡ Goes → ⊥) × (copier_then next ≡ None)) ⊎ (copier_then next ≡ Some b.0))
         (w2 : World (Node K V)) (seen2 : Blocks)
         (knows2 : copier_then next ≡ Some b.0 → (IsRowOfCopier b.0.stands → ⊥)
@@ -141,7 +141,7 @@ module _ {K Q : Type 0} (V : Type 0) (same : K → K → Bool) (hash : K → ℕ
       with_this : (q : Copier) → b ≡ (q, Goes) → AllKept P A G d (λ t. EndsAt d q q.stands t) (λ t. AbortsAt d q q.stands t) → Then
       with_this q is kept =
           subst (λ (o : Option Copier). AllKept P A G d (OwnEnds d o) (OwnLoses d o))
-          (sym (goes_on (ap (λ (e : Copier × Outcome (Node K V) Table). e.1) is) ∙ ap (λ (e : Copier × Outcome (Node K V) Table). Some e.0) is)) kept
+          (sym (goes_on (ap (λ (e : Copier × Yielding (Node K V) Table). e.1) is) ∙ ap (λ (e : Copier × Yielding (Node K V) Table). Some e.0) is)) kept
 
       before : AllKept P A G c (λ t. EndsAt c p p.stands t) (λ t. AbortsAt c p p.stands t)
       before = subst (λ (o : Option Copier). AllKept P A G c (OwnEnds c o) (OwnLoses c o)) (ap copier_then has ∙ within) (as_own calls i c all)
@@ -191,7 +191,7 @@ module _ {K Q : Type 0} (V : Type 0) (same : K → K → Bool) (hash : K → ℕ
             let first = first_stays (not_counts p.stands its).1 in
             let few = few_done same hash i its_setting mode w c seen its_map p m2 d blocks2 r P A G t into done first stays in
             let works = works_on K V hash p (ap (λ (y : Setting). is_incremental y.mode) facts.setting_is ∙ mode) few (is_work p.stands its) w.memory m2 b its steps in
-            with_this b.0 (ap (λ (o : Outcome (Node K V) Table). let pair : Copier × Outcome (Node K V) Table = (b.0, o) in pair) works.0)
+            with_this b.0 (ap (λ (o : Yielding (Node K V) Table). let pair : Copier × Yielding (Node K V) Table = (b.0, o) in pair) works.0)
             (works_keep same hash i its_setting mode w c seen its_map p m2 d blocks2 r P A G t into done first stays b.0 works.1 w2 seen2 (knows2 (goes_on works.0) (no_row_at_work b.0.stands works.1.1)) kept)
           where
             is_work : (stands : Point) → IsCopying stands → IsWork stands

@@ -9,8 +9,8 @@ use Rattle.map_machines.specs.Copier.{plan_at, copier_plan}
 use Rattle.map_machines.specs.CopierMarks.{is_mine, is_awaited, marked, mine_marked, to}
 use Rattle.map_machines.specs.CopierPlaces.{next_try, pair_put, place_read, put_told}
 use Rattle.map_machines.specs.CopierStates.{next_place, place_done, behind}
-use Rattle.map_machines.specs.declared.outcome.Outcome.{Outcome}
-use Rattle.map_machines.specs.declared.outcome.Outcome.TheVariants.{Goes, Waits}
+use Rattle.map_machines.specs.declared.yielding.Yielding.{Yielding}
+use Rattle.map_machines.specs.declared.yielding.Yielding.TheVariants.{Goes, Waits}
 use Rattle.map_tables.specs.declared.probe.Probe.{Probe}
 use Rattle.many_calls.specs.Given.RuleChart.{Chart, Share, Free, Claimed, Done, Counted, Lost}
 use Rattle.many_calls.specs.Given.RuleMoves.{Counts, GivesUp, Allowed, after, counted_to, is_done_by, is_of_caller, with_counted, with_lost}
@@ -93,7 +93,7 @@ mine_at_once p word mode = by (is_incremental p.setting.mode) _ mode
     by true x e = absurd (cc e)
 
 module _ (K V : Type 0) (hash : K → ℕ) (p : Copier) (mode : is_incremental p.setting.mode ≡ false) (few : p.done < 2 ^ 63) (here : IsWork p.stands) where
-  abbrev pub Works : Copier × Outcome (Node K V) Table → Type 0
+  abbrev pub Works : Copier × Yielding (Node K V) Table → Type 0
   Works end = (end.1 ≡ Goes) × WorksFor p end.0
 
   marked_works : (out : Out (Node K V)) → Always Works (marked hash p out)
@@ -111,7 +111,7 @@ module _ (K V : Type 0) (hash : K → ℕ) (p : Copier) (mode : is_incremental p
   put_works word code table probe (Exchanged (Err found)) = (refl, try_works p mode word code table probe)
   put_works word code table probe _ = (refl, (refl, here))
 
-  pub works_on : (m m2 : Mem (Node K V)) (end : Copier × Outcome (Node K V) Table) → IsCopying p.stands → Steps Took value_at m (copier_plan hash p) m2 end → Works end
+  pub works_on : (m m2 : Mem (Node K V)) (end : Copier × Yielding (Node K V) Table) → IsCopying p.stands → Steps Took value_at m (copier_plan hash p) m2 end → Works end
   works_on m m2 end its s = by p.stands its s
     where
       by : (stands : Point) → IsCopying stands → Steps Took value_at m (plan_at hash p stands) m2 end → Works end

@@ -4,8 +4,8 @@ use Rattle.std.proofs.Common.{◌≡◌, ◌≢◌, ℕ, Bool, true, false, refl
 use Rattle.seize_words.specs.OneMemory.Word.{block_in}
 use Rattle.seize_words.specs.OneMemory.Op.{Out, Found, Made, Taken, Exchanged}
 use Rattle.seize_words.proofs.OneMemory.OneOwner.Operations.{loaded}
-use Rattle.seize.specs.declared.progress.Progress.{Progress}
-use Rattle.seize.specs.declared.progress.Progress.TheVariants as progress
+use Rattle.seize.specs.declared.advance.Advance.{Advance}
+use Rattle.seize.specs.declared.advance.Advance.TheVariants as progress
 use Rattle.seize.specs.declared.rows.settle.Settled.{Settled}
 use Rattle.seize.specs.declared.rows.settle.Settled.TheVariants as settled
 use Rattle.map_tables.specs.Chunks.{is_incremental}
@@ -203,7 +203,7 @@ module _ {K V Q : Type 0} (p : KeyCall K V Q) where
   dropped_goes end (Taken node) = tt
   dropped_goes end _ = tt
 
-  looked_goes : (to : Lookup × Progress (Option ℕ)) → Advances to → On (looked p to)
+  looked_goes : (to : Lookup × Advance (Option ℕ)) → Advances to → On (looked p to)
   looked_goes (next, progress.Goes) on = tt
   looked_goes (next, progress.Waits) on = on
   looked_goes (next, progress.Done (Some found)) on = tt
@@ -214,13 +214,13 @@ module _ {K V Q : Type 0} (p : KeyCall K V Q) where
   looks_goes asks l (Some asked) = always_within Advances On (looked p) looked_goes (lookup_plan (asks asked) l) (lookup_goes V (asks asked) l)
   looks_goes asks l None = tt
 
-  first_goes : (to : NewTable × Progress Table) → Advances to → On (first_made p to)
+  first_goes : (to : NewTable × Advance Table) → Advances to → On (first_made p to)
   first_goes (next, progress.Goes) on = tt
   first_goes (next, progress.Waits) on = on
   first_goes (next, progress.Done table) on = tt
   first_goes (next, progress.Refused fault) on = ending_goes p (ends.Refused fault)
 
-  following_goes : (to : NewTable × Progress Table) → Advances to → On (next_made p to)
+  following_goes : (to : NewTable × Advance Table) → Advances to → On (next_made p to)
   following_goes (next, progress.Goes) on = tt
   following_goes (next, progress.Waits) on = on
   following_goes (next, progress.Done table) on = went_goes p table

@@ -31,8 +31,8 @@ use Rattle.many_calls.specs.Given.RawDeclared.machines.call.Calling.TheVariants 
 use Rattle.map_machines.specs.Copier.{copier_plan}
 use Rattle.map_machines.specs.Lookup.{names_pair}
 use Rattle.map_machines.specs.declared.copier.Copier.{Copier}
-use Rattle.map_machines.specs.declared.outcome.Outcome.{Outcome}
-use Rattle.map_machines.specs.declared.outcome.Outcome.TheVariants as outcome
+use Rattle.map_machines.specs.declared.yielding.Yielding.{Yielding}
+use Rattle.map_machines.specs.declared.yielding.Yielding.TheVariants as outcome
 use Rattle.many_calls.specs.Given.PointsTold.{IsRowOfCall}
 use Rattle.many_calls.proofs.Given.RuleKeys.Always.{always_steps}
 use Rattle.map_measures.proofs.Waits.CallPlans.{Continues, ending_goes, told_goes, goes_at}
@@ -129,7 +129,7 @@ module _ {K V Q : Type 0} (p : KeyCall K V Q) (m : Mem (Node K V)) where
         ]
 
     -- within its copying
-    helps_waits : (copier : Copier) (goal : Table) → (IsRowOfCall (at.Helps copier goal) → ⊥) → (to : Copier × Outcome (Node K V) Table)
+    helps_waits : (copier : Copier) (goal : Table) → (IsRowOfCall (at.Helps copier goal) → ⊥) → (to : Copier × Yielding (Node K V) Table)
         → Steps Took value_at m (copier_plan hash copier) m2 to
         → waiting ≡ helped p goal to → (q ≡ standing p (at.Helps copier goal)) × Sees copier m copier.stands
     helps_waits copier goal none (next, outcome.Waits) s e =
@@ -140,7 +140,7 @@ module _ {K V Q : Type 0} (p : KeyCall K V Q) (m : Mem (Node K V)) where
     helps_waits copier goal none (next, outcome.Done table) s e = absurd (goes_not _ tt e)
     helps_waits copier goal none (next, outcome.Refused fault) s e = absurd (goes_not _ (ending_goes p (ends.Refused fault)) e)
 
-    copies_waits : (copier : Copier) → (IsRowOfCall (at.Copies copier) → ⊥) → (to : Copier × Outcome (Node K V) Table)
+    copies_waits : (copier : Copier) → (IsRowOfCall (at.Copies copier) → ⊥) → (to : Copier × Yielding (Node K V) Table)
         → Steps Took value_at m (copier_plan hash copier) m2 to
         → waiting ≡ copied p to → (q ≡ standing p (at.Copies copier)) × Sees copier m copier.stands
     copies_waits copier none (next, outcome.Waits) s e =

@@ -11,8 +11,8 @@ use Rattle.map_tables.specs.declared.node.Node.{Node}
 use Rattle.map_tables.specs.declared.setting.Setting.{Setting}
 use Rattle.map_tables.specs.declared.table.Table.{Table}
 use Rattle.map_machines.specs.Copier.{copier_plan}
-use Rattle.map_machines.specs.declared.outcome.Outcome.{Outcome}
-use Rattle.map_machines.specs.declared.outcome.Outcome.TheVariants as outcome
+use Rattle.map_machines.specs.declared.yielding.Yielding.{Yielding}
+use Rattle.map_machines.specs.declared.yielding.Yielding.TheVariants as outcome
 use Rattle.map_machines.specs.declared.copier.Copier.{Copier}
 use Rattle.many_calls.specs.Given.RawCall.{plan_at, call_plan, helped}
 use Rattle.many_calls.specs.Given.RawDeclared.machines.answer.Called.{Called}
@@ -38,7 +38,7 @@ use Rattle.map_measures.proofs.Waits.SameEnds.{Reached}
 
 -- a call goes on within its copier where that goes on
 helps_on : {K V Q : Type 0} (p : KeyCall K V Q) (goal : Table) (like : KeyCall K V Q → CallOnKey K V Q) → ((q : KeyCall K V Q) → (like q).call ≡ q)
-    → (b : Copier × Outcome (Node K V) Table) (p2 : KeyCall K V Q) (progress : Called (Node K V)) → (p2, progress) ≡ helped p goal b → b.1 ≡ outcome.Goes
+    → (b : Copier × Yielding (Node K V) Table) (p2 : KeyCall K V Q) (progress : Called (Node K V)) → (p2, progress) ≡ helped p goal b → b.1 ≡ outcome.Goes
     → copier_then (next_of (like p2) progress) ≡ Some b.0
 helps_on {K} {V} {Q} p goal like its (q, outcome.Goes) p2 progress e goes =
     ap (λ (x : KeyCall K V Q × Called (Node K V)). copier_then (next_of (like x.0) x.1)) e

@@ -7,8 +7,8 @@ use Rattle.seize_words.specs.OneMemory.Mem.{Mem, Took, value_at, word_at, with_w
 use Rattle.seize_words.specs.OneMemory.Op.{Out, Found, Exchanged}
 use Rattle.seize_words.specs.OneMemory.Plan.{Now, Seeing, Ends, Steps}
 use Rattle.seize_words.proofs.OneMemory.OneOwner.Operations.{loaded, ored}
-use Rattle.seize.specs.declared.progress.Progress.{Progress}
-use Rattle.seize.specs.declared.progress.Progress.TheVariants as progress
+use Rattle.seize.specs.declared.advance.Advance.{Advance}
+use Rattle.seize.specs.declared.advance.Advance.TheVariants as progress
 use Rattle.map_tables.specs.Chunks.{is_incremental}
 use Rattle.map_tables.specs.Marks.{has_mark}
 use Rattle.map_tables.specs.TablePlaces.{at_word, at_place}
@@ -31,14 +31,14 @@ use Rattle.map_machines.specs.declared.copier.Copier.{Copier}
 use Rattle.map_machines.specs.declared.copier.Copying.{Copying as Point}
 use Rattle.map_machines.specs.declared.copier.Copying.TheVariants as at
 use Rattle.map_machines.specs.declared.new_table.NewTable.{NewTable}
-use Rattle.map_machines.specs.declared.outcome.Outcome.{Outcome}
-use Rattle.map_machines.specs.declared.outcome.Outcome.TheVariants as outcome
+use Rattle.map_machines.specs.declared.yielding.Yielding.{Yielding}
+use Rattle.map_machines.specs.declared.yielding.Yielding.TheVariants as outcome
 use Rattle.many_calls.proofs.Given.RuleKeys.Always.{Always, AlwaysOf, always_if, always_steps}
 use Rattle.many_calls.specs.Given.PointsTold.{IsRowOfCopier}
 use Rattle.map_measures.proofs.Waits.Never.{Advances, always_within, new_table_goes}
 
 -- it goes on, or has ended
-abbrev pub Proceeds : {A T S : Type 0} → S × Outcome T A → Type 0
+abbrev pub Proceeds : {A T S : Type 0} → S × Yielding T A → Type 0
 Proceeds (s, outcome.Waits) = ⊥
 Proceeds (s, _) = Unit {0}
 
@@ -50,7 +50,7 @@ MayWait (at.Retires settle rest) = Unit {0}
 MayWait _ = ⊥
 
 module _ {K : Type 0} (V : Type 0) (hash : K → ℕ) (p : Copier) where
-  abbrev On : Copier × Outcome (Node K V) Table → Type 0
+  abbrev On : Copier × Yielding (Node K V) Table → Type 0
   On = Proceeds
 
   on_root : (out : Out (Node K V)) → Always On (root_read p out)
@@ -99,13 +99,13 @@ module _ {K : Type 0} (V : Type 0) (hash : K → ℕ) (p : Copier) where
   on_successor table (Found link) = tt
   on_successor table _ = tt
 
-  on_grown : (word code : ℕ) (made : NewTable × Progress Table) → Advances made → On (grown p word code made)
+  on_grown : (word code : ℕ) (made : NewTable × Advance Table) → Advances made → On (grown p word code made)
   on_grown word code (making, progress.Goes) on = tt
   on_grown word code (making, progress.Waits) on = on
   on_grown word code (making, progress.Done table) on = tt
   on_grown word code (making, progress.Refused fault) on = tt
 
-  on_remade : (made : NewTable × Progress Table) → Advances made → On (remade p made)
+  on_remade : (made : NewTable × Advance Table) → Advances made → On (remade p made)
   on_remade (making, progress.Goes) on = tt
   on_remade (making, progress.Waits) on = on
   on_remade (making, progress.Done table) on = tt
@@ -157,15 +157,15 @@ module _ {K V : Type 0} (p : Copier) (m : Mem (Node K V)) where
   Sees _ = ⊥
 
   module _ (hash : K → ℕ) (m2 : Mem (Node K V)) (q : Copier) where
-    abbrev waiting : Copier × Outcome (Node K V) Table
+    abbrev waiting : Copier × Yielding (Node K V) Table
     waiting = (q, outcome.Waits)
 
     -- a step that waits does not go on
-    goes_not : (x : Copier) → ◌≡◌ {A = Copier × Outcome (Node K V) Table} waiting (x, outcome.Goes) → ⊥
-    goes_not x e = let told = ap (λ (y : Copier × Outcome (Node K V) Table). y.1) e in cc told
+    goes_not : (x : Copier) → ◌≡◌ {A = Copier × Yielding (Node K V) Table} waiting (x, outcome.Goes) → ⊥
+    goes_not x e = let told = ap (λ (y : Copier × Yielding (Node K V) Table). y.1) e in cc told
 
-    stays : ◌≡◌ {A = Copier × Outcome (Node K V) Table} waiting (p, outcome.Waits) → q ≡ p
-    stays e = ap (λ (y : Copier × Outcome (Node K V) Table). y.0) e
+    stays : ◌≡◌ {A = Copier × Yielding (Node K V) Table} waiting (p, outcome.Waits) → q ≡ p
+    stays e = ap (λ (y : Copier × Yielding (Node K V) Table). y.0) e
 
     asks_waits : Steps Took value_at m (plan_at hash p at.Asks) m2 waiting → (q ≡ p) × Sees at.Asks
     asks_waits s =

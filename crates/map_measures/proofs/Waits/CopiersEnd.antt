@@ -18,8 +18,8 @@ use Rattle.map_machines.specs.Copier.{plan_at, copier_plan}
 use Rattle.map_machines.specs.CopierCounts.{counts, counted, to}
 use Rattle.map_machines.specs.CopierPromotes.{promotes, promoted}
 use Rattle.map_machines.specs.CopierStates.{standing, behind}
-use Rattle.map_machines.specs.declared.outcome.Outcome.{Outcome}
-use Rattle.map_machines.specs.declared.outcome.Outcome.TheVariants.{Goes}
+use Rattle.map_machines.specs.declared.yielding.Yielding.{Yielding}
+use Rattle.map_machines.specs.declared.yielding.Yielding.TheVariants.{Goes}
 use Rattle.map_machines.specs.declared.copier.Copier.{Copier}
 use Rattle.map_machines.specs.declared.copier.Copying.{Copying as Point}
 use Rattle.map_machines.specs.declared.copier.Copying.TheVariants as at
@@ -48,11 +48,11 @@ module _ {K V : Type 0} (same : K → K → Bool) (hash : K → ℕ) (caller : �
   IsLeft = (j : ℕ) × (j < c.len c.first) × IsToCount (with_counted caller (c.share (suc c.first) j))
 
   -- it goes on, to make the table the root
-  abbrev IsToPromote : Copier × Outcome (Node K V) Table → Type 0
+  abbrev IsToPromote : Copier × Yielding (Node K V) Table → Type 0
   IsToPromote end = (end.1 ≡ Goes) × (end.0.stands ≡ at.Promotes) × (end.0.target.turn ≡ suc c.first)
 
   -- who counts is to make the table the root, or a place is left
-  counts_say : CopyingFacts same hash w caller setting c blocks p at.Counts → (m2 : Mem (Node K V)) (end : Copier × Outcome (Node K V) Table) → Steps Took value_at w.memory (counts p) m2 end
+  counts_say : CopyingFacts same hash w caller setting c blocks p at.Counts → (m2 : Mem (Node K V)) (end : Copier × Yielding (Node K V) Table) → Steps Took value_at w.memory (counts p) m2 end
       → IsToPromote end ⊎ IsLeft
   counts_say f m2 end steps =
       let s = added w.memory (counted p) (at_word p.target COPIED) p.done m2 end steps in
@@ -76,14 +76,14 @@ module _ {K V : Type 0} (same : K → K → Bool) (hash : K → ℕ) (caller : �
           → Ends (value_at m) (if b then to (record p { place = 0; end = 0; done = 0; stands = at.Promotes }) else to (behind (record p { done = 0 }))) end
           → IsToPromote end ⊎ IsLeft
       pick m found e true full ends = inl (
-        ap (λ (x : Copier × Outcome (Node K V) Table). x.1) ends,
-        ap (λ (x : Copier × Outcome (Node K V) Table). x.0.stands) ends,
-        ap (λ (x : Copier × Outcome (Node K V) Table). x.0.target.turn) ends ∙ ap (λ (x : Table). x.turn) f.0.1.is,
+        ap (λ (x : Copier × Yielding (Node K V) Table). x.1) ends,
+        ap (λ (x : Copier × Yielding (Node K V) Table). x.0.stands) ends,
+        ap (λ (x : Copier × Yielding (Node K V) Table). x.0.target.turn) ends ∙ ap (λ (x : Table). x.turn) f.0.1.is,
       )
       pick m found e false other ends = inr (left_over same hash c rule caller (few found e other))
 
   -- who makes the table the root had copied the root, and who fails to had not
-  promotes_say : (f : CopyingFacts same hash w caller setting c blocks p at.Promotes) → (m2 : Mem (Node K V)) (end : Copier × Outcome (Node K V) Table) → Steps Took value_at w.memory (promotes p) m2 end
+  promotes_say : (f : CopyingFacts same hash w caller setting c blocks p at.Promotes) → (m2 : Mem (Node K V)) (end : Copier × Yielding (Node K V) Table) → Steps Took value_at w.memory (promotes p) m2 end
       → ((end ≡ (standing p at.Announces, Goes)) × (f.0 ≡ c.first)) ⊎ ((end ≡ (behind p, Goes)) × (f.0 < c.first))
   promotes_say f m2 end steps = either (exchanged w.memory (promoted p) (Root p.setting.root) p.source.link p.target.link m2 end steps)
     where
@@ -125,7 +125,7 @@ module _ {K V : Type 0} (same : K → K → Bool) (hash : K → ℕ) (caller : �
   not_announcing true e = cc e
   not_announcing false e = cc e
 
-  module _ (P A : ℕ → Type 0) (m2 : Mem (Node K V)) (end : Copier × Outcome (Node K V) Table) (c2 : Chart K) where
+  module _ (P A : ℕ → Type 0) (m2 : Mem (Node K V)) (end : Copier × Yielding (Node K V) Table) (c2 : Chart K) where
     abbrev After : Type 0
     After = AllOr P A c2 (λ t. ⊥) ⊎ ((end.1 ≡ Goes) × AllEnd P A c2 end.0 end.0.stands)
 
@@ -160,14 +160,14 @@ module _ {K V : Type 0} (same : K → K → Bool) (hash : K → ℕ) (caller : �
 
       by_promotes : ((end ≡ (standing p at.Announces, Goes)) × (f.0 ≡ c.first)) ⊎ ((end ≡ (behind p, Goes)) × (f.0 < c.first)) → MovedPromotes hash caller c p end c2 → After
       by_promotes (inl (ends, root)) (inl (same_end, moved)) = inr (
-        ap (λ (x : Copier × Outcome (Node K V) Table). x.1) ends,
-        subst (λ (x : Copier × Outcome (Node K V) Table). AllEnd P A c2 x.0 x.0.stands) (sym ends)
+        ap (λ (x : Copier × Yielding (Node K V) Table). x.1) ends,
+        subst (λ (x : Copier × Yielding (Node K V) Table). AllEnd P A c2 x.0 x.0.stands) (sym ends)
             (subst (λ (x : Chart K). AllEnd P A x (standing p at.Announces) at.Announces) (sym moved)
             (endings.promoted P A same hash c rule p (target ∙ ap (λ (n : ℕ). suc n) root) all)),
       )
       by_promotes (inl (ends, root)) (inr (same_chart, other)) = absurd (other (source ∙ root))
       by_promotes (inr (ends, l)) (inl (same_end, moved)) =
-          absurd (not_announcing p.whole (ap (λ (x : Copier × Outcome (Node K V) Table). x.0.stands) (sym ends ∙ same_end)))
+          absurd (not_announcing p.whole (ap (λ (x : Copier × Yielding (Node K V) Table). x.0.stands) (sym ends ∙ same_end)))
       by_promotes (inr (ends, l)) (inr (same_chart, other)) = inl (endings.plain P A same hash c rule caller c2 (inl same_chart) (without l))
 
     kept_at : (stands : Point) → CopyingFacts same hash w caller setting c blocks p stands → Steps Took value_at w.memory (plan_at hash p stands) m2 end

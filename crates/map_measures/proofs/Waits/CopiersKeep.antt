@@ -10,8 +10,8 @@ use Rattle.map_tables.specs.declared.node.Node.{Node}
 use Rattle.map_tables.specs.declared.setting.Setting.{Setting}
 use Rattle.map_tables.specs.declared.table.Table.{Table}
 use Rattle.map_machines.specs.Copier.{copier_plan}
-use Rattle.map_machines.specs.declared.outcome.Outcome.{Outcome}
-use Rattle.map_machines.specs.declared.outcome.Outcome.TheVariants as outcome
+use Rattle.map_machines.specs.declared.yielding.Yielding.{Yielding}
+use Rattle.map_machines.specs.declared.yielding.Yielding.TheVariants as outcome
 use Rattle.map_machines.specs.declared.copier.Copier.{Copier}
 use Rattle.map_machines.specs.declared.copier.Copying.TheVariants as copies
 use Rattle.many_calls.specs.Given.RuleChart.{Chart}
@@ -44,7 +44,7 @@ module _ {K V Q : Type 0} (same : K → K → Bool) (hash : K → ℕ) (are : Ar
       (subst (λ (b : Bool). (d ≡ c) ⊎ ((move : Move K) × IsBeside move × (d ≡ after (spot_of hash) b move c))) mode moved))
 
   pub copier_keeps : (copier : Copier) → copier_then (calls i) ≡ Some copier → CopierFacts same hash w i setting c seen copier → (IsRowOfCopier copier.stands → ⊥)
-      → (b : Copier × Outcome (Node K V) Table) → Steps Took value_at w.memory (copier_plan hash copier) m2 b → (b.1 ≡ outcome.Goes → copier_then next ≡ Some b.0)
+      → (b : Copier × Yielding (Node K V) Table) → Steps Took value_at w.memory (copier_plan hash copier) m2 b → (b.1 ≡ outcome.Goes → copier_then next ≡ Some b.0)
       → HaveEnds d (with_at calls i next)
   copier_keeps copier within facts none b inner goes = by (went_copier_moved same hash setting mode power are.lawful are.fits w i c seen map copier facts none m2 b inner)
     where

@@ -7,8 +7,8 @@ use Rattle.seize_words.specs.OneMemory.Mem.{Mem, Took, value_at}
 use Rattle.seize_words.specs.OneMemory.Op.{Out, Found, Exchanged}
 use Rattle.seize_words.specs.OneMemory.Plan.{Steps}
 use Rattle.seize_acts.proofs.Given.SeizeRuleRows.Leaving.{steps_back}
-use Rattle.seize.specs.declared.progress.Progress.{Progress}
-use Rattle.seize.specs.declared.progress.Progress.TheVariants as progress
+use Rattle.seize.specs.declared.advance.Advance.{Advance}
+use Rattle.seize.specs.declared.advance.Advance.TheVariants as progress
 use Rattle.seize.specs.declared.rows.settle.Settled.{Settled}
 use Rattle.seize.specs.declared.rows.settle.Settled.TheVariants as settled
 use Rattle.map_tables.specs.Marks.{has_mark}
@@ -23,8 +23,8 @@ use Rattle.map_machines.specs.Sum.{sum_plan}
 use Rattle.map_machines.specs.declared.copier.Copier.{Copier}
 use Rattle.map_machines.specs.declared.dispose.Dispose.{Dispose}
 use Rattle.map_machines.specs.declared.new_table.NewTable.{NewTable}
-use Rattle.map_machines.specs.declared.outcome.Outcome.{Outcome}
-use Rattle.map_machines.specs.declared.outcome.Outcome.TheVariants as outcome
+use Rattle.map_machines.specs.declared.yielding.Yielding.{Yielding}
+use Rattle.map_machines.specs.declared.yielding.Yielding.TheVariants as outcome
 use Rattle.map_machines.specs.declared.sum.Sum.{Sum}
 use Rattle.map_sweeps.specs.Reserves.Reserve as reserve
 use Rattle.map_sweeps.specs.declared.reserve.Reserve.{Reserve}
@@ -56,7 +56,7 @@ SweepSees m _ = ⊥
 
 -- a reservation
 module _ (K V : Type 0) (p : Reserve) where
-  abbrev RoomOn : Reserve × Outcome (Node K V) Unit → Type 0
+  abbrev RoomOn : Reserve × Yielding (Node K V) Unit → Type 0
   RoomOn = Proceeds
 
   root_goes : (out : Out (Node K V)) → Always RoomOn (reserve.root_read p out)
@@ -67,13 +67,13 @@ module _ (K V : Type 0) (p : Reserve) where
   next_goes table need (Found link) = always_if RoomOn (link == 0) _ _ tt (λ value. tt)
   next_goes table need _ = tt
 
-  made_goes : (to : NewTable × Progress Table) → Advances to → RoomOn (reserve.made p to)
+  made_goes : (to : NewTable × Advance Table) → Advances to → RoomOn (reserve.made p to)
   made_goes (next, progress.Goes) on = tt
   made_goes (next, progress.Waits) on = on
   made_goes (next, progress.Done table) on = tt
   made_goes (next, progress.Refused fault) on = tt
 
-  grown_goes : (table : Table) (to : NewTable × Progress Table) → Advances to → RoomOn (reserve.grown p table to)
+  grown_goes : (table : Table) (to : NewTable × Advance Table) → Advances to → RoomOn (reserve.grown p table to)
   grown_goes table (next, progress.Goes) on = tt
   grown_goes table (next, progress.Waits) on = on
   grown_goes table (next, progress.Done new) on = tt
@@ -88,7 +88,7 @@ module _ (K V : Type 0) (p : Reserve) where
       by false true = tt
       by false false = tt
 
-  summed_goes : (table : Table) (to : Sum × Progress ℕ) → Advances to → RoomOn (reserve.summed p table to)
+  summed_goes : (table : Table) (to : Sum × Advance ℕ) → Advances to → RoomOn (reserve.summed p table to)
   summed_goes table (next, progress.Goes) on = tt
   summed_goes table (next, progress.Waits) on = on
   summed_goes table (next, progress.Done count) on = enough_goes table (reserve.needed p.additional count)
@@ -112,18 +112,18 @@ module _ (K V : Type 0) (p : Reserve) where
   room_goes hash (reserves.Refused fault) none = tt
 
   module _ (hash : K → ℕ) (m m2 : Mem (Node K V)) (q : Reserve) where
-    abbrev room_waiting : Reserve × Outcome (Node K V) Unit
+    abbrev room_waiting : Reserve × Yielding (Node K V) Unit
     room_waiting = (q, outcome.Waits)
 
-    goes_not : (x : Reserve × Outcome (Node K V) Unit) → Proceeds x → room_waiting ≡ x → ⊥
-    goes_not x on e = subst (λ (y : Reserve × Outcome (Node K V) Unit). Proceeds y) (sym e) on
+    goes_not : (x : Reserve × Yielding (Node K V) Unit) → Proceeds x → room_waiting ≡ x → ⊥
+    goes_not x on e = subst (λ (y : Reserve × Yielding (Node K V) Unit). Proceeds y) (sym e) on
 
-    copied_waits : (copier : Copier) → (IsRowOfReserve (reserves.Copies copier) → ⊥) → (to : Copier × Outcome (Node K V) Table)
+    copied_waits : (copier : Copier) → (IsRowOfReserve (reserves.Copies copier) → ⊥) → (to : Copier × Yielding (Node K V) Table)
         → Steps Took value_at m (copier_plan hash copier) m2 to
         → room_waiting ≡ reserve.copied p to → (q ≡ reserve.standing p (reserves.Copies copier)) × Sees copier m copier.stands
     copied_waits copier none (next, outcome.Waits) s e =
         let h = copier_waits copier m hash m2 next none s in (
-          ap (λ (y : Reserve × Outcome (Node K V) Unit). y.0) e ∙ ap (λ (x : Copier). reserve.standing p (reserves.Copies x)) h.0,
+          ap (λ (y : Reserve × Yielding (Node K V) Unit). y.0) e ∙ ap (λ (x : Copier). reserve.standing p (reserves.Copies x)) h.0,
           h.1,
         )
     copied_waits copier none (next, outcome.Goes) s e = absurd (goes_not _ tt e)
@@ -231,7 +231,7 @@ module _ (K V : Type 0) where
       sweep_goes_not : (x : Sweep × Swept (Node K V)) → SweepsOn x → sweep_waiting ≡ x → ⊥
       sweep_goes_not x on e = subst (λ (y : Sweep × Swept (Node K V)). SweepsOn y) (sym e) on
 
-      sweep_copied_waits : (copier : Copier) → (IsRowOfSweep (sweeps.Copies copier) → ⊥) → (to : Copier × Outcome (Node K V) Table)
+      sweep_copied_waits : (copier : Copier) → (IsRowOfSweep (sweeps.Copies copier) → ⊥) → (to : Copier × Yielding (Node K V) Table)
           → Steps Took value_at m (copier_plan hash copier) m2 to
           → sweep_waiting ≡ sweep.copied p to → (q ≡ standing p (sweeps.Copies copier)) × Sees copier m copier.stands
       sweep_copied_waits copier none (next, outcome.Waits) s e =

@@ -3,8 +3,8 @@ use Rattle.std.specs.Prelude.{◌/◌, ◌==◌, nat_lt, if◌then◌else◌, Ok
 use Rattle.std.proofs.Common.{ℕ, Bool, true, false}
 use Rattle.seize_words.specs.OneMemory.Op.{Out, Found, Made, Exchanged}
 use Rattle.seize_words.specs.OneMemory.Plan.{Plan, Then, Turn, Do, Now, Seeing, Sure, then_as, plan_as}
-use Rattle.seize.specs.declared.progress.Progress.{Progress}
-use Rattle.seize.specs.declared.progress.Progress.TheVariants as progress
+use Rattle.seize.specs.declared.advance.Advance.{Advance}
+use Rattle.seize.specs.declared.advance.Advance.TheVariants as progress
 use Rattle.seize.specs.declared.rows.settle.Settled.{Settled}
 use Rattle.seize.specs.declared.rows.settle.Settled.TheVariants as settled
 use Rattle.map_tables.specs.Chunks.{is_incremental}
@@ -49,7 +49,7 @@ module _ {T A B : Type 0} (Q : A → Type 0) (P : B → Type 0) (f : A → B) (t
   always_within (Do op rest) all = λ out. always_then (rest out) (all out)
 
 -- it goes on, or has ended
-abbrev pub Advances : {A S : Type 0} → S × Progress A → Type 0
+abbrev pub Advances : {A S : Type 0} → S × Advance A → Type 0
 Advances (s, progress.Waits) = ⊥
 Advances (s, _) = Unit {0}
 
@@ -74,7 +74,7 @@ module _ (l : Lookup) where
   told_goes trial word is.There = tt
 
 module _ {K : Type 0} (V : Type 0) (keys : K → Bool) (l : Lookup) where
-  abbrev Looks_on : Lookup × Progress (Option ℕ) → Type 0
+  abbrev Looks_on : Lookup × Advance (Option ℕ) → Type 0
   Looks_on = Advances
 
   link_goes : (out : Out (Node K V)) → Always Looks_on (lookups.link_found l out)
@@ -97,7 +97,7 @@ module _ {K : Type 0} (V : Type 0) (keys : K → Bool) (l : Lookup) where
   lookup_goes = looks_at l.stands
 
 module _ (T : Type 0) (sum : Sum) where
-  abbrev Sums_on : Sum × Progress ℕ → Type 0
+  abbrev Sums_on : Sum × Advance ℕ → Type 0
   Sums_on = Advances
 
   added_goes : (shard total : ℕ) (out : Out T) → Always Sums_on (sums.added sum shard total out)
@@ -112,10 +112,10 @@ module _ (T : Type 0) (sum : Sum) where
   sum_goes = sums_at sum.stands
 
 module _ (K V : Type 0) (n : NewTable) where
-  abbrev Makes_on : NewTable × Progress Table → Type 0
+  abbrev Makes_on : NewTable × Advance Table → Type 0
   Makes_on = Advances
 
-  counted_goes : (before : Table) (reason : Reason) (to : Sum × Progress ℕ) → Advances to → Makes_on (tables.counted n before reason to)
+  counted_goes : (before : Table) (reason : Reason) (to : Sum × Advance ℕ) → Advances to → Makes_on (tables.counted n before reason to)
   counted_goes before reason (sum, progress.Goes) on = tt
   counted_goes before reason (sum, progress.Waits) on = on
   counted_goes before reason (sum, progress.Done count) on = tt

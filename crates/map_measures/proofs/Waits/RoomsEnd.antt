@@ -12,8 +12,8 @@ use Rattle.map_tables.specs.declared.resize_mode.ResizeMode.{ResizeMode}
 use Rattle.map_tables.specs.declared.setting.Setting.{Setting}
 use Rattle.map_tables.specs.declared.table.Table.{Table}
 use Rattle.map_machines.specs.Copier.{copier_plan}
-use Rattle.map_machines.specs.declared.outcome.Outcome.{Outcome}
-use Rattle.map_machines.specs.declared.outcome.Outcome.TheVariants as outcome
+use Rattle.map_machines.specs.declared.yielding.Yielding.{Yielding}
+use Rattle.map_machines.specs.declared.yielding.Yielding.TheVariants as outcome
 use Rattle.map_machines.specs.declared.copier.Copier.{Copier}
 use Rattle.map_sweeps.specs.Reserves.Reserve as room_plans
 use Rattle.map_sweeps.specs.declared.reserve.Reserve.{Reserve}
@@ -51,16 +51,16 @@ use Rattle.map_measures.proofs.Waits.Promised.{map_of}
 use Rattle.map_measures.proofs.Waits.SameEnds.{Reached}
 
 -- it goes on within its copier where that goes on
-room_on : {K V : Type 0} (Q : Type 0) (p : Reserve) (began : ℕ) (b : Copier × Outcome (Node K V) Table) (p2 : Reserve) (end : Outcome (Node K V) Unit)
+room_on : {K V : Type 0} (Q : Type 0) (p : Reserve) (began : ℕ) (b : Copier × Yielding (Node K V) Table) (p2 : Reserve) (end : Yielding (Node K V) Unit)
     → (p2, end) ≡ room_plans.copied p b → b.1 ≡ outcome.Goes → copier_then (next_for_room {K = K} {V = V} {Q = Q} (record { began = began; reserve = p2 }) end) ≡ Some b.0
 room_on {K} {V} Q p began (q, outcome.Goes) p2 end e goes =
-    ap (λ (x : Reserve × Outcome (Node K V) Unit). copier_then (next_for_room {K = K} {V = V} {Q = Q} (record { began = began; reserve = x.0 }) x.1)) e
+    ap (λ (x : Reserve × Yielding (Node K V) Unit). copier_then (next_for_room {K = K} {V = V} {Q = Q} (record { began = began; reserve = x.0 }) x.1)) e
 room_on Q p began (q, outcome.Waits) p2 end e goes = absurd (cc goes)
 room_on Q p began (q, outcome.Gave value) p2 end e goes = absurd (cc goes)
 room_on Q p began (q, outcome.Done table) p2 end e goes = absurd (cc goes)
 room_on Q p began (q, outcome.Refused fault) p2 end e goes = absurd (cc goes)
 
-sweep_on : {K V : Type 0} (Q : Type 0) (p : Sweep) (o : CallOverAll) (entered : ℕ) (done : List ℕ) (b : Copier × Outcome (Node K V) Table) (p2 : Sweep) (end : Swept (Node K V))
+sweep_on : {K V : Type 0} (Q : Type 0) (p : Sweep) (o : CallOverAll) (entered : ℕ) (done : List ℕ) (b : Copier × Yielding (Node K V) Table) (p2 : Sweep) (end : Swept (Node K V))
     → (p2, end) ≡ sweep_plans.copied p b → b.1 ≡ outcome.Goes → copier_then (next_over_all {K = K} {V = V} {Q = Q} (come_to o entered done p2) end) ≡ Some b.0
 sweep_on {K} {V} Q p o entered done (q, outcome.Goes) p2 end e goes =
     ap (λ (x : Sweep × Swept (Node K V)). copier_then (next_over_all {K = K} {V = V} {Q = Q} (come_to o entered done x.0) x.1)) e
@@ -97,7 +97,7 @@ module _ {K Q : Type 0} (V : Type 0) (same : K → K → Bool) (hash : K → ℕ
         (chosen ((copier.whole ≡ true) × CopierFacts same hash w i its_setting c seen copier × IsEnding same hash w i its_setting c seen copier copier.stands)
         (CopierFactsBlocking same hash w i its_setting c seen copier) (is_incremental its_setting.mode) mode whole).1
 
-    module _ (r : CallForRoom) (has : calls i ≡ Some (ForRoom r)) (none : IsRowOfReserve r.reserve.stands → ⊥) (p2 : Reserve) (end : Outcome (Node K V) Unit)
+    module _ (r : CallForRoom) (has : calls i ≡ Some (ForRoom r)) (none : IsRowOfReserve r.reserve.stands → ⊥) (p2 : Reserve) (end : Yielding (Node K V) Unit)
         (steps : Steps Took value_at w.memory (room_plans.reserve_plan hash r.reserve) m2 (p2, end))
         (leads : RoomStepsTogether V same hash asks setting slot w c blocks sights calls i r m2 p2 end) where
       map : IsMapIn same hash its_setting w c seen

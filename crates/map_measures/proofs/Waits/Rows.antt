@@ -6,8 +6,8 @@ use Rattle.seize_acts.proofs.Given.SeizeRuleRows.Leaving.{steps_back}
 use Rattle.seize.specs.Defer.{defer_plan}
 use Rattle.seize.specs.Settle.{settle_plan}
 use Rattle.seize.specs.World.{World, Row, Rests, Settles}
-use Rattle.seize.specs.declared.progress.Progress.{Progress}
-use Rattle.seize.specs.declared.progress.Progress.TheVariants as progress
+use Rattle.seize.specs.declared.advance.Advance.{Advance}
+use Rattle.seize.specs.declared.advance.Advance.TheVariants as progress
 use Rattle.seize.specs.declared.rows.defer.Defer.{Defer}
 use Rattle.seize.specs.declared.rows.settle.Settle.{Settle}
 use Rattle.seize.specs.declared.rows.settle.Settled.{Settled}
@@ -25,8 +25,8 @@ use Rattle.map_machines.specs.declared.copier.Copying.TheVariants as copies
 use Rattle.map_machines.specs.declared.dispose.Dispose.{Dispose}
 use Rattle.map_machines.specs.declared.dispose.Disposing.{Disposing}
 use Rattle.map_machines.specs.declared.dispose.Disposing.TheVariants as disposes
-use Rattle.map_machines.specs.declared.outcome.Outcome.{Outcome}
-use Rattle.map_machines.specs.declared.outcome.Outcome.TheVariants as outcome
+use Rattle.map_machines.specs.declared.yielding.Yielding.{Yielding}
+use Rattle.map_machines.specs.declared.yielding.Yielding.TheVariants as outcome
 use Rattle.many_calls.specs.Given.PointsTold.{IsRowOf, IsRowOfCopier}
 use Rattle.many_calls.specs.Rows.{row_of_disposal, row_of_copier}
 use Rattle.many_calls.specs.Together.{CameAbout}
@@ -55,7 +55,7 @@ module _ {K V : Type 0} (hash : K → ℕ) (batch_size : ℕ) (w : World (Node K
     settled_waits settle (next, settled.Gave value) e = absurd (cc e)
     settled_waits settle (next, settled.Done) e = absurd (cc e)
 
-    never_defers : (defer : Defer) (to : Defer × Progress Unit) → Steps Took value_at w.memory (defer_plan defer) m2 to
+    never_defers : (defer : Defer) (to : Defer × Advance Unit) → Steps Took value_at w.memory (defer_plan defer) m2 to
         → (deferred_on {T = Node K V} d to).1 ≡ settled.Waits → ⊥
     never_defers defer (next, progress.Goes) s e = cc e
     never_defers defer (next, progress.Waits) s e = deferring_never_waits deferred_word defer next w.memory m2 s
@@ -85,15 +85,15 @@ module _ {K V : Type 0} (hash : K → ℕ) (batch_size : ℕ) (w : World (Node K
     retired_waits rest (next, settled.Gave value) e = absurd (cc e)
     retired_waits rest (next, settled.Done) e = absurd (cc e)
 
-    copier_at_waits : (stands : Point) → IsRowOfCopier stands → IsAt (row_of_copier stands) → (end : Copier × Outcome (Node K V) Table)
+    copier_at_waits : (stands : Point) → IsRowOfCopier stands → IsAt (row_of_copier stands) → (end : Copier × Yielding (Node K V) Table)
         → Steps Took value_at w.memory (copier_at hash p stands) m2 end
         → end.1 ≡ outcome.Waits → AnotherHolds w i (row_of_copier stands)
     copier_at_waits (copies.Retires settle rest) row at_row end s e =
         let b = steps_back (retired p rest) w.memory m2 (settle_plan deferred_word settle) end s in
-        settling settle b.0 at_row b.1 (retired_waits rest b.0 (ap (λ (x : Copier × Outcome (Node K V) Table). x.1) (sym b.2) ∙ e))
+        settling settle b.0 at_row b.1 (retired_waits rest b.0 (ap (λ (x : Copier × Yielding (Node K V) Table). x.1) (sym b.2) ∙ e))
     copier_at_waits _ row at_row end s e = absurd row
 
-    pub copier_row_waits : IsRowOfCopier p.stands → IsAt (row_of_copier p.stands) → (end : Copier × Outcome (Node K V) Table)
+    pub copier_row_waits : IsRowOfCopier p.stands → IsAt (row_of_copier p.stands) → (end : Copier × Yielding (Node K V) Table)
         → Steps Took value_at w.memory (copier_plan hash p) m2 end
         → end.1 ≡ outcome.Waits → AnotherHolds w i (row_of_copier p.stands)
     copier_row_waits row at_row end s e = copier_at_waits p.stands row at_row end s e

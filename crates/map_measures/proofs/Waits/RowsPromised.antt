@@ -13,8 +13,8 @@ use Rattle.map_machines.specs.Copier.{copier_plan}
 use Rattle.map_machines.specs.Dispose.{dispose_plan}
 use Rattle.map_machines.specs.declared.copier.Copier.{Copier}
 use Rattle.map_machines.specs.declared.dispose.Dispose.{Dispose}
-use Rattle.map_machines.specs.declared.outcome.Outcome.{Outcome}
-use Rattle.map_machines.specs.declared.outcome.Outcome.TheVariants as outcome
+use Rattle.map_machines.specs.declared.yielding.Yielding.{Yielding}
+use Rattle.map_machines.specs.declared.yielding.Yielding.TheVariants as outcome
 use Rattle.many_calls.specs.Given.RawCall as call
 use Rattle.many_calls.specs.Given.RawDeclared.machines.answer.KeyAnswer.{KeyAnswer}
 use Rattle.many_calls.specs.Given.RawDeclared.machines.answer.Called.{Called}
@@ -70,14 +70,14 @@ module _ {K V : Type 0} (hash : K → ℕ) (batch_size : ℕ) (w : World (Node K
         continues (q, called.Done answer) on = tt
         continues (q, called.Refused fault) on = tt
 
-    helped_waits : (goal : Table) (to : Copier × Outcome (Node K V) Table) → (call.helped p goal to).1 ≡ called.Waits → to.1 ≡ outcome.Waits
+    helped_waits : (goal : Table) (to : Copier × Yielding (Node K V) Table) → (call.helped p goal to).1 ≡ called.Waits → to.1 ≡ outcome.Waits
     helped_waits goal (next, outcome.Goes) e = absurd (cc e)
     helped_waits goal (next, outcome.Waits) e = refl
     helped_waits goal (next, outcome.Gave value) e = absurd (cc e)
     helped_waits goal (next, outcome.Done table) e = absurd (cc e)
     helped_waits goal (next, outcome.Refused fault) e = absurd (not_ending (ends.Refused fault) e)
 
-    copied_waits : (to : Copier × Outcome (Node K V) Table) → (call.copied p to).1 ≡ called.Waits → to.1 ≡ outcome.Waits
+    copied_waits : (to : Copier × Yielding (Node K V) Table) → (call.copied p to).1 ≡ called.Waits → to.1 ≡ outcome.Waits
     copied_waits (next, outcome.Goes) e = absurd (cc e)
     copied_waits (next, outcome.Waits) e = refl
     copied_waits (next, outcome.Gave value) e = absurd (cc e)
@@ -103,7 +103,7 @@ module _ {K V : Type 0} (hash : K → ℕ) (batch_size : ℕ) (w : World (Node K
 
   -- within a reservation
   module _ (p : Reserve) where
-    room_copied_waits : (to : Copier × Outcome (Node K V) Table) → (reserve.copied p to).1 ≡ outcome.Waits → to.1 ≡ outcome.Waits
+    room_copied_waits : (to : Copier × Yielding (Node K V) Table) → (reserve.copied p to).1 ≡ outcome.Waits → to.1 ≡ outcome.Waits
     room_copied_waits (next, outcome.Goes) e = absurd (cc e)
     room_copied_waits (next, outcome.Waits) e = refl
     room_copied_waits (next, outcome.Gave value) e = absurd (cc e)
@@ -111,12 +111,12 @@ module _ {K V : Type 0} (hash : K → ℕ) (batch_size : ℕ) (w : World (Node K
     room_copied_waits (next, outcome.Refused fault) e = absurd (cc e)
 
     pub room_row_waits : (stands : Reserving) → IsRowOfReserve stands → IsAt hash batch_size w came i slot m2 (row_of_room stands)
-        → (end : Reserve × Outcome (Node K V) Unit)
+        → (end : Reserve × Yielding (Node K V) Unit)
         → Steps Took value_at w.memory (reserve.plan_at hash p stands) m2 end → end.1 ≡ outcome.Waits → AnotherHolds w i (row_of_room stands)
     room_row_waits (reserves.Copies copier) row at_row end s e =
         let b = steps_back (reserve.copied p) w.memory m2 (copier_plan hash copier) end s in
         copier_row_waits hash batch_size w came i slot m2 copier row at_row b.0 b.1
-        (room_copied_waits b.0 (ap (λ (x : Reserve × Outcome (Node K V) Unit). x.1) (sym b.2) ∙ e))
+        (room_copied_waits b.0 (ap (λ (x : Reserve × Yielding (Node K V) Unit). x.1) (sym b.2) ∙ e))
     room_row_waits _ row at_row end s e = absurd row
 
   -- within a sweep
@@ -130,7 +130,7 @@ module _ {K V : Type 0} (hash : K → ℕ) (batch_size : ℕ) (w : World (Node K
     sweep_disposed_waits (next, settled.Gave value) e = absurd (cc e)
     sweep_disposed_waits (next, settled.Done) e = absurd (not_telling (further p) e)
 
-    sweep_copied_waits : (to : Copier × Outcome (Node K V) Table) → (sweep.copied p to).1 ≡ swept.Waits → to.1 ≡ outcome.Waits
+    sweep_copied_waits : (to : Copier × Yielding (Node K V) Table) → (sweep.copied p to).1 ≡ swept.Waits → to.1 ≡ outcome.Waits
     sweep_copied_waits (next, outcome.Goes) e = absurd (cc e)
     sweep_copied_waits (next, outcome.Waits) e = refl
     sweep_copied_waits (next, outcome.Gave value) e = absurd (cc e)

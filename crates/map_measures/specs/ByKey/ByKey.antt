@@ -3,7 +3,7 @@ use Rattle.std.specs.Prelude.{◌≡◌, ℕ, Bool, option_map}
 use Rattle.seize_words.specs.OneMemory.Plan.{plan_as}
 use Rattle.map_tables.specs.declared.node.Node.{Node}
 use Rattle.many_calls.specs.Given.RawMachine.{machine_plan, machine_replied, machine_asked}
-use Rattle.many_calls.specs.Given.RawDeclared.machines.asking.Reply.{Reply}
+use Rattle.many_calls.specs.Given.RawDeclared.machines.asking.MachineReply.{MachineReply}
 use Rattle.many_calls.specs.Given.RawDeclared.machines.call.KeyCall.{KeyCall}
 use Rattle.many_calls.specs.Given.RawDeclared.machines.machine.Machine.{Machine}
 use Rattle.many_calls.specs.Given.RawDeclared.machines.machine.Machine.TheVariants as kinds
@@ -46,5 +46,5 @@ StepsByKey {K} {Q} V same asks stands_for =
 -- The promise of what it is told, and asked for.
 abbrev pub RepliesByKey : {K Q : Type 0} (V : Type 0) (stands_for : Q → K) → Type 0
 RepliesByKey {K} {Q} V stands_for =
-    (machine : Machine K V Q) → ((told : Reply V) → machine_replied (by_key stands_for machine) told ≡ (by_key stands_for (machine_replied machine told).0, (machine_replied machine told).1))
+    (machine : Machine K V Q) → ((told : MachineReply V) → machine_replied (by_key stands_for machine) told ≡ (by_key stands_for (machine_replied machine told).0, (machine_replied machine told).1))
     × (machine_asked (by_key stands_for machine) ≡ (by_key stands_for (machine_asked machine).0, (machine_asked machine).1))

@@ -5,7 +5,7 @@ use Rattle.seize_words.specs.OneMemory.Plan.{Steps}
 use Rattle.seize.specs.World.{World}
 use Rattle.map_tables.specs.declared.node.Node.{Node}
 use Rattle.map_tables.specs.declared.setting.Setting.{Setting}
-use Rattle.map_machines.specs.declared.outcome.Outcome.{Outcome}
+use Rattle.map_machines.specs.declared.yielding.Yielding.{Yielding}
 use Rattle.map_sweeps.specs.Reserves.Reserve.{reserve_plan}
 use Rattle.map_sweeps.specs.declared.reserve.Reserve.{Reserve}
 use Rattle.many_calls.specs.Given.RuleChart.{Chart}
@@ -23,7 +23,7 @@ module _ {K : Type 0} (V : Type 0) (same : K → K → Bool) (hash : K → ℕ) 
   -- A step of a reservation leads from here to there, where it goes on: whatever the tables are that the memory shows then, its number is lower.
   abbrev pub ReserveLowers : (setting : Setting) (w : World (Node K V)) (caller : ℕ) (c : Chart K) (blocks : Blocks) (p : Reserve) → Type 0
   ReserveLowers setting w caller c blocks p =
-      (m2 : Mem (Node K V)) (end : Reserve × Outcome (Node K V) Unit) → Steps Took value_at w.memory (reserve_plan hash p) m2 end → GoesFurther end.1
+      (m2 : Mem (Node K V)) (end : Reserve × Yielding (Node K V) Unit) → Steps Took value_at w.memory (reserve_plan hash p) m2 end → GoesFurther end.1
       → (went : Went same hash setting caller w c blocks m2 (λ w2 c2 blocks2. Unit {0}))
       → IsBelow (number_of_reserve went.c2 went.blocks2 end.0) (number_of_reserve c blocks p)
 
@@ -44,7 +44,7 @@ module _ {K : Type 0} (V : Type 0) (same : K → K → Bool) (hash : K → ℕ) 
 -- The steps of a row of the collector within a reservation leave its number as it is, but for the last, which lowers it: the tables stay as they are.
 abbrev pub ReserveRowsFall : (K V : Type 0) → Type 0
 ReserveRowsFall K V =
-    (hash : K → ℕ) (p : Reserve) → IsRowOfReserve p.stands → (m m2 : Mem (Node K V)) (end : Reserve × Outcome (Node K V) Unit)
+    (hash : K → ℕ) (p : Reserve) → IsRowOfReserve p.stands → (m m2 : Mem (Node K V)) (end : Reserve × Yielding (Node K V) Unit)
     → Steps Took value_at m (reserve_plan hash p) m2 end → GoesFurther end.1 → (c : Chart K) (blocks : Blocks)
     → ((IsRowOfReserve end.0.stands) × (number_of_reserve c blocks end.0 ≡ number_of_reserve c blocks p))
     ⊎ ((IsRowOfReserve end.0.stands → ⊥) × IsBelow (number_of_reserve c blocks end.0) (number_of_reserve c blocks p))

@@ -8,8 +8,8 @@ use Rattle.map_tables.specs.declared.node.Node.{Node}
 use Rattle.map_tables.specs.declared.setting.Setting.{Setting}
 use Rattle.map_tables.specs.declared.table.Table.{Table}
 use Rattle.map_machines.specs.Copier.{copier_plan}
-use Rattle.map_machines.specs.declared.outcome.Outcome.{Outcome}
-use Rattle.map_machines.specs.declared.outcome.Outcome.TheVariants.{Goes, Gave}
+use Rattle.map_machines.specs.declared.yielding.Yielding.{Yielding}
+use Rattle.map_machines.specs.declared.yielding.Yielding.TheVariants.{Goes, Gave}
 use Rattle.map_machines.specs.declared.copier.Copier.{Copier}
 use Rattle.many_calls.specs.Given.RuleChart.{Chart}
 use Rattle.many_calls.specs.Given.RuleWords.{Blocks}
@@ -25,7 +25,7 @@ use Rattle.map_measures.specs.Falls.Copies.{number_of_copier}
 use Rattle.map_measures.specs.Falls.CopiesBlocking.{number_of_copier_blocking}
 
 -- What tells this has taken a step, and needs further ones. It may have handed out a value that was reclaimed.
-abbrev pub GoesFurther : {T R : Type 0} → Outcome T R → Type 0
+abbrev pub GoesFurther : {T R : Type 0} → Yielding T R → Type 0
 GoesFurther Goes = Unit {0}
 GoesFurther (Gave value) = Unit {0}
 GoesFurther _ = ⊥
@@ -38,7 +38,7 @@ module _ {K : Type 0} (V : Type 0) (same : K → K → Bool) (hash : K → ℕ) 
   -- a step of a copier leads from here to there, where it goes on: whatever the tables are that the memory shows then, this number of the copier is lower
   abbrev pub CopierLowers : (Chart K → Blocks → Copier → List ℕ) → (setting : Setting) (w : World (Node K V)) (caller : ℕ) (c : Chart K) (blocks : Blocks) (p : Copier) → Type 0
   CopierLowers number setting w caller c blocks p =
-      (m2 : Mem (Node K V)) (end : Copier × Outcome (Node K V) Table) → Steps Took value_at w.memory (copier_plan hash p) m2 end → GoesFurther end.1
+      (m2 : Mem (Node K V)) (end : Copier × Yielding (Node K V) Table) → Steps Took value_at w.memory (copier_plan hash p) m2 end → GoesFurther end.1
       → (went : Went same hash setting caller w c blocks m2 (λ w2 c2 blocks2. Unit {0}))
       → IsBelow (with_room number went.c2 went.blocks2 end.0) (with_room number c blocks p)
 

@@ -20,7 +20,7 @@ use Rattle.map_machines.specs.CopierStates.{next_place, standing}
 use Rattle.map_machines.specs.declared.copier.Copier.{Copier}
 use Rattle.map_machines.specs.declared.copier.Copying.{Copying}
 use Rattle.map_machines.specs.declared.copier.Copying.TheVariants as at
-use Rattle.map_machines.specs.declared.outcome.Outcome.TheVariants as outcome
+use Rattle.map_machines.specs.declared.yielding.Yielding.TheVariants as outcome
 use Rattle.map_straight.specs.Straight.Copying.{IsMidst, further, missed, moved, one_more_done, placing}
 use Rattle.map_straight.specs.Straight.Going.{CopyGoes, CopyLeads, MayCopy}
 use Rattle.seize_straight.specs.Runs.{none_taken, one_more}

@@ -5,7 +5,7 @@ use Rattle.std.proofs.lemmas.Bool.{ne_eqb, eq-eqb}
 use Rattle.seize_words.specs.OneMemory.Op.{Op, Out, Load, Found}
 use Rattle.seize_words.specs.OneMemory.Word.{block_in}
 use Rattle.seize_words.specs.declared.at.At.TheVariants.{Root}
-use Rattle.seize.specs.declared.progress.Progress.TheVariants as progress
+use Rattle.seize.specs.declared.advance.Advance.TheVariants as progress
 use Rattle.map_tables.specs.Nodes.{table_seen}
 use Rattle.map_tables.specs.Trials.{first_trial}
 use Rattle.map_tables.specs.declared.node.Node.{Node}

@@ -29,7 +29,7 @@ use Rattle.map_straight.specs.Straight.Removing.{HasSought, removed_at, removed_
 use Rattle.seize_straight.specs.Runs.{Tells}
 use Rattle.map_straight.specs.declared.disposing.Disposed.{Disposed}
 use Rattle.map_straight.specs.declared.disposing.Disposed.TheVariants as to
-use Rattle.map_straight.specs.declared.removing.Removed.{Removed}
+use Rattle.map_straight.specs.declared.removing.RemovalAt.{RemovalAt}
 use Rattle.map_straight.specs.declared.removing.Sought.{Sought}
 use Rattle.seize_straight.specs.declared.retiring.Retired.TheVariants as retire
 use Rattle.map_straight.proofs.Straight.Disposals.{disposes_on, disposes_over, may_dispose}
@@ -123,11 +123,11 @@ module _ {K V Q M : Type 0} {asks : Q → K → Bool} {eq : K → K → Bool} {h
         disposes_on can took shown asks eq hashes disposes (answers.Removed word) (disposing setting word trial.table)
         (dispose_at setting word trial.table (to.Retires (retire.Scans pending last first))) k j r
 
-    pub was_removed : (j : M) (end : Disposed) (result : Removed) → result ≡ removed_by trial word end
+    pub was_removed : (j : M) (end : Disposed) (result : RemovalAt) → result ≡ removed_by trial word end
         → DisposeReaches took shown (disposing setting word trial.table) k j (disposed setting word trial.table end)
         → CallReaches asks eq hashes took shown (seeking setting hash asked trial (at.Tries word TOMBSTONE)) m j (removed_at setting hash asked result)
     was_removed j end result is r =
-        subst (λ (s : Removed). CallReaches asks eq hashes took shown (seeking setting hash asked trial (at.Tries word TOMBSTONE)) m j (removed_at setting hash asked s)) (sym is)
+        subst (λ (s : RemovalAt). CallReaches asks eq hashes took shown (seeking setting hash asked trial (at.Tries word TOMBSTONE)) m j (removed_at setting hash asked s)) (sym is)
         (reaches_to led j (removed_at setting hash asked (removed_by trial word end)) (went j end r))
 
   -- the tries begin

@@ -31,7 +31,7 @@ use Rattle.map_straight.specs.Straight.Storing.{HasRead, call_at, replaced_by, s
 use Rattle.map_straight.specs.declared.disposing.Disposed.{Disposed}
 use Rattle.map_straight.specs.declared.disposing.Disposed.TheVariants as to
 use Rattle.seize_straight.specs.declared.retiring.Retired.TheVariants as retire
-use Rattle.map_straight.specs.declared.storing.Spot.TheVariants as spot
+use Rattle.map_straight.specs.declared.storing.StoringPoint.TheVariants as spot
 use Rattle.map_straight.specs.declared.storing.Stored.{Stored}
 use Rattle.map_straight.specs.declared.storing.Tried.{Tried}
 use Rattle.map_straight.proofs.Straight.Disposals.{disposes_on, disposes_over, may_dispose}

@@ -1,16 +1,16 @@
 -- Which outcomes of each machine go on, and so what may be run of it, and where that leads.
 use Rattle.std.specs.Prelude.{ℕ, Bool, Option}
 use Rattle.seize_words.specs.OneMemory.Op.{Op, Out}
-use Rattle.seize.specs.declared.progress.Progress.{Progress}
-use Rattle.seize.specs.declared.progress.Progress.TheVariants as progress
+use Rattle.seize.specs.declared.advance.Advance.{Advance}
+use Rattle.seize.specs.declared.advance.Advance.TheVariants as progress
 use Rattle.seize.specs.declared.rows.settle.Settled.{Settled}
 use Rattle.map_tables.specs.declared.node.Node.{Node}
 use Rattle.map_machines.specs.Copier.{copier_plan}
 use Rattle.map_machines.specs.declared.copier.Copier.{Copier}
 use Rattle.map_machines.specs.Dispose.{dispose_plan}
 use Rattle.map_machines.specs.declared.dispose.Dispose.{Dispose}
-use Rattle.map_machines.specs.declared.outcome.Outcome.{Outcome}
-use Rattle.map_machines.specs.declared.outcome.Outcome.TheVariants as outcome
+use Rattle.map_machines.specs.declared.yielding.Yielding.{Yielding}
+use Rattle.map_machines.specs.declared.yielding.Yielding.TheVariants as outcome
 use Rattle.map_machines.specs.Lookup.{lookup_plan}
 use Rattle.map_machines.specs.declared.lookup.Lookup.{Lookup}
 use Rattle.papaya_raw.specs.Call.{call_plan}
@@ -28,7 +28,7 @@ CallGoes called.Waits = Unit {0}
 CallGoes _ = ⊥
 
 -- and a copying
-abbrev pub CopyGoes : {T A : Type 0} → Outcome T A → Type 0
+abbrev pub CopyGoes : {T A : Type 0} → Yielding T A → Type 0
 CopyGoes outcome.Goes = Unit {0}
 CopyGoes outcome.Waits = Unit {0}
 CopyGoes _ = ⊥
@@ -70,7 +70,7 @@ module _ {K V M : Type 0} (hash : K → ℕ) (took : M → Op (Node K V) → Out
   CopyLeads = Leads (CopyGoes {T = Node K V}) took shown (copier_plan hash)
 
 -- a lookup goes on
-abbrev pub LookGoes : {A : Type 0} → Progress A → Type 0
+abbrev pub LookGoes : {A : Type 0} → Advance A → Type 0
 LookGoes progress.Goes = Unit {0}
 LookGoes progress.Waits = Unit {0}
 LookGoes _ = ⊥
@@ -85,5 +85,5 @@ module _ {K V M : Type 0} (keys : K → Bool) (took : M → Op (Node K V) → Ou
   LookLeads = Leads (LookGoes {A = Option ℕ}) took shown (lookup_plan keys)
 
   -- it has come to a point, or to what it told
-  abbrev pub LookReaches : Lookup → M → M → Reached Lookup (Progress (Option ℕ)) → Type 0
+  abbrev pub LookReaches : Lookup → M → M → Reached Lookup (Advance (Option ℕ)) → Type 0
   LookReaches = Reaches (LookGoes {A = Option ℕ}) took shown (lookup_plan keys)

@@ -1,8 +1,8 @@
 -- A lookup as straight code: where it stops.
 use Rattle.std.specs.Prelude.{ℕ, if◌then◌else◌, Option, None}
 use Rattle.seize_words.specs.OneMemory.Plan.{Then, Ends}
-use Rattle.seize.specs.declared.progress.Progress.{Progress}
-use Rattle.seize.specs.declared.progress.Progress.TheVariants as progress
+use Rattle.seize.specs.declared.advance.Advance.{Advance}
+use Rattle.seize.specs.declared.advance.Advance.TheVariants as progress
 use Rattle.map_tables.specs.Chunks.{is_incremental}
 use Rattle.map_tables.specs.declared.node.Node.{Node}
 use Rattle.map_tables.specs.declared.resize_mode.ResizeMode.{ResizeMode}
@@ -28,15 +28,15 @@ module _ (root : ℕ) (mode : ResizeMode) (hash : ℕ) where
   looks stands = record (looking root mode hash) { stands = stands }
 
   -- it has ended with an answer, or stands somewhere
-  abbrev pub sight_at : Sight → Reached Lookup (Progress (Option ℕ))
+  abbrev pub sight_at : Sight → Reached Lookup (Advance (Option ℕ))
   sight_at (sight.Ends found) = Told (progress.Done found)
   sight_at (sight.Stands stands) = At (looks stands)
 
   -- after a try it is to make the next one, or that ends the tries
-  abbrev pub glance_at : Glance → Reached Lookup (Progress (Option ℕ))
+  abbrev pub glance_at : Glance → Reached Lookup (Advance (Option ℕ))
   glance_at (glance.Next trial) = At (looks (at.Probes trial))
   glance_at (glance.Ends end) = sight_at end
 
   -- what is left of its step, once the word of its try is read, comes to that
-  abbrev pub HasGlanced : {K V : Type 0} → (ℕ → Option (Node K V)) → Then (Node K V) (Lookup × Progress (Option ℕ)) → Glance → Type 0
-  HasGlanced shown rest result = (end : Lookup × Progress (Option ℕ)) × Ends shown rest end × ComesTo LookGoes end (glance_at result)
+  abbrev pub HasGlanced : {K V : Type 0} → (ℕ → Option (Node K V)) → Then (Node K V) (Lookup × Advance (Option ℕ)) → Glance → Type 0
+  HasGlanced shown rest result = (end : Lookup × Advance (Option ℕ)) × Ends shown rest end × ComesTo LookGoes end (glance_at result)

@@ -22,8 +22,8 @@ use Rattle.map_straight.specs.declared.disposing.Disposed.TheVariants as to
 use Rattle.seize_straight.specs.declared.retiring.Retired.TheVariants as retire
 use Rattle.map_straight.specs.declared.removing.Removal.{Removal}
 use Rattle.map_straight.specs.declared.removing.Removal.TheVariants as removal
-use Rattle.map_straight.specs.declared.removing.Removed.{Removed}
-use Rattle.map_straight.specs.declared.removing.Removed.TheVariants as removed
+use Rattle.map_straight.specs.declared.removing.RemovalAt.{RemovalAt}
+use Rattle.map_straight.specs.declared.removing.RemovalAt.TheVariants as removed
 use Rattle.map_straight.specs.declared.removing.Sought.{Sought}
 use Rattle.map_straight.specs.declared.removing.Sought.TheVariants as sought
 
@@ -37,11 +37,11 @@ removing_at setting trial (removal.Counts word) = at.Counts word
 removing_at setting trial (removal.Disposes word disposed) = at.Disposes (dispose_at setting word trial.table disposed) (answers.Removed word)
 
 -- all tries at a table are made: in incremental mode the key may be in the next one
-abbrev pub past_all : ResizeMode → Trial → Removed
+abbrev pub past_all : ResizeMode → Trial → RemovalAt
 past_all mode met = if is_incremental mode then removed.Stands met removal.Nexts else removed.Answered answers.Absent
 
 -- a pair was removed, and its disposal has ended, or has come so far
-abbrev pub removed_by : Trial → ℕ → Disposed → Removed
+abbrev pub removed_by : Trial → ℕ → Disposed → RemovalAt
 removed_by trial word (to.Retires retire.Ended) = removed.Answered (answers.Removed word)
 removed_by trial word disposed = removed.Stands trial (removal.Disposes word disposed)
 
@@ -51,7 +51,7 @@ module _ {K V Q : Type 0} (setting : Setting) (hash : ℕ) (asked : Q) where
   seeking trial stands = record (removing setting hash asked) { trial = trial; stands = stands }
 
   -- it has ended with an answer, or stands somewhere
-  abbrev pub removed_at : Removed → Reached (KeyCall K V Q) (Called (Node K V))
+  abbrev pub removed_at : RemovalAt → Reached (KeyCall K V Q) (Called (Node K V))
   removed_at (removed.Answered answer) = Told (called.Done answer)
   removed_at (removed.Stands trial stands) = At (seeking trial (removing_at setting trial stands))
 

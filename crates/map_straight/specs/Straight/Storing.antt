@@ -24,8 +24,8 @@ use Rattle.seize_straight.specs.Reaches.{Reached, At, Told}
 use Rattle.map_straight.specs.declared.disposing.Disposed.{Disposed}
 use Rattle.map_straight.specs.declared.disposing.Disposed.TheVariants as to
 use Rattle.seize_straight.specs.declared.retiring.Retired.TheVariants as retire
-use Rattle.map_straight.specs.declared.storing.Spot.{Spot}
-use Rattle.map_straight.specs.declared.storing.Spot.TheVariants as spot
+use Rattle.map_straight.specs.declared.storing.StoringPoint.{StoringPoint}
+use Rattle.map_straight.specs.declared.storing.StoringPoint.TheVariants as spot
 use Rattle.map_straight.specs.declared.storing.Stored.{Stored}
 use Rattle.map_straight.specs.declared.storing.Stored.TheVariants as stored
 use Rattle.map_straight.specs.declared.storing.Tried.{Tried}
@@ -38,7 +38,7 @@ is_plain there.Answers = true
 is_plain _ = false
 
 -- a point, by what was tried there
-abbrev pub calling_at : Setting → ℕ → Trial → Spot → Calling
+abbrev pub calling_at : Setting → ℕ → Trial → StoringPoint → Calling
 calling_at setting own trial spot.Roots = at.Roots
 calling_at setting own trial spot.Firsts = at.Firsts (first_table setting FIRST_LEN)
 calling_at setting own trial spot.Probes = at.Probes
@@ -57,7 +57,7 @@ module _ {K V Q : Type 0} (setting : Setting) (hash : ℕ) (there : There) (own 
   abbrev pub storing : Trial → Calling → KeyCall K V Q
   storing trial stands = record (calling setting hash there missing.Puts None None silent stands) { own = own; trial = trial }
 
-  abbrev pub call_at : Trial → Spot → KeyCall K V Q
+  abbrev pub call_at : Trial → StoringPoint → KeyCall K V Q
   call_at trial stands = storing trial (calling_at setting own trial stands)
 
   -- after a try it stands at the next one, or elsewhere

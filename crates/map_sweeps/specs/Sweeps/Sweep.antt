@@ -7,8 +7,8 @@ use Rattle.map_machines.specs.Given.SeizeWordsPlan.{Plan, Then, Turn, Do, Now, S
 use Rattle.map_machines.specs.Given.SeizeDeclared.rows.settle.Settled.{Settled}
 use Rattle.map_machines.specs.Given.SeizeDeclared.rows.settle.Settled.TheVariants as settling
 use Rattle.map_machines.specs.Given.TablesDeclared.node.Node.{Node}
-use Rattle.map_machines.specs.declared.outcome.Outcome.{Outcome}
-use Rattle.map_machines.specs.declared.outcome.Outcome.TheVariants as outcome
+use Rattle.map_machines.specs.declared.yielding.Yielding.{Yielding}
+use Rattle.map_machines.specs.declared.yielding.Yielding.TheVariants as outcome
 use Rattle.map_machines.specs.Given.TablesDeclared.marks.TheConstants.{TOMBSTONE}
 use Rattle.map_machines.specs.Given.TablesDeclared.table.Table.{Table}
 use Rattle.map_machines.specs.Given.TablesDeclared.table_words.TheConstants.{NEXT}
@@ -83,7 +83,7 @@ module _ {K V : Type 0} where
   follows c = Do (Load (at_word c.table NEXT)) (next_read c)
 
   -- a step of the copying, as a step of its own
-  abbrev pub copied : Sweep → Copier × Outcome (Node K V) Table → Sweep × Swept (Node K V)
+  abbrev pub copied : Sweep → Copier × Yielding (Node K V) Table → Sweep × Swept (Node K V)
   copied c (copier, outcome.Goes) = going c (at.Copies copier)
   copied c (copier, outcome.Waits) = (standing c (at.Copies copier), Waits)
   copied c (copier, outcome.Gave value) = (standing c (at.Copies copier), Gave value)

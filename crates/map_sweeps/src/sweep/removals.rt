@@ -5,7 +5,7 @@ ghost use Rattle.map_sweeps.specs.Sweeps.Sweep.{tries, counts, disposed};
 ghost use Rattle.map_machines.specs.Given.SeizeWordsPlan.{May, Steps, plan_as};
 
 use crate::named_reserves::marks::TOMBSTONE;
-use crate::named_reserves::{Dispose, Machine, Memory, Node, Settled, count};
+use crate::named_reserves::{Dispose, Memory, Node, Settled, StepMachine, count};
 use crate::sweep::{Sweep, Sweeping, Swept};
 
 impl Sweep {

@@ -6,7 +6,7 @@ ghost use Rattle.map_sweeps.specs.Sweeps.SweepPoints.{beginning, tableless, ente
 ghost use Rattle.map_machines.specs.Given.SeizeWordsPlan.{May, Steps, plan_as};
 
 use crate::named_reserves::table_words::NEXT;
-use crate::named_reserves::{At, Copier, Hashes, Link, Memory, Node, Outcome, Table};
+use crate::named_reserves::{At, Copier, Hashes, Link, Memory, Node, Table, Yielding};
 use crate::sweep::{Sweep, Sweeping, Swept};
 
 impl Sweep {
@@ -96,20 +96,20 @@ impl Sweep {
     fn copied<K, V>(
         &mut self,
         copier: Copier,
-        outcome: Outcome<Node<K, V>, Table>,
+        outcome: Yielding<Node<K, V>, Table>,
     ) -> Swept<Node<K, V>>
         ensures { (self.new, result) ≡ copied self.old (copier, outcome) }
     {
         self.stands = Sweeping::Copies(copier);
         match outcome {
-            Outcome::Goes => Swept::Goes,
-            Outcome::Waits => Swept::Waits,
-            Outcome::Gave(value) => Swept::Gave(value),
-            Outcome::Done(root) => {
+            Yielding::Goes => Swept::Goes,
+            Yielding::Waits => Swept::Waits,
+            Yielding::Gave(value) => Swept::Gave(value),
+            Yielding::Done(root) => {
                 self.enter(root);
                 self.tell()
             }
-            Outcome::Refused(fault) => {
+            Yielding::Refused(fault) => {
                 self.stands = Sweeping::Refused(fault);
                 self.tell()
             }

@@ -6,7 +6,7 @@ use Rattle.seize_words.specs.OneMemory.Plan.{Steps}
 use Rattle.seize_words.specs.declared.fault.Fault.{Fault}
 use Rattle.map_tables.specs.Given.SeizeLeave.{leave_plan, leaving}
 use Rattle.papaya_raw.specs.Given.SeizeWorld.{World, Row, Leaves, Steps', left_row, leaves_on}
-use Rattle.map_tables.specs.Given.SeizeDeclared.progress.Progress.{Progress}
+use Rattle.map_tables.specs.Given.SeizeDeclared.advance.Advance.{Advance}
 use Rattle.map_tables.specs.Given.SeizeDeclared.rows.leave.Leave.{Leave}
 use Rattle.map_tables.specs.Given.SeizeDeclared.rows.settle.Settled.{Settled}
 use Rattle.map_tables.specs.Given.SeizeDeclared.rows.settle.Settled.TheVariants as settling
@@ -23,7 +23,7 @@ use Rattle.owner_calls.proofs.Given.CallersTogether.Rows.{map2}
 use Rattle.owner_calls.specs.Given.StridesEnding.{RunsTo}
 use Rattle.owner_calls.specs.Owned.Machines.{refreshes_plan, refreshes_after, refreshes_settled}
 use Rattle.owner_calls.specs.Owned.Owned.{Holds}
-use Rattle.owner_calls.specs.declared.machines.Refreshes.{Refreshes}
+use Rattle.owner_calls.specs.declared.machines.OwnerRefresh.{OwnerRefresh}
 use Rattle.owner_calls.proofs.Owned.Owned.Refreshes.{begins_refreshing}
 use Rattle.owner_calls.proofs.Given.StridesRuns.Comes.{NextOf, next_turned, run_comes}
 use Rattle.owner_asks.proofs.Steady.Ends.{EndsAt, ends_at, ends_on, shows_one}
@@ -34,7 +34,7 @@ module _ {K V : Type 0} (same : K → K → Bool) (hash : K → ℕ) (setting : 
   slot_of i = setting.slot
 
   -- it is under way, over the same tables
-  record Under (link : ℕ) (r : Refreshes) (m : Mem (Node K V)) : Type 0 where
+  record Under (link : ℕ) (r : OwnerRefresh) (m : Mem (Node K V)) : Type 0 where
     pub w : World (Node K V)
     pub blocks : Blocks
     pub sights : ℕ → Sight
@@ -43,7 +43,7 @@ module _ {K V : Type 0} (same : K → K → Bool) (hash : K → ℕ) (setting : 
     pub row : w.row 0 ≡ Leaves r.leave
     pub linked : EndsAt setting link w.memory
 
-  module _ (link : ℕ) (r : Refreshes) (m : Mem (Node K V)) (here : Under link r m) (m2 : Mem (Node K V)) (d : Leave) (told : Settled (Node K V)) (s : Steps Took value_at m (leave_plan deferred_word r.leave) m2 (d, told)) where
+  module _ (link : ℕ) (r : OwnerRefresh) (m : Mem (Node K V)) (here : Under link r m) (m2 : Mem (Node K V)) (d : Leave) (told : Settled (Node K V)) (s : Steps Took value_at m (leave_plan deferred_word r.leave) m2 (d, told)) where
     abbrev w2 : World (Node K V)
     w2 = leaves_on here.w 0 r.leave m2 (d, told)
 
@@ -72,25 +72,25 @@ module _ {K V : Type 0} (same : K → K → Bool) (hash : K → ℕ) (setting : 
     }
 
   -- what it comes to
-  abbrev Comes : ℕ → Refreshes → Mem (Node K V) → Result Unit Fault → Type 0
+  abbrev Comes : ℕ → OwnerRefresh → Mem (Node K V) → Result Unit Fault → Type 0
   Comes link x m result = EndsAt setting link m
 
   -- where a step leads
-  abbrev Next : ℕ → Refreshes → Mem (Node K V) → Progress Unit → Type 0
+  abbrev Next : ℕ → OwnerRefresh → Mem (Node K V) → Advance Unit → Type 0
   Next link = NextOf (Under link) (Comes link)
 
-  next_by : (link : ℕ) (r : Refreshes) (m : Mem (Node K V)) (here : Under link r m) (m2 : Mem (Node K V)) (d : Leave) (told : Settled (Node K V)) → Steps Took value_at m (leave_plan deferred_word r.leave) m2 (d, told)
+  next_by : (link : ℕ) (r : OwnerRefresh) (m : Mem (Node K V)) (here : Under link r m) (m2 : Mem (Node K V)) (d : Leave) (told : Settled (Node K V)) → Steps Took value_at m (leave_plan deferred_word r.leave) m2 (d, told)
       → Next link (refreshes_settled (record { leave = d }) told).0 m2 (refreshes_settled {T = Node K V} (record { leave = d }) told).1
   next_by link r m here m2 d settling.Goes s = under_then link r m here m2 d settling.Goes s refl
   next_by link r m here m2 d settling.Waits s = under_then link r m here m2 d settling.Waits s refl
   next_by link r m here m2 d (settling.Gave value) s = under_then link r m here m2 d (settling.Gave value) s refl
   next_by link r m here m2 d settling.Done s = linked_then link r m here m2 d settling.Done s
 
-  step_of : (link : ℕ) (r : Refreshes) (m : Mem (Node K V)) → Under link r m → (m2 : Mem (Node K V)) (end : Refreshes × Progress Unit) → Steps Took value_at m (refreshes_plan deferred_word r) m2 end → Next link end.0 m2 end.1
+  step_of : (link : ℕ) (r : OwnerRefresh) (m : Mem (Node K V)) → Under link r m → (m2 : Mem (Node K V)) (end : OwnerRefresh × Advance Unit) → Steps Took value_at m (refreshes_plan deferred_word r) m2 end → Next link end.0 m2 end.1
   step_of link r m here m2 end s = next_turned (Under link) (Comes link) (refreshes_after r) m m2 (leave_plan deferred_word r.leave) (λ k. next_by link r m here m2 k.0 k.1) end s
 
   -- from the map that rests
-  keeps_one : HasOneTable setting m0 → (x : Refreshes) (m : Mem (Node K V)) (result : Result Unit Fault)
+  keeps_one : HasOneTable setting m0 → (x : OwnerRefresh) (m : Mem (Node K V)) (result : Result Unit Fault)
       → RunsTo (refreshes_plan deferred_word) (record { leave = leaving setting.slot setting.batch_size ACTIVE false }) m0 x m result → HasOneTable setting m
   keeps_one one x m result runs =
       let b = begins_refreshing same hash setting m0 xs h in

@@ -12,8 +12,8 @@ use Rattle.papaya_raw.specs.declared.machines.answer.KeyAnswer.{KeyAnswer}
 use Rattle.papaya_raw.specs.declared.machines.answer.KeyAnswer.TheVariants as answers
 use Rattle.papaya_raw.specs.declared.machines.answer.Missing.TheVariants as missing
 use Rattle.papaya_raw.specs.declared.machines.answer.There.TheVariants as there
-use Rattle.papaya_raw.specs.declared.machines.asking.Reply.{Reply}
-use Rattle.papaya_raw.specs.declared.machines.asking.Reply.TheVariants as reply
+use Rattle.papaya_raw.specs.declared.machines.asking.MachineReply.{MachineReply}
+use Rattle.papaya_raw.specs.declared.machines.asking.MachineReply.TheVariants as reply
 use Rattle.papaya_raw.specs.declared.machines.asking.Takes.{Takes}
 use Rattle.papaya_raw.specs.declared.machines.asking.Takes.TheVariants as takes
 use Rattle.papaya_raw.specs.declared.machines.asking.Told.TheVariants as tells
@@ -34,13 +34,13 @@ use Rattle.owner_calls.specs.declared.machines.Stop.{Stop}
 use Rattle.owner_calls.specs.declared.machines.Stop.TheVariants as stop
 
 -- what a reply comes to: yes, that the pair is to be removed, and no, that nothing is to change
-abbrev pub meant : {V : Type 0} → Reply V → Reply V
+abbrev pub meant : {V : Type 0} → MachineReply V → MachineReply V
 meant reply.Yes = reply.Remove
 meant reply.No = reply.Abort
 meant told = told
 
 -- A call that takes these replies takes this one where it asks about the pair of a word, or about none.
-abbrev pub IsTaken : {V : Type 0} → Takes → Option ℕ → Reply V → Type 0
+abbrev pub IsTaken : {V : Type 0} → Takes → Option ℕ → MachineReply V → Type 0
 IsTaken takes.Values asked (reply.Insert value) = Unit {0}
 IsTaken takes.Changes asked (reply.Insert value) = Unit {0}
 IsTaken takes.Changes asked reply.Remove = Unit {0}
@@ -52,7 +52,7 @@ IsTaken _ asked told = ⊥
 -- Where the map had these pairs, and a call with this key, if with one, was told so of the pair of these keys that the map had, or of none: what the map has now,
 -- by its answer, and which pairs are in the blocks of its words: one that was replaced or removed waits there, apart from those of the map. Where it does not
 -- ask, it goes by what is known before.
-module _ {K V : Type 0} (same : K → K → Bool) (hash : K → ℕ) (setting : Setting) (m : Mem (Node K V)) (keys : K → Bool) (xs : List (K × V)) (its : Option K) (Told : Option (K × V) → Reply V → Type 0) where
+module _ {K V : Type 0} (same : K → K → Bool) (hash : K → ℕ) (setting : Setting) (m : Mem (Node K V)) (keys : K → Bool) (xs : List (K × V)) (its : Option K) (Told : Option (K × V) → MachineReply V → Type 0) where
   abbrev pub AnswersAs : KeyAnswer → Type 0
   AnswersAs answers.Absent = Told None reply.Abort × (found_by keys xs ≡ None) × Holds same hash setting m xs
   AnswersAs (answers.Found word) = (x : K × V) × Told (Some x) reply.Abort × (found_by keys xs ≡ Some x) × IsPairAt m word x × Holds same hash setting m xs
@@ -75,7 +75,7 @@ module _ {K V : Type 0} (same : K → K → Bool) (hash : K → ℕ) (setting : 
 
 -- For what a call may be refused once it was told this, of a pair or of none: for room where it is to store a value, and the removal of what is not there;
 -- else it is not refused.
-abbrev pub MayRefuse : {V : Type 0} → Option ℕ → Reply V → Fault → Type 0
+abbrev pub MayRefuse : {V : Type 0} → Option ℕ → MachineReply V → Fault → Type 0
 MayRefuse asked (reply.Insert value) fault = IsRoom fault
 MayRefuse None reply.Remove fault = fault ≡ RemoveNothing
 MayRefuse asked told fault = ⊥
@@ -95,13 +95,13 @@ AsksOf kind (Some word) = kind.present ≡ there.Asks
 AsksOf kind None = kind.absent ≡ missing.Asks
 
 -- where it does not ask, it changes nothing
-abbrev pub Unasked : {K V : Type 0} → Kind → Option (K × V) → Reply V → Type 0
+abbrev pub Unasked : {K V : Type 0} → Kind → Option (K × V) → MachineReply V → Type 0
 Unasked kind (Some x) reply.Abort = kind.present ≢ there.Asks
 Unasked kind None reply.Abort = kind.absent ≢ missing.Asks
 Unasked kind about told = ⊥
 
 -- it was told this, of what the map had of these keys
-abbrev pub ToldThis : {K V : Type 0} → (K → Bool) → List (K × V) → Reply V → Option (K × V) → Reply V → Type 0
+abbrev pub ToldThis : {K V : Type 0} → (K → Bool) → List (K × V) → MachineReply V → Option (K × V) → MachineReply V → Type 0
 ToldThis keys xs told about meaning = (about ≡ found_by keys xs) × (meaning ≡ meant told)
 
 module _ {K V Q S : Type 0} where
@@ -129,5 +129,5 @@ by_lent asks x key = asks x.asked.now key
 abbrev pub ToldCallsRefuse : (K V Q S : Type 0) → Type 0
 ToldCallsRefuse K V Q S =
     (asks : Q → K → Bool) (same : K → K → Bool) (hashes : S → K → ℕ) (setting : Setting) (kind : Kind) (its : Option K) (keys : K → Bool) (xs : List (K × V)) (x : OnKey K V Q S) (m : Mem (Node K V))
-    (asked : Option ℕ) → Pauses asks same hashes setting kind its keys xs x m asked → (told : Reply V) → IsTaken kind.takes asked told
+    (asked : Option ℕ) → Pauses asks same hashes setting kind its keys xs x m asked → (told : MachineReply V) → IsTaken kind.takes asked told
     → (z : OnKey K V Q S) (m2 : Mem (Node K V)) (fault : Fault) → RunsTo (on_key_plan asks same hashes) (record x { call = (replied x.call told).0 }) m z m2 (Err fault) → MayRefuse asked told fault

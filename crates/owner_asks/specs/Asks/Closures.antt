@@ -7,8 +7,8 @@ use Rattle.seize_words.specs.declared.fault.Fault.{Fault}
 use Rattle.map_tables.specs.declared.node.Node.{Node}
 use Rattle.map_tables.specs.declared.setting.Setting.{Setting}
 use Rattle.papaya_raw.specs.declared.machines.answer.KeyAnswer.{KeyAnswer}
-use Rattle.papaya_raw.specs.declared.machines.asking.Reply.{Reply}
-use Rattle.papaya_raw.specs.declared.machines.asking.Reply.TheVariants as reply
+use Rattle.papaya_raw.specs.declared.machines.asking.MachineReply.{MachineReply}
+use Rattle.papaya_raw.specs.declared.machines.asking.MachineReply.TheVariants as reply
 use Rattle.owner_asks.specs.Asks.Asking.{AnswersAs, RefusedAs}
 use Rattle.owner_calls.specs.Owned.Owned.{found_by}
 use Rattle.owner_calls.specs.declared.machines.Stop.{Stop}
@@ -38,44 +38,44 @@ ComputingTakes {F} {K} {V} g f about = (shown : Option (Bor K × Bor V)) → opt
 
 module _ {K V : Type 0} where
   -- The value of a pair that is there gives way to one that is made of it, and where there is none, nothing changes.
-  abbrev pub Updating : (V → V → Type 0) → Option (K × V) → Reply V → Type 0
+  abbrev pub Updating : (V → V → Type 0) → Option (K × V) → MachineReply V → Type 0
   Updating Makes (Some x) (reply.Insert value) = Makes x.1 value
   Updating Makes None reply.Abort = Unit {0}
   Updating Makes about told = ⊥
 
   -- So it does, and where there is none, a value is stored that is so.
-  abbrev pub UpdatingOrStoring : (V → V → Type 0) → (V → Type 0) → Option (K × V) → Reply V → Type 0
+  abbrev pub UpdatingOrStoring : (V → V → Type 0) → (V → Type 0) → Option (K × V) → MachineReply V → Type 0
   UpdatingOrStoring Makes IsSo (Some x) (reply.Insert value) = Makes x.1 value
   UpdatingOrStoring Makes IsSo None (reply.Insert value) = IsSo value
   UpdatingOrStoring Makes IsSo about told = ⊥
 
   -- A pair that is there stays, and where there is none, a value is stored that is so.
-  abbrev pub Storing : (V → Type 0) → Option (K × V) → Reply V → Type 0
+  abbrev pub Storing : (V → Type 0) → Option (K × V) → MachineReply V → Type 0
   Storing IsSo (Some x) reply.Abort = Unit {0}
   Storing IsSo None (reply.Insert value) = IsSo value
   Storing IsSo about told = ⊥
 
   -- A pair that is there is removed where a test answers yes, and stays where it answers no.
-  abbrev pub Removing : (K × V → Bool → Type 0) → Option (K × V) → Reply V → Type 0
+  abbrev pub Removing : (K × V → Bool → Type 0) → Option (K × V) → MachineReply V → Type 0
   Removing Tests (Some x) reply.Remove = Tests x true
   Removing Tests (Some x) reply.Abort = Tests x false
   Removing Tests None reply.Abort = Unit {0}
   Removing Tests about told = ⊥
 
   -- What is given is done. Nothing changes by these.
-  abbrev pub Computing : {T : Type 0} → (Option (K × V) → Operation V T → Type 0) → Option (K × V) → Reply V → Type 0
+  abbrev pub Computing : {T : Type 0} → (Option (K × V) → Operation V T → Type 0) → Option (K × V) → MachineReply V → Type 0
   Computing Gives about (reply.Insert value) = Gives about (operation.Insert value)
   Computing Gives about reply.Remove = Gives about operation.Remove
   Computing Gives about told = ⊥
 
 -- What a call comes to that was given a key, by what it was told: where it is refused, the key comes back.
 module _ {K V : Type 0} (same : K → K → Bool) (hash : K → ℕ) (setting : Setting) (m : Mem (Node K V)) (key : K) (xs : List (K × V)) where
-  abbrev pub ComesTo : (Option (K × V) → Reply V → Type 0) → Result KeyAnswer (RefusedKey K) → Type 0
+  abbrev pub ComesTo : (Option (K × V) → MachineReply V → Type 0) → Result KeyAnswer (RefusedKey K) → Type 0
   ComesTo Told (Ok answer) = AnswersAs same hash setting m (same key) xs (Some key) Told answer
   ComesTo Told (Err r) = RefusedAs same hash setting m (same key) xs (Some key) Told r.fault × (r.key ≡ key)
 
   -- and the value, where it was given one, too
-  abbrev pub ComesToWith : V → (Option (K × V) → Reply V → Type 0) → Result KeyAnswer (Refused K V) → Type 0
+  abbrev pub ComesToWith : V → (Option (K × V) → MachineReply V → Type 0) → Result KeyAnswer (Refused K V) → Type 0
   ComesToWith value Told (Ok answer) = AnswersAs same hash setting m (same key) xs (Some key) Told answer
   ComesToWith value Told (Err r) = RefusedAs same hash setting m (same key) xs (Some key) Told r.fault × (r.key ≡ key) × (r.value ≡ value)
 

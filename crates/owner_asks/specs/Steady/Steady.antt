@@ -18,7 +18,7 @@ use Rattle.owner_calls.specs.Owned.Calling.{HasStopped}
 use Rattle.owner_calls.specs.Given.StridesEnding.{RunsTo}
 use Rattle.owner_calls.specs.Owned.Machines.{refreshes_plan}
 use Rattle.owner_calls.specs.Owned.Owned.{Holds}
-use Rattle.owner_calls.specs.declared.machines.Refreshes.{Refreshes}
+use Rattle.owner_calls.specs.declared.machines.OwnerRefresh.{OwnerRefresh}
 use Rattle.owner_calls.specs.declared.machines.Stop.{Stop}
 use Rattle.owner_calls.specs.Sifts.Sweeping.{HasSwept}
 
@@ -47,5 +47,5 @@ SweepsAreSteady K V S =
 abbrev pub RefreshesKeepOneTable : (K V : Type 0) → Type 0
 RefreshesKeepOneTable K V =
     (same : K → K → Bool) (hash : K → ℕ) (setting : Setting) (m0 : Mem (Node K V)) (xs : List (K × V)) → Holds same hash setting m0 xs → HasOneTable setting m0
-    → (y : Refreshes) (m : Mem (Node K V)) (result : Result Unit Fault)
+    → (y : OwnerRefresh) (m : Mem (Node K V)) (result : Result Unit Fault)
     → RunsTo (refreshes_plan deferred_word) (record { leave = leaving setting.slot setting.batch_size ACTIVE false }) m0 y m result → HasOneTable setting m

@@ -7,8 +7,8 @@ use Rattle.seize_words.specs.OneMemory.Plan.{Plan, May, Steps}
 use Rattle.seize_words.proofs.OneMemory.Plans.{may_as}
 use Rattle.seize.proofs.StepsInto.{steps_into}
 use Rattle.seize.specs.Settle.{settle_plan}
-use Rattle.seize.specs.declared.progress.Progress.{Progress}
-use Rattle.seize.specs.declared.progress.Progress.TheVariants as progress
+use Rattle.seize.specs.declared.advance.Advance.{Advance}
+use Rattle.seize.specs.declared.advance.Advance.TheVariants as progress
 use Rattle.seize.specs.declared.rows.settle.Settle.{Settle}
 use Rattle.seize.specs.declared.rows.settle.Settled.{Settled}
 use Rattle.seize.specs.declared.rows.settle.Settled.TheVariants as settling
@@ -20,8 +20,8 @@ use Rattle.map_straight.specs.Given.ResizeDispose.{dispose_plan, settled}
 use Rattle.map_straight.specs.Given.ResizeDeclared.copier.Copier.{Copier}
 use Rattle.map_straight.specs.Given.ResizeDeclared.dispose.Dispose.{Dispose}
 use Rattle.map_straight.specs.Given.ResizeDeclared.dispose.Disposing.TheVariants as disposal
-use Rattle.map_straight.specs.Given.ResizeDeclared.outcome.Outcome.{Outcome}
-use Rattle.map_straight.specs.Given.ResizeDeclared.outcome.Outcome.TheVariants as outcome
+use Rattle.map_straight.specs.Given.ResizeDeclared.yielding.Yielding.{Yielding}
+use Rattle.map_straight.specs.Given.ResizeDeclared.yielding.Yielding.TheVariants as outcome
 use Rattle.papaya_raw.specs.Call.{call_plan, disposed, helped}
 use Rattle.papaya_raw.specs.declared.machines.answer.KeyAnswer.{KeyAnswer}
 use Rattle.owner_whole.specs.Strides.Ending.{Ends}
@@ -33,7 +33,7 @@ use Rattle.owner_calls.specs.declared.machines.Stop.TheVariants as stop
 use Rattle.owner_whole.proofs.Strides.Runs.Steps.{may_step}
 
 module _ {K V Q S : Type 0} (asks : Q → K → Bool) (same : K → K → Bool) (hashes : S → K → ℕ) (m : Mem (Node K V)) (u : OnKey K V Q S) where
-  abbrev plan_of : OnKey K V Q S → Plan (Node K V) (OnKey K V Q S × Progress Stop)
+  abbrev plan_of : OnKey K V Q S → Plan (Node K V) (OnKey K V Q S × Advance Stop)
   plan_of = on_key_plan asks same hashes
 
   -- the retirement of the pair that was there
@@ -51,7 +51,7 @@ module _ {K V Q S : Type 0} (asks : Q → K → Bool) (same : K → K → Bool) 
         (may_as (on_key_after here) Can Took value_at m (call_plan asks same (hashes u.hasher.now) here.call) (may_step plan_of here m h)))
 
     module _ (m2 : Mem (Node K V)) (settle2 : Settle) where
-      outer : (told : Settled (Node K V)) (into : OnKey K V Q S × Progress Stop) → into ≡ on_key_after here (disposed here.call answer (settled inner (settle2, told)))
+      outer : (told : Settled (Node K V)) (into : OnKey K V Q S × Advance Stop) → into ≡ on_key_after here (disposed here.call answer (settled inner (settle2, told)))
           → Steps Took value_at m (settle_plan deferred_word settle) m2 (settle2, told) → Steps Took value_at m (plan_of here) m2 into
       outer told into is s =
           steps_into (on_key_after here) Can Took value_at m m2 (call_plan asks same (hashes u.hasher.now) here.call) (disposed here.call answer (settled inner (settle2, told))) into is
@@ -85,13 +85,13 @@ module _ {K V Q S : Type 0} (asks : Q → K → Bool) (same : K → K → Bool) 
         (may_as (on_key_after at_help) Can Took value_at m (call_plan asks same (hashes u.hasher.now) at_help.call) (may_step plan_of at_help m h))
 
     module _ (m2 : Mem (Node K V)) (copier2 : Copier) where
-      pub helps_into : (told : Outcome (Node K V) Table) (into : OnKey K V Q S × Progress Stop) → into ≡ on_key_after at_help (helped at_help.call goal (copier2, told))
+      pub helps_into : (told : Yielding (Node K V) Table) (into : OnKey K V Q S × Advance Stop) → into ≡ on_key_after at_help (helped at_help.call goal (copier2, told))
           → Steps Took value_at m (copier_plan (hashes u.hasher.now) copier) m2 (copier2, told) → Steps Took value_at m (plan_of at_help) m2 into
       helps_into told into is s =
           steps_into (on_key_after at_help) Can Took value_at m m2 (call_plan asks same (hashes u.hasher.now) at_help.call) (helped at_help.call goal (copier2, told)) into is
           (steps_into (helped at_help.call goal) Can Took value_at m m2 (copier_plan (hashes u.hasher.now) copier) (copier2, told) (helped at_help.call goal (copier2, told)) refl s)
 
-      pub helps_on : (told : Outcome (Node K V) Table) → takes_more told ≡ true → Steps Took value_at m (copier_plan (hashes u.hasher.now) copier) m2 (copier2, told)
+      pub helps_on : (told : Yielding (Node K V) Table) → takes_more told ≡ true → Steps Took value_at m (copier_plan (hashes u.hasher.now) copier) m2 (copier2, told)
           → Steps Took value_at m (plan_of at_help) m2 (helping u goal copier2, progress.Goes)
       helps_on outcome.Goes on s = helps_into outcome.Goes _ refl s
       helps_on outcome.Waits on s = helps_into outcome.Waits _ refl s

@@ -7,7 +7,7 @@ use Rattle.seize_words.specs.OneMemory.Op.{Found}
 use Rattle.seize_words.specs.OneMemory.Plan.{Now, May, Steps, Ends, then_as, plan_as}
 use Rattle.seize_words.specs.OneMemory.Word.{block_in}
 use Rattle.seize_words.specs.declared.at.At.{At}
-use Rattle.seize.specs.declared.progress.Progress.TheVariants as progress
+use Rattle.seize.specs.declared.advance.Advance.TheVariants as progress
 use Rattle.map_tables.specs.Chunks.{is_incremental}
 use Rattle.map_tables.specs.Finding.{finding, may_name, shut, vacant}
 use Rattle.map_tables.specs.Trials.{place_tried, next_trial, with_met}

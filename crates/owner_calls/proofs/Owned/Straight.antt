@@ -7,8 +7,8 @@ use Rattle.seize_words.specs.OneMemory.Plan.{Plan, Steps}
 use Rattle.seize_words.specs.declared.fault.Fault.{Fault}
 use Rattle.seize_words.proofs.OneMemory.Plans.{may_as}
 use Rattle.seize.proofs.StepsInto.{steps_into}
-use Rattle.seize.specs.declared.progress.Progress.{Progress}
-use Rattle.seize.specs.declared.progress.Progress.TheVariants as progress
+use Rattle.seize.specs.declared.advance.Advance.{Advance}
+use Rattle.seize.specs.declared.advance.Advance.TheVariants as progress
 use Rattle.seize.specs.Leave.{leave_plan, settled as leave_settled}
 use Rattle.seize.specs.Settle.{settle_plan}
 use Rattle.seize.specs.declared.rows.leave.Leaving.TheVariants as leaving
@@ -21,8 +21,8 @@ use Rattle.map_tables.specs.declared.table.Table.{Table}
 use Rattle.map_straight.specs.Given.ResizeCopier.{copier_plan}
 use Rattle.map_straight.specs.Given.ResizeDeclared.copier.Copier.{Copier}
 use Rattle.map_straight.specs.Given.ResizeDeclared.dispose.Dispose.{Dispose}
-use Rattle.map_straight.specs.Given.ResizeDeclared.outcome.Outcome.{Outcome}
-use Rattle.map_straight.specs.Given.ResizeDeclared.outcome.Outcome.TheVariants as outcome
+use Rattle.map_straight.specs.Given.ResizeDeclared.yielding.Yielding.{Yielding}
+use Rattle.map_straight.specs.Given.ResizeDeclared.yielding.Yielding.TheVariants as outcome
 use Rattle.papaya_raw.specs.Call.{call_plan}
 use Rattle.papaya_raw.specs.declared.machines.answer.Called.{Called}
 use Rattle.papaya_raw.specs.declared.machines.answer.Called.TheVariants as called
@@ -36,7 +36,7 @@ use Rattle.seize_straight.proofs.Running.{by_law}
 use Rattle.owner_whole.specs.Strides.Ending.{Ends, Leads, RunsTo, none_taken, one_more, stops}
 use Rattle.owner_calls.specs.Owned.Inside.{has_ended, helping, retiring, takes_more}
 use Rattle.owner_calls.specs.Owned.Machines.{on_call, on_key_after, on_key_plan, refreshes_after, refreshes_plan}
-use Rattle.owner_calls.specs.declared.machines.Refreshes.{Refreshes}
+use Rattle.owner_calls.specs.declared.machines.OwnerRefresh.{OwnerRefresh}
 use Rattle.owner_calls.specs.declared.machines.OnKey.{OnKey}
 use Rattle.owner_calls.specs.declared.machines.Stop.{Stop}
 use Rattle.owner_calls.specs.declared.machines.Stop.TheVariants as stop
@@ -45,7 +45,7 @@ use Rattle.owner_whole.proofs.Strides.Runs.Leading.{ends_along, runs_along}
 use Rattle.owner_whole.proofs.Strides.Runs.Steps.{ends_on, may_step}
 
 module _ {K V Q S : Type 0} (asks : Q → K → Bool) (same : K → K → Bool) (hashes : S → K → ℕ) (hasher : Bor S) where
-  abbrev plan_of : OnKey K V Q S → Plan (Node K V) (OnKey K V Q S × Progress Stop)
+  abbrev plan_of : OnKey K V Q S → Plan (Node K V) (OnKey K V Q S × Advance Stop)
   plan_of = on_key_plan asks same hashes
 
   abbrev call_steps : KeyCall K V Q → Plan (Node K V) (KeyCall K V Q × Called (Node K V))
@@ -116,10 +116,10 @@ module _ {K V Q S : Type 0} (asks : Q → K → Bool) (same : K → K → Bool) 
 
   -- the help with a resize, within a call
   module _ (u : OnKey K V Q S) (goal : Table) where
-    abbrev copier_steps : Copier → Plan (Node K V) (Copier × Outcome (Node K V) Table)
+    abbrev copier_steps : Copier → Plan (Node K V) (Copier × Yielding (Node K V) Table)
     copier_steps = copier_plan (hashes u.hasher.now)
 
-    more_of : (told : Outcome (Node K V) Table) → CopyGoes told → takes_more told ≡ true
+    more_of : (told : Yielding (Node K V) Table) → CopyGoes told → takes_more told ≡ true
     more_of outcome.Goes so = refl
     more_of outcome.Waits so = refl
     more_of (outcome.Gave value) so = absurd so
@@ -146,10 +146,10 @@ places_on {K} {V} asks same hashes u goal hasher is c d m n l =
     (subst (λ h. Straight.Leads (CopyGoes {T = Node K V} {A = Table}) Took value_at (copier_plan (hashes h)) c m d n) (sym is) l)
 
 -- a refresh counts its list down
-abbrev pub counting : Refreshes → Settle → Refreshes
+abbrev pub counting : OwnerRefresh → Settle → OwnerRefresh
 counting r s = record { leave = record r.leave { stands = leaving.Settles s } }
 
-module _ {T : Type 0} (defers : T → Option ℕ) (r : Refreshes) where
+module _ {T : Type 0} (defers : T → Option ℕ) (r : OwnerRefresh) where
   counts_on : (s t : Settle) (m n : Mem T) (told : Settled T) → DropGoes told → Steps Took value_at m (settle_plan defers s) n (t, told)
       → Steps Took value_at m (refreshes_plan defers (counting r s)) n (counting r t, progress.Goes)
   counts_on s t m n settled.Goes so x =

@@ -15,7 +15,7 @@ use Rattle.map_straight.specs.Given.ResizeNewMap.{new_map_plan}
 use Rattle.map_straight.specs.Given.ResizeDeclared.new_map.NewMap.{NewMap}
 use Rattle.papaya_raw.specs.CallAsks.{replied}
 use Rattle.papaya_raw.specs.declared.machines.answer.KeyAnswer.{KeyAnswer}
-use Rattle.papaya_raw.specs.declared.machines.asking.Reply.{Reply}
+use Rattle.papaya_raw.specs.declared.machines.asking.MachineReply.{MachineReply}
 use Rattle.papaya_raw.specs.declared.machines.call.KeyCall.{KeyCall}
 use Rattle.owner_whole.specs.Given.PointsSteps.{AreLawful}
 use Rattle.owner_whole.specs.Given.CallersPairs.{Given}
@@ -25,7 +25,7 @@ use Rattle.owner_calls.specs.Owned.Machines.{on_key_plan, for_room_plan, refresh
 use Rattle.owner_calls.specs.Owned.Owned.{Holds}
 use Rattle.owner_calls.specs.declared.machines.ForRoom.{ForRoom}
 use Rattle.owner_calls.specs.declared.machines.OnKey.{OnKey}
-use Rattle.owner_calls.specs.declared.machines.Refreshes.{Refreshes}
+use Rattle.owner_calls.specs.declared.machines.OwnerRefresh.{OwnerRefresh}
 use Rattle.owner_calls.specs.declared.machines.Stop.{Stop}
 use Rattle.owner_calls.specs.Sifts.Sweeping.{over_pairs_plan}
 use Rattle.owner_calls.specs.declared.sweeping.OverPairs.{OverPairs}
@@ -48,7 +48,7 @@ module _ (K V Q : Type 0) where
 
   -- Told anything, it goes on so.
   abbrev pub RepliesPutNone : Type 0
-  RepliesPutNone = (m0 m : Mem (Node K V)) (p : KeyCall K V Q) → HasCome m0 m p → (reply : Reply V) → HasCome m0 m (replied p reply).0
+  RepliesPutNone = (m0 m : Mem (Node K V)) (p : KeyCall K V Q) → HasCome m0 m p → (reply : MachineReply V) → HasCome m0 m (replied p reply).0
 
 module _ (K V S : Type 0) where
   -- No pair comes by a reservation,
@@ -67,8 +67,8 @@ module _ (K V : Type 0) where
   -- nor by a refresh of the section.
   abbrev pub RefreshesPutNone : Type 0
   RefreshesPutNone =
-      (x : Refreshes) (m : Mem (Node K V)) → Ends (refreshes_plan (deferred_word {K = K} {V = V})) x m
-      → (x2 : Refreshes) (m2 : Mem (Node K V)) (result : Result Unit Fault) → RunsTo (refreshes_plan (deferred_word {K = K} {V = V})) x m x2 m2 result → NoneCame m m2
+      (x : OwnerRefresh) (m : Mem (Node K V)) → Ends (refreshes_plan (deferred_word {K = K} {V = V})) x m
+      → (x2 : OwnerRefresh) (m2 : Mem (Node K V)) (result : Result Unit Fault) → RunsTo (refreshes_plan (deferred_word {K = K} {V = V})) x m x2 m2 result → NoneCame m m2
 
   -- A step of a refresh, or of a retirement, leaves each pair where it stands, or hands it out.
   abbrev pub RowsHandOut : Type 0

@@ -7,7 +7,7 @@ use Rattle.map_tables.specs.declared.node.Node.{Node}
 use Rattle.map_tables.specs.declared.setting.Setting.{Setting}
 use Rattle.papaya_raw.specs.CallAsks.{replied}
 use Rattle.papaya_raw.specs.declared.machines.answer.KeyAnswer.{KeyAnswer}
-use Rattle.papaya_raw.specs.declared.machines.asking.Reply.{Reply}
+use Rattle.papaya_raw.specs.declared.machines.asking.MachineReply.{MachineReply}
 use Rattle.papaya_raw.specs.declared.machines.call.KeyCall.{KeyCall}
 use Rattle.owner_whole.specs.Given.CallersPairs.{Given}
 use Rattle.owner_whole.specs.Given.CallersTogether.{IsBegun}
@@ -19,7 +19,7 @@ use Rattle.owner_calls.specs.declared.machines.Stop.TheVariants as stop
 
 module _ {K V Q S : Type 0} (asks : Q → K → Bool) (same : K → K → Bool) (hashes : S → K → ℕ) where
   -- Told this where it asks, a call has stopped so.
-  abbrev pub StopsTold : OnKey K V Q S → Mem (Node K V) → Reply V → Mem (Node K V) → Result Stop Fault → Type 0
+  abbrev pub StopsTold : OnKey K V Q S → Mem (Node K V) → MachineReply V → Mem (Node K V) → Result Stop Fault → Type 0
   StopsTold x n told m result = (y : OnKey K V Q S) × RunsTo (on_key_plan asks same hashes) (record x { call = (replied x.call told).0 }) n y m result
 
   module _ (b : Bor S) (setting : Setting) (m0 : Mem (Node K V)) (keys : K → Bool) (given : Given K V) where
@@ -28,7 +28,7 @@ module _ {K V Q S : Type 0} (asks : Q → K → Bool) (same : K → K → Bool) 
       begun : (call : KeyCall K V Q) → IsBegun V same (hashes b.now) asks setting (λ i. setting.slot) 0 keys given call
           → IsCalling (record { call = call; hasher = b; unstored = None }) m0
       asked : (x : OnKey K V Q S) (m : Mem (Node K V)) → IsCalling x m → (x2 : OnKey K V Q S) (m2 : Mem (Node K V)) (about : Option ℕ) → RunsTo (on_key_plan asks same hashes) x m x2 m2 (Ok (stop.Asks about))
-          → (told : Reply V) → IsCalling (record x2 { call = (replied x2.call told).0 }) m2
+          → (told : MachineReply V) → IsCalling (record x2 { call = (replied x2.call told).0 }) m2
 
     -- It has stopped so.
     abbrev pub HasStopped : Mem (Node K V) → Result Stop Fault → Type 0

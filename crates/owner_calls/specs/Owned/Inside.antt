@@ -7,8 +7,8 @@ use Rattle.map_tables.specs.declared.table.Table.{Table}
 use Rattle.map_straight.specs.Given.ResizeDeclared.copier.Copier.{Copier}
 use Rattle.map_straight.specs.Given.ResizeDeclared.dispose.Dispose.{Dispose}
 use Rattle.map_straight.specs.Given.ResizeDeclared.dispose.Disposing.TheVariants as disposal
-use Rattle.map_straight.specs.Given.ResizeDeclared.outcome.Outcome.{Outcome}
-use Rattle.map_straight.specs.Given.ResizeDeclared.outcome.Outcome.TheVariants as outcome
+use Rattle.map_straight.specs.Given.ResizeDeclared.yielding.Yielding.{Yielding}
+use Rattle.map_straight.specs.Given.ResizeDeclared.yielding.Yielding.TheVariants as outcome
 use Rattle.papaya_raw.specs.declared.machines.answer.End.TheVariants as ends
 use Rattle.papaya_raw.specs.declared.machines.answer.KeyAnswer.{KeyAnswer}
 use Rattle.papaya_raw.specs.declared.machines.call.Calling.TheVariants as at
@@ -33,7 +33,7 @@ has_ended settled.Done = true
 has_ended _ = false
 
 -- a copying that tells this takes a further step
-abbrev pub takes_more : {T A : Type 0} → Outcome T A → Bool
+abbrev pub takes_more : {T A : Type 0} → Yielding T A → Bool
 takes_more (outcome.Done a) = false
 takes_more (outcome.Refused fault) = false
 takes_more _ = true

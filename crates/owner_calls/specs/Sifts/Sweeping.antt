@@ -5,8 +5,8 @@ use Rattle.seize_words.specs.OneMemory.Mem.{Mem}
 use Rattle.seize_words.specs.OneMemory.Plan.{Plan, plan_as}
 use Rattle.seize_words.specs.declared.fault.Fault.{Fault}
 use Rattle.seize_words.specs.declared.fault.Fault.TheVariants.{Capacity}
-use Rattle.seize.specs.declared.progress.Progress.{Progress}
-use Rattle.seize.specs.declared.progress.Progress.TheVariants as progress
+use Rattle.seize.specs.declared.advance.Advance.{Advance}
+use Rattle.seize.specs.declared.advance.Advance.TheVariants as progress
 use Rattle.map_tables.specs.declared.node.Node.{Node}
 use Rattle.map_tables.specs.declared.setting.Setting.{Setting}
 use Rattle.papaya_raw.specs.Given.SweepsSweep.{sweep_plan}
@@ -24,7 +24,7 @@ use Rattle.owner_calls.specs.declared.sweeping.Pause.{Pause}
 use Rattle.owner_calls.specs.declared.sweeping.Pause.TheVariants as pause
 
 -- after a step of its sweep, by what that told
-abbrev pub over_pairs_settled : {S T : Type 0} → OverPairs S → Swept T → OverPairs S × Progress Pause
+abbrev pub over_pairs_settled : {S T : Type 0} → OverPairs S → Swept T → OverPairs S × Advance Pause
 over_pairs_settled u swept.Ready = (u, progress.Done pause.Ready)
 over_pairs_settled u (swept.Pair word) = (u, progress.Done (pause.Shows word))
 over_pairs_settled u (swept.Asks word) = (u, progress.Done (pause.Asks word))
@@ -33,10 +33,10 @@ over_pairs_settled u (swept.Refused fault) = (u, progress.Refused fault)
 over_pairs_settled u _ = (u, progress.Goes)
 
 module _ {K V S : Type 0} where
-  abbrev pub over_pairs_after : OverPairs S → Sweep × Swept (Node K V) → OverPairs S × Progress Pause
+  abbrev pub over_pairs_after : OverPairs S → Sweep × Swept (Node K V) → OverPairs S × Advance Pause
   over_pairs_after u end = over_pairs_settled (record u { sweep = end.0 }) end.1
 
-  abbrev pub over_pairs_plan : (S → K → ℕ) → OverPairs S → Plan (Node K V) (OverPairs S × Progress Pause)
+  abbrev pub over_pairs_plan : (S → K → ℕ) → OverPairs S → Plan (Node K V) (OverPairs S × Advance Pause)
   over_pairs_plan hashes u = plan_as (over_pairs_after u) (sweep_plan (hashes u.hasher.now) u.sweep)
 
 module _ {K V S : Type 0} (hashes : S → K → ℕ) (b : Bor S) (setting : Setting) (purpose : Purpose) (m0 : Mem (Node K V)) where

@@ -6,8 +6,8 @@ use Rattle.many_maps.specs.Given.SeizeWordsMem.{Mem, Took, value_at}
 use Rattle.many_maps.specs.Given.SeizeWordsPlan.{Steps, plan_as}
 use Rattle.many_maps.proofs.Given.SeizeRuleRows.Leaving.{steps_back}
 use Rattle.many_maps.specs.Given.SeizeWorld.{World}
-use Rattle.many_maps.specs.Given.SeizeDeclared.progress.Progress.{Progress}
-use Rattle.many_maps.specs.Given.SeizeDeclared.progress.Progress.TheVariants as progress
+use Rattle.many_maps.specs.Given.SeizeDeclared.advance.Advance.{Advance}
+use Rattle.many_maps.specs.Given.SeizeDeclared.advance.Advance.TheVariants as progress
 use Rattle.many_maps.specs.Given.TablesLengths.{next_len}
 use Rattle.many_maps.specs.Given.TablesDeclared.lengths.Reason.{Reason}
 use Rattle.many_maps.specs.Given.TablesDeclared.lengths.Reason.TheVariants.{Full}
@@ -56,7 +56,7 @@ module _ {K V Q : Type 0} (same : K → K → Bool) (hash : K → ℕ) (asks : Q
     abbrev So : Type 0
     So = CountsOrMakes setting m2 c n before reason end.0.stands
 
-    by_count : m2 ≡ w.memory → (b : Sum × Progress ℕ) → end ≡ next_made p (counted n before reason b) → SumTold setting b → Ahead setting w.memory sum facts.0 sum.stands b → So
+    by_count : m2 ≡ w.memory → (b : Sum × Advance ℕ) → end ≡ next_made p (counted n before reason b) → SumTold setting b → Ahead setting w.memory sum facts.0 sum.stands b → So
     by_count kept (next, progress.Goes) e told comes =
         inl (next, ap (λ (x : KeyCall K V Q × Called (Node K V)). x.0.stands) e, told, subst (λ (m : Mem (Node K V)). count_ahead setting m next.stands ≡ pairs_in c) (sym kept) (comes ∙ ahead))
     by_count kept (next, progress.Waits) e told comes = absurd told

@@ -3,7 +3,7 @@ use Rattle.std.specs.Prelude.{◌≡◌, ℕ, Bool, [], ◌∷◌, ◌++◌, Opt
 use Rattle.many_maps.specs.Given.SeizeWordsMem.{Mem, Took, value_at}
 use Rattle.many_maps.specs.Given.SeizeWordsPlan.{Steps}
 use Rattle.many_maps.specs.Given.SeizeWorld.{World}
-use Rattle.many_maps.specs.Given.SeizeDeclared.progress.Progress.TheVariants as progress
+use Rattle.many_maps.specs.Given.SeizeDeclared.advance.Advance.TheVariants as progress
 use Rattle.many_maps.specs.Given.SeizeDeclared.rows.settle.Settled.{Settled}
 use Rattle.many_maps.specs.Given.SeizeDeclared.rows.settle.Settled.TheVariants as settled
 use Rattle.many_maps.specs.Given.TablesDeclared.node.Node.{Node}

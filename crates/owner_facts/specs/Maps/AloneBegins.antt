@@ -4,8 +4,8 @@ use Rattle.many_maps.specs.Given.SeizeWordsDeclared.at.At.TheVariants.{Root, Use
 use Rattle.many_maps.specs.Given.SeizeWordsMem.{Mem, value_at, word_at}
 use Rattle.many_maps.specs.Given.SeizeWorld.{Making}
 use Rattle.many_maps.specs.Given.SeizeAloneAlone.{History, IsHistory, at_rest}
-use Rattle.many_maps.specs.Given.SeizeDeclared.progress.Progress.{Progress}
-use Rattle.many_maps.specs.Given.SeizeDeclared.progress.Progress.TheVariants as progress
+use Rattle.many_maps.specs.Given.SeizeDeclared.advance.Advance.{Advance}
+use Rattle.many_maps.specs.Given.SeizeDeclared.advance.Advance.TheVariants as progress
 use Rattle.many_maps.specs.Given.TablesNodes.{deferred_word}
 use Rattle.many_maps.specs.Given.TablesChunks.{is_incremental}
 use Rattle.many_maps.specs.Given.ResizeNewMap.{at_root, with_counter}
@@ -101,7 +101,7 @@ module _ {K V : Type 0} (same : K → K → Bool) (hash : K → ℕ) (setting : 
     pub handed : HasHandedNone h0 h
 
   -- After a step, by what it tells. It never waits, and where it is refused it has given its root up again.
-  abbrev pub OpensTo : NewMap → Mem (Node K V) → Progress Setting → Type 0
+  abbrev pub OpensTo : NewMap → Mem (Node K V) → Advance Setting → Type 0
   OpensTo n m progress.Goes = (h : History) × IsOpening n m h
   OpensTo n m progress.Waits = ⊥
   OpensTo n m (progress.Done begun) = (h : History) × HasOpened begun m h

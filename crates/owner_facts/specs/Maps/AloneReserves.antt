@@ -6,8 +6,8 @@ use Rattle.many_maps.specs.Given.SeizeSettle.{retiring}
 use Rattle.many_maps.specs.Given.TablesChunks.{is_incremental}
 use Rattle.many_maps.specs.Given.TablesCounts.{count_in}
 use Rattle.many_maps.specs.Given.ReservesReserve.{needed}
-use Rattle.many_maps.specs.Given.ResizeDeclared.outcome.Outcome.{Outcome}
-use Rattle.many_maps.specs.Given.ResizeDeclared.outcome.Outcome.TheVariants as outcome
+use Rattle.many_maps.specs.Given.ResizeDeclared.yielding.Yielding.{Yielding}
+use Rattle.many_maps.specs.Given.ResizeDeclared.yielding.Yielding.TheVariants as outcome
 use Rattle.many_maps.specs.Given.TablesDeclared.setting.Setting.{Setting}
 use Rattle.many_maps.specs.Given.ResizeDeclared.copier.Copier.{Copier}
 use Rattle.many_maps.specs.Given.ResizeDeclared.copier.Copying.{Copying}
@@ -39,7 +39,7 @@ abbrev pub RootHasPlaces : {K T : Type 0} → Setting → Mem T → Chart K → 
 RootHasPlaces setting m c additional = (needed additional (count_in (shards_sum m setting.counter (suc setting.mask) % 2 ^ 64)) ≤ c.len c.first) × (c.first < c.past)
 
 -- Where a step of a reservation leads that keeps to the root and counts what the shards say: it does so still, or has ended where the root has the places.
-abbrev pub KeepsToRoot : {K T : Type 0} → Setting → Mem T → Chart K → Reserve × Outcome T Unit → Type 0
+abbrev pub KeepsToRoot : {K T : Type 0} → Setting → Mem T → Chart K → Reserve × Yielding T Unit → Type 0
 KeepsToRoot setting m c (p, outcome.Done end) = RootHasPlaces setting m c p.additional
 KeepsToRoot setting m c (p, outcome.Refused fault) = Unit {0}
 KeepsToRoot setting m c (p, _) = LooksAtRoot c p.stands × SumsUp setting m p.stands

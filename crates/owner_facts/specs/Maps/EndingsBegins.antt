@@ -2,7 +2,7 @@
 use Rattle.std.specs.Prelude.{◌<◌}
 use Rattle.many_maps.specs.Given.SeizeWordsMem.{Mem, Took, value_at}
 use Rattle.many_maps.specs.Given.SeizeWordsPlan.{Steps}
-use Rattle.many_maps.specs.Given.SeizeDeclared.progress.Progress.TheVariants as progress
+use Rattle.many_maps.specs.Given.SeizeDeclared.advance.Advance.TheVariants as progress
 use Rattle.many_maps.specs.Given.ResizeNewMap.{new_map_plan}
 use Rattle.many_maps.specs.Given.TablesDeclared.node.Node.{Node}
 use Rattle.many_maps.specs.Given.ResizeDeclared.new_map.NewMap.{NewMap}

@@ -1,7 +1,7 @@
 -- What is known of a map where one caller alone has a part in its copying, at each point of a reservation.
 use Rattle.std.specs.Prelude.{ℕ, Bool, true, false}
-use Rattle.many_maps.specs.Given.ResizeDeclared.outcome.Outcome.{Outcome}
-use Rattle.many_maps.specs.Given.ResizeDeclared.outcome.Outcome.TheVariants as outcome
+use Rattle.many_maps.specs.Given.ResizeDeclared.yielding.Yielding.{Yielding}
+use Rattle.many_maps.specs.Given.ResizeDeclared.yielding.Yielding.TheVariants as outcome
 use Rattle.many_maps.specs.Given.ResizeDeclared.copier.Copier.{Copier}
 use Rattle.many_maps.specs.Given.ReservesDeclared.reserve.Reserve.{Reserve}
 use Rattle.many_maps.specs.Given.ReservesDeclared.reserve.Reserving.{Reserving}
@@ -29,7 +29,7 @@ module _ {K : Type 0} where
     pub point : ReservesAlone incremental c stands
 
 -- where a step of a reservation that is alone leads: it never waits
-abbrev pub LeadsReserve : {K T : Type 0} → Bool → ℕ → Chart K → Reserve × Outcome T Unit → Type 0
+abbrev pub LeadsReserve : {K T : Type 0} → Bool → ℕ → Chart K → Reserve × Yielding T Unit → Type 0
 LeadsReserve incremental caller c (p, outcome.Goes) = IsLoneReserve incremental caller c p.stands
 LeadsReserve incremental caller c (p, outcome.Waits) = ⊥
 LeadsReserve incremental caller c (p, outcome.Gave value) = ⊥

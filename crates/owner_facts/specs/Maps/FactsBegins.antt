@@ -3,8 +3,8 @@ use Rattle.std.specs.Prelude.{◌≡◌, ◌≢◌, ℕ, ◌^◌, ◌<◌, ◌�
 use Rattle.many_maps.specs.Given.SeizeWordsDeclared.at.At.TheVariants.{Root, Used}
 use Rattle.many_maps.specs.Given.SeizeWordsMem.{Mem, value_at, word_at}
 use Rattle.many_maps.specs.Given.SeizeWorld.{World, Making as MadeBy, Event, Runs}
-use Rattle.many_maps.specs.Given.SeizeDeclared.progress.Progress.{Progress}
-use Rattle.many_maps.specs.Given.SeizeDeclared.progress.Progress.TheVariants as progress
+use Rattle.many_maps.specs.Given.SeizeDeclared.advance.Advance.{Advance}
+use Rattle.many_maps.specs.Given.SeizeDeclared.advance.Advance.TheVariants as progress
 use Rattle.many_maps.specs.Given.TablesNodes.{deferred_word}
 use Rattle.many_maps.specs.Given.TablesChunks.{is_incremental}
 use Rattle.many_maps.specs.Given.TablesLengths.{IsTableLen}
@@ -75,7 +75,7 @@ module _ {K V : Type 0} (same : K → K → Bool) (hash : K → ℕ) (caller : �
   GivesUp w w2 root _ = w2.memory ≡ w.memory
 
   -- where a step of it led, from this point
-  abbrev pub BeginTold : Setting → Opening → World (Node K V) → World (Node K V) → NewMap × Progress Setting → Type 0
+  abbrev pub BeginTold : Setting → Opening → World (Node K V) → World (Node K V) → NewMap × Advance Setting → Type 0
   BeginTold setting stage w w2 (n, progress.Goes) = BeginFacts w2 setting n
   BeginTold setting stage w w2 (n, progress.Waits) = ⊥
   BeginTold setting stage w w2 (n, progress.Done end) =
@@ -83,7 +83,7 @@ module _ {K V : Type 0} (same : K → K → Bool) (hash : K → ℕ) (caller : �
   BeginTold setting stage w w2 (n, progress.Refused fault) = GivesUp w w2 n.setting.root stage
 
   -- A step of the beginning of a map came to this memory.
-  pub record BeginWent (setting : Setting) (stage : Opening) (w : World (Node K V)) (root : ℕ) (m2 : Mem (Node K V)) (end : NewMap × Progress Setting) : Type 0 where
+  pub record BeginWent (setting : Setting) (stage : Opening) (w : World (Node K V)) (root : ℕ) (m2 : Mem (Node K V)) (end : NewMap × Advance Setting) : Type 0 where
     pub w2 : World (Node K V)
     pub events : List (Event (Node K V))
     pub users : AllUsers events

@@ -4,8 +4,8 @@ use Rattle.many_maps.specs.Given.SeizeWordsDeclared.at.At.TheVariants.{Root, Use
 use Rattle.many_maps.specs.Given.SeizeWordsDeclared.fault.Fault.TheVariants.{Memory}
 use Rattle.many_maps.specs.Given.SeizeWordsMem.{Mem, Took, value_at, word_at}
 use Rattle.many_maps.specs.Given.SeizeWordsPlan.{Steps}
-use Rattle.many_maps.specs.Given.SeizeDeclared.progress.Progress.{Progress}
-use Rattle.many_maps.specs.Given.SeizeDeclared.progress.Progress.TheVariants as progress
+use Rattle.many_maps.specs.Given.SeizeDeclared.advance.Advance.{Advance}
+use Rattle.many_maps.specs.Given.SeizeDeclared.advance.Advance.TheVariants as progress
 use Rattle.many_maps.specs.Given.ResizeNewMap.{opening, new_map_plan}
 use Rattle.many_maps.specs.Given.TablesDeclared.node.Node.{Node}
 use Rattle.many_maps.specs.Given.TablesDeclared.setting.Setting.{Setting}
@@ -38,7 +38,7 @@ NeedsMemoryAlone m n at.Over = Unit {0}
 NeedsMemoryAlone m n (at.Refused fault) = fault ≡ Memory
 
 -- after a step, by what it tells
-abbrev pub NeedsOn : {T : Type 0} → Mem T → NewMap × Progress Setting → Type 0
+abbrev pub NeedsOn : {T : Type 0} → Mem T → NewMap × Advance Setting → Type 0
 NeedsOn m (n, progress.Goes) = NeedsMemoryAlone m n n.stands
 NeedsOn m (n, progress.Refused fault) = fault ≡ Memory
 NeedsOn m _ = Unit {0}
@@ -53,5 +53,5 @@ module _ (K V : Type 0) where
   -- So it is after each step, which leaves the words of slots as they are; and where it is refused, it is for want of memory.
   abbrev pub MemoryAloneIsRefused : Type 0
   MemoryAloneIsRefused =
-      (m m2 : Mem (Node K V)) (n : NewMap) (end : NewMap × Progress Setting) → NeedsMemoryAlone m n n.stands → Steps Took value_at m (new_map_plan n) m2 end
+      (m m2 : Mem (Node K V)) (n : NewMap) (end : NewMap × Advance Setting) → NeedsMemoryAlone m n n.stands → Steps Took value_at m (new_map_plan n) m2 end
       → (m2.slots ≡ m.slots) × NeedsOn m2 end

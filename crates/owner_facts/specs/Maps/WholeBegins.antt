@@ -4,7 +4,7 @@ use Rattle.std.specs.Int.{IsPowerOfTwo}
 use Rattle.many_maps.specs.Given.SeizeWordsMem.{Mem, Can, Took, value_at}
 use Rattle.many_maps.specs.Given.SeizeWordsPlan.{May, Steps}
 use Rattle.many_maps.specs.Given.SeizeAloneAlone.{History, IsHistory, at_rest}
-use Rattle.many_maps.specs.Given.SeizeDeclared.progress.Progress.{Progress}
+use Rattle.many_maps.specs.Given.SeizeDeclared.advance.Advance.{Advance}
 use Rattle.many_maps.specs.Given.TablesLengths.{IsTableLen}
 use Rattle.many_maps.specs.Given.ResizeNewMap.{opening, new_map_plan}
 use Rattle.many_maps.specs.Given.TablesNodes.{deferred_word}
@@ -29,4 +29,4 @@ module _ {K : Type 0} (V : Type 0) (same : K → K → Bool) (hash : K → ℕ) 
       AreLawful same hash → (setting : Setting) → IsPowerOfTwo setting.initial → setting.mask + 1 < 2 ^ 64 → (roots len : ℕ) (m0 : Mem (Node K V)) (h0 : History)
       → (n : NewMap) (m : Mem (Node K V)) (h : History) → IsOpening same hash setting roots len m0 h0 n m h
       → May Can Took value_at m (new_map_plan n)
-      × ((m2 : Mem (Node K V)) (n2 : NewMap) (end : Progress Setting) → Steps Took value_at m (new_map_plan n) m2 (n2, end) → OpensTo same hash setting roots len m0 h0 n2 m2 end)
+      × ((m2 : Mem (Node K V)) (n2 : NewMap) (end : Advance Setting) → Steps Took value_at m (new_map_plan n) m2 (n2, end) → OpensTo same hash setting roots len m0 h0 n2 m2 end)

@@ -11,7 +11,7 @@ use Rattle.owner_asks.specs.Asks.Closures.{computing_stop}
 use Rattle.seize_words.specs.declared.refused.RefusedKey.{RefusedKey}
 use Rattle.owner_rests.specs.Rests.Asking.{ended_by, computing_ended_by}
 use Rattle.owner_rests.specs.declared.change.Change.{Change}
-use Rattle.owner_rests.specs.declared.change.Compute.{Compute}
+use Rattle.owner_rests.specs.declared.change.ComputedChange.{ComputedChange}
 
 -- of a run that has come to this
 module _ (Ran : Result Stop Fault → Type 0) where
@@ -19,7 +19,7 @@ module _ (Ran : Result Stop Fault → Type 0) where
   refused_because fault_of (Ok answer) ran d is = subst (λ x. IfErr x (λ e. Ran (Err (fault_of e)))) (sym is) tt
   refused_because fault_of (Err e) ran d is = subst (λ x. IfErr x (λ e. Ran (Err (fault_of e)))) (sym is) ran
 
-  pub computing_because : {K T : Type 0} (r : Result (Computed T) (RefusedKey K)) → Ran (computing_stop r) → (d : Result (Compute T) (RefusedKey K)) → d ≡ computing_ended_by r
+  pub computing_because : {K T : Type 0} (r : Result (Computed T) (RefusedKey K)) → Ran (computing_stop r) → (d : Result (ComputedChange T) (RefusedKey K)) → d ≡ computing_ended_by r
       → IfErr d (λ (e : RefusedKey K). Ran (Err e.fault))
   computing_because {K} (Ok (computed.Changed answer)) ran d is = subst (λ x. IfErr x (λ (e : RefusedKey K). Ran (Err e.fault))) (sym is) tt
   computing_because {K} (Ok (computed.Aborted end answer)) ran d is = subst (λ x. IfErr x (λ (e : RefusedKey K). Ran (Err e.fault))) (sym is) tt

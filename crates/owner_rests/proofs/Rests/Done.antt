@@ -8,8 +8,8 @@ use Rattle.map_tables.specs.declared.node.Node.{Node}
 use Rattle.map_tables.specs.declared.setting.Setting.{Setting}
 use Rattle.papaya_raw.specs.declared.machines.answer.KeyAnswer.{KeyAnswer}
 use Rattle.papaya_raw.specs.declared.machines.answer.KeyAnswer.TheVariants as answers
-use Rattle.papaya_raw.specs.declared.machines.asking.Reply.{Reply}
-use Rattle.papaya_raw.specs.declared.machines.asking.Reply.TheVariants as reply
+use Rattle.papaya_raw.specs.declared.machines.asking.MachineReply.{MachineReply}
+use Rattle.papaya_raw.specs.declared.machines.asking.MachineReply.TheVariants as reply
 use Rattle.owner_asks.specs.Asks.Asking.{AnswersAs, EndsAs, RefusedAs}
 use Rattle.owner_asks.specs.Asks.Closures.{ComesTo, ComesToWith, ComputesTo, Computing}
 use Rattle.owner_asks.specs.declared.computing.Computed.{Computed}
@@ -23,11 +23,11 @@ use Rattle.owner_rests.specs.Rests.Asking.{HasDone, IsRefusedFor, ComesToIt, Com
 use Rattle.owner_rests.specs.Rests.Lasts.{RestsWith, no_words, words_of, words_of_computing, words_of_end}
 use Rattle.owner_rests.specs.declared.last.Last.{Last}
 use Rattle.owner_rests.specs.declared.change.Change.{Change}
-use Rattle.owner_rests.specs.declared.change.Compute.{Compute}
+use Rattle.owner_rests.specs.declared.change.ComputedChange.{ComputedChange}
 
 -- what was told of the calls below, with the words that they tell
 module _ {K V : Type 0} (same : K → K → Bool) (hash : K → ℕ) (setting : Setting) (m : Mem (Node K V)) (keys : K → Bool) (its : Option K) (xs : List (K × V)) where
-  module _ (Told : Option (K × V) → Reply V → Type 0) where
+  module _ (Told : Option (K × V) → MachineReply V → Type 0) where
     pub done_so : (answer : KeyAnswer) → AnswersAs same hash setting m keys xs its Told answer → HasDone keys its Told xs (RestsWith same hash setting m (words_of answer)) (changed_by answer)
     done_so answers.Absent a = (a.1, a.0, record { holds = a.2; taken_is = tt; met_is = tt })
     done_so (answers.Found word) a = (a.0, a.2, a.1, record { holds = a.4; taken_is = tt; met_is = a.3 })
@@ -57,14 +57,14 @@ module _ {K V : Type 0} (same : K → K → Bool) (hash : K → ℕ) (setting : 
   aborted_so (answers.Removed word) a = absurd (let f = a.1 in cc f)
 
   -- as it is with the words that were kept, and what was answered
-  module _ (Told : Option (K × V) → Reply V → Type 0) {E : Type 0} (fault_of : E → Fault) (r : Result KeyAnswer E) where
+  module _ (Told : Option (K × V) → MachineReply V → Type 0) {E : Type 0} (fault_of : E → Fault) (r : Result KeyAnswer E) where
     abbrev pub ComesWith : Last → Result Change E → Type 0
     ComesWith last = ComesToIt keys its Told xs (RestsWith same hash setting m last) fault_of
 
     pub kept_as : ComesWith (words_of_end r) (ended_by r) → (last : Last) → last ≡ words_of_end r → (d : Result Change E) → d ≡ ended_by r → ComesWith last d
     kept_as so last words d is = subst (ComesWith last) (sym is) (subst (λ (l : Last). ComesWith l (ended_by r)) (sym words) so)
 
-  module _ (Told : Option (K × V) → Reply V → Type 0) (r : Result KeyAnswer Fault) (e : EndsAs same hash setting m keys xs its Told r) where
+  module _ (Told : Option (K × V) → MachineReply V → Type 0) (r : Result KeyAnswer Fault) (e : EndsAs same hash setting m keys xs its Told r) where
     pub ends_as : (last : Last) → last ≡ words_of_end r → (d : Result Change Fault) → d ≡ ended_by r → ComesToIt keys its Told xs (RestsWith same hash setting m last) (λ fault. fault) d
     ends_as = kept_as Told (λ fault. fault) r (ends_so Told r e)
 
@@ -72,7 +72,7 @@ module _ {K V : Type 0} (same : K → K → Bool) (hash : K → ℕ) (setting : 
     end_capacity d is = subst (λ x. IfErr x (λ (fault : Fault). fault ≡ Capacity → CannotGrowIn m setting)) (sym is) (end_long Told r e)
 
 module _ {K V : Type 0} (same : K → K → Bool) (hash : K → ℕ) (setting : Setting) (m : Mem (Node K V)) (key : K) (xs : List (K × V)) where
-  module _ (Told : Option (K × V) → Reply V → Type 0) where
+  module _ (Told : Option (K × V) → MachineReply V → Type 0) where
     comes_so : (r : Result KeyAnswer (RefusedKey K)) → ComesTo same hash setting m key xs Told r
         → ComesToIt (same key) (Some key) Told xs (RestsWith same hash setting m (words_of_end r)) (λ (e : RefusedKey K). e.fault) (ended_by r)
     comes_so (Ok answer) e = done_so same hash setting m (same key) (Some key) xs Told answer e
@@ -122,7 +122,7 @@ module _ {K V : Type 0} (same : K → K → Bool) (hash : K → ℕ) (setting : 
       pair_capacity d is = subst (λ x. IfErr x (λ (e : Refused K V). e.fault ≡ Capacity → CannotGrowIn m setting)) (sym is) (pair_long value r e)
 
   module _ {T : Type 0} (Gives : Option (K × V) → Operation V T → Type 0) where
-    abbrev ComputesWith : Last → Result (Compute T) (RefusedKey K) → Type 0
+    abbrev ComputesWith : Last → Result (ComputedChange T) (RefusedKey K) → Type 0
     ComputesWith last = ComputesToIt (same key) (Some key) Gives xs (RestsWith same hash setting m last) (λ (e : RefusedKey K). e.fault)
 
     computes_so : (r : Result (Computed T) (RefusedKey K)) → ComputesTo same hash setting m key xs Gives r → ComputesWith (words_of_computing r) (computing_ended_by r)
@@ -141,12 +141,12 @@ module _ {K V : Type 0} (same : K → K → Bool) (hash : K → ℕ) (setting : 
     computing_long (Err r) e = e.0.2
 
     module _ (r : Result (Computed T) (RefusedKey K)) (e : ComputesTo same hash setting m key xs Gives r) where
-      pub computes_as : (last : Last) → last ≡ words_of_computing r → (d : Result (Compute T) (RefusedKey K)) → d ≡ computing_ended_by r
+      pub computes_as : (last : Last) → last ≡ words_of_computing r → (d : Result (ComputedChange T) (RefusedKey K)) → d ≡ computing_ended_by r
           → ComputesToIt (same key) (Some key) Gives xs (RestsWith same hash setting m last) (λ (e : RefusedKey K). e.fault) d
       computes_as last words d is = subst (ComputesWith last) (sym is) (subst (λ (l : Last). ComputesWith l (computing_ended_by r)) (sym words) (computes_so r e))
 
-      pub key_of_computing : (d : Result (Compute T) (RefusedKey K)) → d ≡ computing_ended_by r → IfErr d (λ e. e.key ≡ key)
+      pub key_of_computing : (d : Result (ComputedChange T) (RefusedKey K)) → d ≡ computing_ended_by r → IfErr d (λ e. e.key ≡ key)
       key_of_computing d is = subst (λ x. IfErr x (λ (e : RefusedKey K). e.key ≡ key)) (sym is) (computing_key_back r e)
 
-      pub computing_capacity : (d : Result (Compute T) (RefusedKey K)) → d ≡ computing_ended_by r → IfErr d (λ (e : RefusedKey K). e.fault ≡ Capacity → CannotGrowIn m setting)
+      pub computing_capacity : (d : Result (ComputedChange T) (RefusedKey K)) → d ≡ computing_ended_by r → IfErr d (λ (e : RefusedKey K). e.fault ≡ Capacity → CannotGrowIn m setting)
       computing_capacity d is = subst (λ x. IfErr x (λ (e : RefusedKey K). e.fault ≡ Capacity → CannotGrowIn m setting)) (sym is) (computing_long r e)

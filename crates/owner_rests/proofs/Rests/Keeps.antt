@@ -10,8 +10,8 @@ use Rattle.map_tables.specs.declared.node.Node.TheVariants as node
 use Rattle.map_tables.specs.declared.setting.Setting.{Setting}
 use Rattle.papaya_raw.specs.declared.machines.answer.KeyAnswer.{KeyAnswer}
 use Rattle.papaya_raw.specs.declared.machines.answer.KeyAnswer.TheVariants as answers
-use Rattle.papaya_raw.specs.declared.machines.asking.Reply.{Reply}
-use Rattle.papaya_raw.specs.declared.machines.asking.Reply.TheVariants as reply
+use Rattle.papaya_raw.specs.declared.machines.asking.MachineReply.{MachineReply}
+use Rattle.papaya_raw.specs.declared.machines.asking.MachineReply.TheVariants as reply
 use Rattle.owner_calls.specs.Given.CallersKind.{inserts, removes, tries_to_insert}
 use Rattle.owner_asks.specs.Asks.Asking.{AnswersAs, EndsAs}
 use Rattle.owner_asks.specs.Asks.Closures.{ComputesTo, computing_stop}
@@ -32,7 +32,7 @@ use Rattle.owner_rests.specs.Rests.Calls.{has_found}
 use Rattle.owner_rests.specs.Rests.Held.{as_list, if_tried, stored_as, stored_computing, stored_in}
 use Rattle.owner_rests.specs.Rests.Lasts.{pair_in, pair_of, words_of, words_of_computing, words_of_end}
 use Rattle.owner_rests.specs.declared.change.Change.{Change}
-use Rattle.owner_rests.specs.declared.change.Compute.{Compute}
+use Rattle.owner_rests.specs.declared.change.ComputedChange.{ComputedChange}
 use Rattle.owner_rests.specs.declared.last.Last.{Last}
 
 module _ {K V : Type 0} where
@@ -97,20 +97,20 @@ module _ {K V S : Type 0} (m0 m1 : Mem (Node K V)) (none : NoneCame m0 m1) (same
       computes (Err r) e ran = refused (Err r.fault) r.fault refl ran
 
       pub computing_holds_on : (r : Result (Computed T) (RefusedKey K)) → ComputesTo same (hashes b.now) setting m2 key xs Gives r → Stopped (computing_stop r)
-          → (last : Last) → last ≡ words_of_computing r → (d : Result (Compute T) (RefusedKey K)) → d ≡ computing_ended_by r → HoldsWith (stored_computing d (pair_in m2 last.met))
+          → (last : Last) → last ≡ words_of_computing r → (d : Result (ComputedChange T) (RefusedKey K)) → d ≡ computing_ended_by r → HoldsWith (stored_computing d (pair_in m2 last.met))
       computing_holds_on r e ran last words d is =
           subst (λ (l : Last). HoldsWith (stored_computing d (pair_in m2 l.met))) (sym words)
-          (subst (λ (z : Result (Compute T) (RefusedKey K)). HoldsWith (stored_computing z (pair_in m2 (words_of_computing r).met))) (sym is) (computes r e ran))
+          (subst (λ (z : Result (ComputedChange T) (RefusedKey K)). HoldsWith (stored_computing z (pair_in m2 (words_of_computing r).met))) (sym is) (computes r e ran))
 
     -- without a key it stores nothing
-    keyless : (keys : K → Bool) (Told : Option (K × V) → Reply V → Type 0) (answer : KeyAnswer) → AnswersAs same (hashes b.now) setting m2 keys xs None Told answer → Stopped (Ok (stop.Answered answer)) → HoldsWith []
+    keyless : (keys : K → Bool) (Told : Option (K × V) → MachineReply V → Type 0) (answer : KeyAnswer) → AnswersAs same (hashes b.now) setting m2 keys xs None Told answer → Stopped (Ok (stop.Answered answer)) → HoldsWith []
     keyless keys Told answers.Absent a ran = answered answers.Absent ran
     keyless keys Told (answers.Found word) a ran = answered (answers.Found word) ran
     keyless keys Told (answers.Stored word) a ran = absurd (let f = a.2 in cc f)
     keyless keys Told (answers.Replaced old new) a ran = absurd (let f = a.3 in cc f)
     keyless keys Told (answers.Removed word) a ran = answered (answers.Removed word) ran
 
-    pub chosen_holds_on : (keys : K → Bool) (Told : Option (K × V) → Reply V → Type 0) (r : Result KeyAnswer Fault) → EndsAs same (hashes b.now) setting m2 keys xs None Told r → Stopped (stop_by (λ fault. fault) r) → HoldsWith []
+    pub chosen_holds_on : (keys : K → Bool) (Told : Option (K × V) → MachineReply V → Type 0) (r : Result KeyAnswer Fault) → EndsAs same (hashes b.now) setting m2 keys xs None Told r → Stopped (stop_by (λ fault. fault) r) → HoldsWith []
     chosen_holds_on keys Told (Ok answer) e ran = keyless keys Told answer e ran
     chosen_holds_on keys Told (Err fault) e ran = refused (Err fault) fault refl ran
 

@@ -9,8 +9,8 @@ use Rattle.seize_words.specs.declared.at.At.TheVariants.{Slot}
 use Rattle.seize_words.specs.declared.fault.Fault.{Fault}
 use Rattle.seize.specs.Leave.{leaving, counted_down, standing}
 use Rattle.seize.specs.Settle.{counting_down}
-use Rattle.seize.specs.declared.progress.Progress.{Progress}
-use Rattle.seize.specs.declared.progress.Progress.TheVariants as progress
+use Rattle.seize.specs.declared.advance.Advance.{Advance}
+use Rattle.seize.specs.declared.advance.Advance.TheVariants as progress
 use Rattle.seize.specs.declared.rows.leave.Leave.{Leave}
 use Rattle.seize.specs.declared.rows.leave.Leaving.TheVariants as leave_at
 use Rattle.seize.specs.declared.rows.settle.Settle.{Settle}
@@ -26,7 +26,7 @@ use Rattle.papaya_raw.specs.declared.machines.asking.Takes.TheVariants as replie
 use Rattle.owner_calls.specs.Given.StridesEnding.{Ends, RunsTo, stops, goes}
 use Rattle.owner_calls.specs.Owned.Machines.{refreshes_plan, refreshes_after}
 use Rattle.owner_calls.specs.Owned.Owned.{Holds, EndsBy, found_by, left_by}
-use Rattle.owner_calls.specs.declared.machines.Refreshes.{Refreshes}
+use Rattle.owner_calls.specs.declared.machines.OwnerRefresh.{OwnerRefresh}
 use Rattle.owner_calls.specs.declared.machines.Stop.{Stop}
 use Rattle.owner_calls.specs.declared.machines.Stop.TheVariants as stop
 use Rattle.papaya_raw.specs.declared.machines.answer.KeyAnswer.TheVariants as answers
@@ -46,14 +46,14 @@ module _ {K V : Type 0} (same : K → K → Bool) (hash : K → ℕ) (setting : 
       subst (λ (x : Leave). Ends (refreshes_plan (deferred_word {K = K} {V = V})) (record { leave = x }) m) (sym is)
       (refreshing_ends same hash setting m xs h (record { leave = leaving setting.slot setting.batch_size ACTIVE false }) m (begins_refreshing same hash setting m xs h))
 
-  pub refresh_holds : (x : Refreshes) (m2 : Mem (Node K V)) (result : Result Unit Fault) → RunsTo (refreshes_plan (deferred_word {K = K} {V = V})) (record { leave = leave }) m x m2 result → Holds same hash setting m2 xs
+  pub refresh_holds : (x : OwnerRefresh) (m2 : Mem (Node K V)) (result : Result Unit Fault) → RunsTo (refreshes_plan (deferred_word {K = K} {V = V})) (record { leave = leave }) m x m2 result → Holds same hash setting m2 xs
   refresh_holds x m2 result runs =
       refreshed same hash setting m xs h (record { leave = leaving setting.slot setting.batch_size ACTIVE false }) m x m2 result
       (subst (λ (y : Leave). RunsTo (refreshes_plan (deferred_word {K = K} {V = V})) (record { leave = y }) m x m2 result) is runs) (begins_refreshing same hash setting m xs h)
 
 -- the slot's list is taken: its head was this one
 module _ {K V : Type 0} (same : K → K → Bool) (hash : K → ℕ) (setting : Setting) (m n : Mem (Node K V)) (xs : List (K × V)) (h : Holds same hash setting m xs) where
-  abbrev plan_of : Refreshes → Plan (Node K V) (Refreshes × Progress Unit)
+  abbrev plan_of : OwnerRefresh → Plan (Node K V) (OwnerRefresh × Advance Unit)
   plan_of = refreshes_plan (deferred_word {K = K} {V = V})
 
   abbrev begun : Leave
@@ -91,7 +91,7 @@ module _ {K V : Type 0} (same : K → K → Bool) (hash : K → ℕ) (setting : 
 
     -- or one, and is to be counted down
     module _ (some : ACTIVE < head) (settle : Settle) (is : settle ≡ counting_down setting.slot setting.batch_size head) where
-      abbrev counting : Settle → Refreshes
+      abbrev counting : Settle → OwnerRefresh
       counting s = record { leave = standing begun (leave_at.Settles s) }
 
       taken : Steps Took value_at m (plan_of (record { leave = begun })) n (counting settle, progress.Goes)
@@ -106,14 +106,14 @@ module _ {K V : Type 0} (same : K → K → Bool) (hash : K → ℕ) (setting : 
       pub counting_ends : Ends plan_of (counting settle) n
       counting_ends = ends_on plan_of (record { leave = begun }) m ends n (counting settle) progress.Goes tt taken
 
-      pub counted_holds : (x : Refreshes) (m2 : Mem (Node K V)) (result : Result Unit Fault) → RunsTo plan_of (counting settle) n x m2 result → Holds same hash setting m2 xs
+      pub counted_holds : (x : OwnerRefresh) (m2 : Mem (Node K V)) (result : Result Unit Fault) → RunsTo plan_of (counting settle) n x m2 result → Holds same hash setting m2 xs
       counted_holds x m2 result runs =
           refresh_holds same hash setting m xs h begun refl x m2 result (goes (record { leave = begun }) m (counting settle) n progress.Goes tt taken x m2 result runs)
 
-      pub counted_refreshes : (x : Refreshes) (m2 : Mem (Node K V)) (result : Result Unit Fault) → RunsTo plan_of (counting settle) n x m2 result → HasRefreshed setting m m2
+      pub counted_refreshes : (x : OwnerRefresh) (m2 : Mem (Node K V)) (result : Result Unit Fault) → RunsTo plan_of (counting settle) n x m2 result → HasRefreshed setting m m2
       counted_refreshes x m2 result runs = (x, result, goes (record { leave = begun }) m (counting settle) n progress.Goes tt taken x m2 result runs)
 
-      pub counted_none : (x : Refreshes) (m2 : Mem (Node K V)) (result : Result Unit Fault) → RunsTo plan_of (counting settle) n x m2 result → NoneCame m m2
+      pub counted_none : (x : OwnerRefresh) (m2 : Mem (Node K V)) (result : Result Unit Fault) → RunsTo plan_of (counting settle) n x m2 result → NoneCame m m2
       counted_none x m2 result runs =
           refreshes_put_none K V (record { leave = begun }) m ends x m2 result (goes (record { leave = begun }) m (counting settle) n progress.Goes tt taken x m2 result runs)
 

@@ -7,8 +7,8 @@ use Rattle.seize_words.specs.OneMemory.Op.{Make, Made}
 use Rattle.seize_words.specs.OneMemory.Plan.{Plan, Steps}
 use Rattle.seize_words.specs.declared.fault.Fault.{Fault}
 use Rattle.seize_words.specs.declared.fault.Fault.TheVariants.{Memory}
-use Rattle.seize.specs.declared.progress.Progress.{Progress}
-use Rattle.seize.specs.declared.progress.Progress.TheVariants as progress
+use Rattle.seize.specs.declared.advance.Advance.{Advance}
+use Rattle.seize.specs.declared.advance.Advance.TheVariants as progress
 use Rattle.map_tables.specs.declared.node.Node.{Node}
 use Rattle.map_tables.specs.declared.node.Node.TheVariants as nodes
 use Rattle.map_tables.specs.declared.setting.Setting.{Setting}
@@ -37,7 +37,7 @@ use Rattle.owner_calls.proofs.Given.StridesRuns.Steps.{ends_on}
 use Rattle.owner_calls.proofs.Owned.Straight.{runs_out, runs_there}
 
 module _ {K V S : Type 0} (same : K → K → Bool) (hashes : S → K → ℕ) (setting : Setting) (hasher : Bor S) (hash : ℕ) (there : There) where
-  abbrev plan_of : OnKey K V K S → Plan (Node K V) (OnKey K V K S × Progress Stop)
+  abbrev plan_of : OnKey K V K S → Plan (Node K V) (OnKey K V K S × Advance Stop)
   plan_of = on_key_plan {K = K} {V = V} {Q = K} {S = S} same same hashes
 
   abbrev owns : ℕ → Trial → Calling → OnKey K V K S

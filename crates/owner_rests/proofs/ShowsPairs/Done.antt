@@ -7,8 +7,8 @@ use Rattle.seize_words.specs.OneMemory.Mem.{Mem}
 use Rattle.seize_words.specs.declared.fault.Fault.{Fault}
 use Rattle.map_tables.specs.declared.node.Node.{Node}
 use Rattle.map_tables.specs.declared.setting.Setting.{Setting}
-use Rattle.papaya_raw.specs.declared.machines.asking.Reply.{Reply}
-use Rattle.papaya_raw.specs.declared.machines.asking.Reply.TheVariants as reply
+use Rattle.papaya_raw.specs.declared.machines.asking.MachineReply.{MachineReply}
+use Rattle.papaya_raw.specs.declared.machines.asking.MachineReply.TheVariants as reply
 use Rattle.owner_calls.specs.Given.LateFaults.{IsRoom}
 use Rattle.owner_asks.specs.Asks.Closures.{Computing}
 use Rattle.seize_words.specs.declared.operation.Operation.{Operation}
@@ -22,8 +22,8 @@ use Rattle.owner_rests.proofs.Rests.Lasts.{met_shown, taken_shown}
 use Rattle.owner_rests.specs.ShowsPairs.Maps.{pairs_shown}
 use Rattle.owner_rests.specs.declared.change.Change.{Change}
 use Rattle.owner_rests.specs.declared.change.Change.TheVariants as change
-use Rattle.owner_rests.specs.declared.change.Compute.{Compute}
-use Rattle.owner_rests.specs.declared.change.Compute.TheVariants as compute
+use Rattle.owner_rests.specs.declared.change.ComputedChange.{ComputedChange}
+use Rattle.owner_rests.specs.declared.change.ComputedChange.TheVariants as compute
 use Rattle.owner_asks.proofs.Pairs.Orders.{left_same, left_and}
 use Rattle.owner_rests.proofs.ShowsPairs.Kept.{Rested, Shown, rested}
 use Rattle.owner_rests.proofs.ShowsPairs.Shows.{shown_as}
@@ -33,7 +33,7 @@ module _ {K V : Type 0} (same : K → K → Bool) (hash : K → ℕ) (setting : 
   abbrev With : List (K × V) → Option (K × V) → Option (K × V) → Type 0
   With = RestsWith same hash setting m last
 
-  module _ (Told : Option (K × V) → Reply V → Type 0) where
+  module _ (Told : Option (K × V) → MachineReply V → Type 0) where
     done_rests : (done : Change) → HasDone keys its Told xs With done → Rested same hash setting m last
     done_rests change.Missing d = rested same hash setting m last xs None None d.2
     done_rests change.Kept d = rested same hash setting m last xs None (Some d.0) d.3
@@ -45,7 +45,7 @@ module _ {K V : Type 0} (same : K → K → Bool) (hash : K → ℕ) (setting : 
     comes_rests fault_of (Ok done) d = done_rests done d
     comes_rests fault_of (Err e) d = rested same hash setting m last xs None None d.1
 
-  pub computes_rests : {T E : Type 0} (Gives : Option (K × V) → Operation V T → Type 0) (fault_of : E → Fault) (r : Result (Compute T) E)
+  pub computes_rests : {T E : Type 0} (Gives : Option (K × V) → Operation V T → Type 0) (fault_of : E → Fault) (r : Result (ComputedChange T) E)
       → ComputesToIt keys its Gives xs With fault_of r → Rested same hash setting m last
   computes_rests Gives fault_of (Ok (compute.Changed done)) d = done_rests (Computing Gives) done d
   computes_rests Gives fault_of (Ok (compute.Aborted end)) d = rested same hash setting m last xs None (found_by keys xs) d.1
@@ -62,7 +62,7 @@ module _ {K V : Type 0} (same : K → K → Bool) (hash : K → ℕ) (setting : 
       (taken_shown same hash setting m last ys taken met r, met_shown same hash setting m last ys taken met r),
     )
 
-    module _ (Told : Option (K × V) → Reply V → Type 0) where
+    module _ (Told : Option (K × V) → MachineReply V → Type 0) where
       shows_change : (done : Change) → HasDone keys its Told xs With done → HasDone keys its Told zs shows done
       shows_change change.Missing d = (is ∙ d.0, d.1, shows_with xs zs None None d.2 order)
       shows_change change.Kept d = (d.0, is ∙ d.1, d.2, shows_with xs zs None (Some d.0) d.3 order)
@@ -94,12 +94,12 @@ module _ {K V : Type 0} (same : K → K → Bool) (hash : K → ℕ) (setting : 
       shows_unchanged fault_of (Err e) d = shows_with xs zs None None d.1 order
 
     module _ {T : Type 0} (Gives : Option (K × V) → Operation V T → Type 0) {E : Type 0} (fault_of : E → Fault) where
-      pub shows_computed : (r : Result (Compute T) E) → ComputesToIt keys its Gives xs With fault_of r → IfOk r (λ done. HasComputed keys its Gives zs shows done)
+      pub shows_computed : (r : Result (ComputedChange T) E) → ComputesToIt keys its Gives xs With fault_of r → IfOk r (λ done. HasComputed keys its Gives zs shows done)
       shows_computed (Ok (compute.Changed done)) d = shows_change (Computing Gives) done d
       shows_computed (Ok (compute.Aborted end)) d = (subst (λ about. Gives about (operation.Abort end)) (sym is) d.0, subst (shows zs None) (sym is) (shows_with xs zs None (found_by keys xs) d.1 order))
       shows_computed (Err e) d = tt
 
-      pub shows_uncomputed : (r : Result (Compute T) E) → ComputesToIt keys its Gives xs With fault_of r → OnErr r (shows zs None None)
+      pub shows_uncomputed : (r : Result (ComputedChange T) E) → ComputesToIt keys its Gives xs With fault_of r → OnErr r (shows zs None None)
       shows_uncomputed (Ok (compute.Changed done)) d = tt
       shows_uncomputed (Ok (compute.Aborted end)) d = tt
       shows_uncomputed (Err e) d = shows_with xs zs None None d.1 order
@@ -111,13 +111,13 @@ module _ {K V T : Type 0} (same : K → K → Bool) (hash : K → ℕ) (setting 
   why_so fault (inl room) = inl room
   why_so fault (inr so) = inr (so.0, is ∙ so.1, so.2)
 
-  pub shows_why : {E : Type 0} (fault_of : E → Fault) (r : Result (Compute T) E) → ComputesToIt keys its Gives xs (RestsWith same hash setting m last) fault_of r → IfErr r (λ e. IsRefusedFor keys (Computing Gives) zs (fault_of e))
+  pub shows_why : {E : Type 0} (fault_of : E → Fault) (r : Result (ComputedChange T) E) → ComputesToIt keys its Gives xs (RestsWith same hash setting m last) fault_of r → IfErr r (λ e. IsRefusedFor keys (Computing Gives) zs (fault_of e))
   shows_why fault_of (Ok (compute.Changed done)) d = tt
   shows_why fault_of (Ok (compute.Aborted end)) d = tt
   shows_why fault_of (Err e) d = why_so (fault_of e) d.0
 
 -- a call that is never told to remove what is not there is refused for room
-module _ {K V : Type 0} (same : K → K → Bool) (hash : K → ℕ) (setting : Setting) (m : Mem (Node K V)) (last : Last) (keys : K → Bool) (its : Option K) (xs : List (K × V)) (Told : Option (K × V) → Reply V → Type 0) where
+module _ {K V : Type 0} (same : K → K → Bool) (hash : K → ℕ) (setting : Setting) (m : Mem (Node K V)) (last : Last) (keys : K → Bool) (its : Option K) (xs : List (K × V)) (Told : Option (K × V) → MachineReply V → Type 0) where
   why_room : (fault : Fault) → IsRefusedFor keys Told xs fault → (Told None reply.Remove → ⊥) → IsRoom fault
   why_room fault (inl room) never = room
   why_room fault (inr so) never = absurd (never so.2)

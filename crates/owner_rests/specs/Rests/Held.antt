@@ -2,8 +2,8 @@
 use Rattle.std.specs.Prelude.{List, [], ◌∷◌, Option, Some, None, Result, Ok, Err}
 use Rattle.owner_rests.specs.declared.change.Change.{Change}
 use Rattle.owner_rests.specs.declared.change.Change.TheVariants as change
-use Rattle.owner_rests.specs.declared.change.Compute.{Compute}
-use Rattle.owner_rests.specs.declared.change.Compute.TheVariants as compute
+use Rattle.owner_rests.specs.declared.change.ComputedChange.{ComputedChange}
+use Rattle.owner_rests.specs.declared.change.ComputedChange.TheVariants as compute
 
 -- one pair, or none
 abbrev pub as_list : {X : Type 0} → Option X → List X
@@ -21,7 +21,7 @@ module _ {X : Type 0} where
   stored_in (Ok done) met = stored_as done met
   stored_in (Err e) met = []
 
-  abbrev pub stored_computing : {T E : Type 0} → Result (Compute T) E → Option X → List X
+  abbrev pub stored_computing : {T E : Type 0} → Result (ComputedChange T) E → Option X → List X
   stored_computing (Ok (compute.Changed done)) met = stored_as done met
   stored_computing (Ok (compute.Aborted end)) met = []
   stored_computing (Err e) met = []

@@ -9,12 +9,12 @@ use Rattle.map_tables.specs.declared.node.Node.{Node}
 use Rattle.map_tables.specs.declared.setting.Setting.{Setting}
 use Rattle.owner_calls.specs.Given.StridesEnding.{RunsTo}
 use Rattle.owner_calls.specs.Owned.Machines.{refreshes_plan}
-use Rattle.owner_calls.specs.declared.machines.Refreshes.{Refreshes}
+use Rattle.owner_calls.specs.declared.machines.OwnerRefresh.{OwnerRefresh}
 
 module _ {K V : Type 0} (setting : Setting) where
   -- the section was refreshed: the row that does so was run to its end
   abbrev pub HasRefreshed : Mem (Node K V) → Mem (Node K V) → Type 0
-  HasRefreshed m n = (y : Refreshes) × (result : Result Unit Fault) × RunsTo (refreshes_plan deferred_word) (record { leave = leaving setting.slot setting.batch_size ACTIVE false }) m y n result
+  HasRefreshed m n = (y : OwnerRefresh) × (result : Result Unit Fault) × RunsTo (refreshes_plan deferred_word) (record { leave = leaving setting.slot setting.batch_size ACTIVE false }) m y n result
 
   -- this is so of the memory once it was
   abbrev pub OnceRefreshed : Mem (Node K V) → (Mem (Node K V) → Type 0) → Type 0

@@ -5,8 +5,8 @@ use Rattle.seize_words.specs.OneMemory.Mem.{Mem, Took, value_at}
 use Rattle.seize_words.specs.OneMemory.Plan.{Steps, plan_as}
 use Rattle.map_measures.proofs.Given.SeizeRuleRows.Leaving.{steps_back}
 use Rattle.seize.specs.World.{World}
-use Rattle.seize.specs.declared.progress.Progress.{Progress as Stepped}
-use Rattle.seize.specs.declared.progress.Progress.TheVariants as stepped
+use Rattle.seize.specs.declared.advance.Advance.{Advance as Stepped}
+use Rattle.seize.specs.declared.advance.Advance.TheVariants as stepped
 use Rattle.map_tables.specs.Chunks.{is_incremental}
 use Rattle.map_tables.specs.Finding.{finding}
 use Rattle.map_tables.specs.Trials.{next_trial}

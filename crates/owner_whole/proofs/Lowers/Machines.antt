@@ -5,12 +5,12 @@ use Rattle.seize_words.specs.OneMemory.Mem.{Mem, Took, value_at}
 use Rattle.seize_words.specs.OneMemory.Plan.{Steps}
 use Rattle.map_measures.proofs.Given.SeizeRuleRows.Leaving.{steps_back}
 use Rattle.seize.specs.World.{World, IsInside, with_at}
-use Rattle.seize.specs.declared.progress.Progress.{Progress as Counted}
-use Rattle.seize.specs.declared.progress.Progress.TheVariants as counted
+use Rattle.seize.specs.declared.advance.Advance.{Advance as Counted}
+use Rattle.seize.specs.declared.advance.Advance.TheVariants as counted
 use Rattle.map_tables.specs.declared.node.Node.{Node}
 use Rattle.map_measures.specs.Given.ResizeSum.{sum_plan}
-use Rattle.map_measures.specs.Given.ResizeDeclared.outcome.Outcome.{Outcome}
-use Rattle.map_measures.specs.Given.ResizeDeclared.outcome.Outcome.TheVariants as outcome
+use Rattle.map_measures.specs.Given.ResizeDeclared.yielding.Yielding.{Yielding}
+use Rattle.map_measures.specs.Given.ResizeDeclared.yielding.Yielding.TheVariants as outcome
 use Rattle.map_measures.specs.Given.ResizeDeclared.sum.Sum.{Sum}
 use Rattle.papaya_raw.specs.Call.{call_plan}
 use Rattle.papaya_raw.specs.Machine as machines
@@ -70,7 +70,7 @@ goes_called (called.Asks asked) goes = absurd goes
 goes_called (called.Done answer) goes = absurd goes
 goes_called (called.Refused fault) goes = absurd goes
 
-goes_room : {T : Type 0} (x : Outcome T Unit) → GoesOn (of_outcome x) → RoomGoesFurther x
+goes_room : {T : Type 0} (x : Yielding T Unit) → GoesOn (of_outcome x) → RoomGoesFurther x
 goes_room outcome.Goes goes = tt
 goes_room outcome.Waits goes = absurd goes
 goes_room (outcome.Gave value) goes = tt
@@ -103,7 +103,7 @@ module _ {K V Q : Type 0} where
   key_next u (called.Done answer) goes = absurd goes
   key_next u (called.Refused fault) goes = absurd goes
 
-  room_next : (r : CallForRoom) (x : Outcome (Node K V) Unit) → RoomGoesFurther x → next_for_room {K = K} {V = V} {Q = Q} r x ≡ Some (ForRoom r)
+  room_next : (r : CallForRoom) (x : Yielding (Node K V) Unit) → RoomGoesFurther x → next_for_room {K = K} {V = V} {Q = Q} r x ≡ Some (ForRoom r)
   room_next r outcome.Goes goes = refl
   room_next r outcome.Waits goes = absurd goes
   room_next r (outcome.Gave value) goes = refl
@@ -231,7 +231,7 @@ module _ {K Q : Type 0} (V : Type 0) (same : K → K → Bool) (asks : Q → K �
     at_room : (r : CallForRoom) → calls m i ≡ Some (ForRoom r) → Steps' (ForRoom r) → (to : Leads (ForRoom r)) (s2 : Standing K) → to.maps2 m ≡ Some s2 → Lower (ForRoom r) s2 machine
     at_room r has st to s2 is = by to.did
       where
-        e : (e : Reserve × Outcome (Node K V) Unit) × Steps Took value_at w.memory (reserve_plan s.hash r.reserve) m2 e × ((machine, told) ≡ machines.reserved e)
+        e : (e : Reserve × Yielding (Node K V) Unit) × Steps Took value_at w.memory (reserve_plan s.hash r.reserve) m2 e × ((machine, told) ≡ machines.reserved e)
         e = steps_back machines.reserved w.memory m2 (reserve_plan s.hash r.reserve) (machine, told) st
 
         goes_so : RoomGoesFurther e.0.1

@@ -6,7 +6,7 @@ use Rattle.seize_words.specs.OneMemory.Plan.{Steps}
 use Rattle.seize.specs.World.{World, IsInside}
 use Rattle.map_tables.specs.declared.node.Node.{Node}
 use Rattle.map_tables.specs.declared.setting.Setting.{Setting}
-use Rattle.map_measures.specs.Given.ResizeDeclared.outcome.Outcome.{Outcome}
+use Rattle.map_measures.specs.Given.ResizeDeclared.yielding.Yielding.{Yielding}
 use Rattle.papaya_raw.specs.Call.{call_plan}
 use Rattle.papaya_raw.specs.declared.machines.answer.Called.{Called}
 use Rattle.papaya_raw.specs.declared.machines.call.KeyCall.{KeyCall}
@@ -99,9 +99,9 @@ module _ {K V Q : Type 0} (same : K → K → Bool) (hash : K → ℕ) (asks : Q
       ]
       by (inr (row, is_row, knows)) = absurd (none is_row)
 
-  pub room_falls : (r : CallForRoom) → calls i ≡ Some (ForRoom r) → (IsRowOfReserve r.reserve.stands → ⊥) → (m2 : Mem (Node K V)) (p2 : Reserve) (end : Outcome (Node K V) Unit)
+  pub room_falls : (r : CallForRoom) → calls i ≡ Some (ForRoom r) → (IsRowOfReserve r.reserve.stands → ⊥) → (m2 : Mem (Node K V)) (p2 : Reserve) (end : Yielding (Node K V) Unit)
       → Steps Took value_at w.memory (reserve_plan hash r.reserve) m2 (p2, end) → RoomGoesFurther end
-      → (told : Outcome (Node K V) Unit) (step : RoomStepsTogether V same hash asks setting slot w c blocks sights calls i r m2 p2 told)
+      → (told : Yielding (Node K V) Unit) (step : RoomStepsTogether V same hash asks setting slot w c blocks sights calls i r m2 p2 told)
       → IsBelow (number_of_reserve step.went.c2 step.blocks2 p2) (number_of_reserve c blocks r.reserve)
   room_falls r has none m2 p2 end st goes told step =
       reserved_on same hash here w.memory c blocks m2 step.went.c2 step.blocks2 (on m2 _ step.went step.blocks2 step.grown step.sights2 _ step.together) r.reserve

@@ -10,7 +10,7 @@ use Rattle.map_measures.proofs.Given.SeizeEndsSettling.Most.{is_going, goes_furt
 use Rattle.map_tables.specs.Chunks.{is_incremental}
 use Rattle.map_tables.specs.declared.node.Node.{Node}
 use Rattle.map_tables.specs.declared.setting.Setting.{Setting}
-use Rattle.map_measures.specs.Given.ResizeDeclared.outcome.Outcome.{Outcome}
+use Rattle.map_measures.specs.Given.ResizeDeclared.yielding.Yielding.{Yielding}
 use Rattle.papaya_raw.specs.Given.ReservesReserve.{reserve_plan}
 use Rattle.papaya_raw.specs.Given.ReservesDeclared.reserve.Reserve.{Reserve}
 use Rattle.map_measures.specs.Given.RuleChart.{Chart}
@@ -42,7 +42,7 @@ module _ {K V Q : Type 0} (same : K → K → Bool) (hash : K → ℕ) (asks : Q
     (i : ℕ) (inside : IsInside (w.uses (slot i))) (r : CallForRoom) (has : calls i ≡ Some (ForRoom r)) (is_row : IsRowOfReserve r.reserve.stands)
     (w2 : World (Node K V)) (blocks2 : Blocks) (part : IsPartOf c blocks2 blocks) (sights2 : ℕ → Sight) (calls2 : ℕ → Option (UnderWay K V Q))
     (then : Together V same hash asks setting slot w2 c blocks2 sights2 calls2) (inside2 : IsInside (w2.uses (slot i))) (r2 : CallForRoom) (has2 : calls2 i ≡ Some (ForRoom r2))
-    (m2 : Mem (Node K V)) (end : Outcome (Node K V) Unit) (st : Steps Took value_at w.memory (reserve_plan hash r.reserve) m2 (r2.reserve, end)) (goes : GoesFurther end) where
+    (m2 : Mem (Node K V)) (end : Yielding (Node K V) Unit) (st : Steps Took value_at w.memory (reserve_plan hash r.reserve) m2 (r2.reserve, end)) (goes : GoesFurther end) where
   in_row : RoomWithin same hash asks setting slot lawful w c blocks sights calls s i inside r
   in_row = room_within same hash asks setting slot lawful w c blocks sights calls s i inside r has is_row
 
@@ -70,12 +70,12 @@ module _ {K V Q : Type 0} (same : K → K → Bool) (hash : K → ℕ) (asks : Q
             r.reserve.stands is_row (ap (λ (p : Reserve). p.stands) (sym is ∙ past))))) fallen.1))
       ]
 
-  by_account : (e : Reserve × Outcome (Node K V) Unit) → e ≡ (r2.reserve, end) → RoomAccount hash r.reserve in_row.v.memory m2 e → Lower e.0
+  by_account : (e : Reserve × Yielding (Node K V) Unit) → e ≡ (r2.reserve, end) → RoomAccount hash r.reserve in_row.v.memory m2 e → Lower e.0
   by_account e is (RoomSettling x y o _ row settles going tells row2 on) =
-      still e.0 (ap (λ (z : Reserve × Outcome (Node K V) Unit). z.0) is) on.is_row (on.number c blocks) (Settles x) (Settles y) row row2
+      still e.0 (ap (λ (z : Reserve × Yielding (Node K V) Unit). z.0) is) on.is_row (on.number c blocks) (Settles x) (Settles y) row row2
       (settling_less setting.batch_size in_row.v in_row.came i m2 x y o (in_row.row_is ∙ row) settles
-      (settles_on o going (subst GoesFurther (sym (ap (λ (z : Reserve × Outcome (Node K V) Unit). z.1) is) ∙ tells) goes)))
-  by_account e is (RoomOver _ tells none past alone) = over e.0 (ap (λ (z : Reserve × Outcome (Node K V) Unit). z.0) is) none past
+      (settles_on o going (subst GoesFurther (sym (ap (λ (z : Reserve × Yielding (Node K V) Unit). z.1) is) ∙ tells) goes)))
+  by_account e is (RoomOver _ tells none past alone) = over e.0 (ap (λ (z : Reserve × Yielding (Node K V) Unit). z.0) is) none past
 
   pub room_row_falls : Lower r2.reserve
   room_row_falls = by_account (r2.reserve, end) refl (room_account hash r.reserve in_row.v.memory m2 is_row (r2.reserve, end)

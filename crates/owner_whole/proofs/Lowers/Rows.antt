@@ -6,8 +6,8 @@ use Rattle.seize_words.specs.OneMemory.Plan.{Steps}
 use Rattle.seize.specs.Defer.{defer_plan}
 use Rattle.seize.specs.Settle.{settle_plan}
 use Rattle.seize.specs.World.{World, Row, Settles, Defers}
-use Rattle.seize.specs.declared.progress.Progress.{Progress}
-use Rattle.seize.specs.declared.progress.Progress.TheVariants as progress
+use Rattle.seize.specs.declared.advance.Advance.{Advance}
+use Rattle.seize.specs.declared.advance.Advance.TheVariants as progress
 use Rattle.seize.specs.declared.rows.defer.Defer.{Defer}
 use Rattle.seize.specs.declared.rows.settle.Settle.{Settle}
 use Rattle.seize.specs.declared.rows.settle.Settled.{Settled}
@@ -38,7 +38,7 @@ module _ {K V : Type 0} (batch_size : ℕ) (v : World (Node K V)) (came : CameAb
       → left m2 (Settles y) < left v.memory (Settles x)
   settling_less x y o is st going = let less = settles_go_lower deferred_word batch_size i v came_so x is m2 (y, o) st going in omega (arith, less)
 
-  pub deferring_less : (s : ℕ) (x y : Defer) (o : Progress Unit) → v.row i ≡ Defers s x → Steps Took value_at v.memory (defer_plan x) m2 (y, o)
+  pub deferring_less : (s : ℕ) (x y : Defer) (o : Advance Unit) → v.row i ≡ Defers s x → Steps Took value_at v.memory (defer_plan x) m2 (y, o)
       → ((o ≡ progress.Goes) × (left m2 (Defers s y) < left v.memory (Defers s x))) ⊎ (o ≡ progress.Done tt)
   deferring_less s x y o is st = elim (defer_ends deferred_word (LAST_SLOT + 1) v came_so.good i s x is m2 (y, o) st)
       as (λ _. ((o ≡ progress.Goes) × (left m2 (Defers s y) < left v.memory (Defers s x))) ⊎ (o ≡ progress.Done tt)) [

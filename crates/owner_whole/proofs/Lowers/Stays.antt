@@ -11,8 +11,8 @@ use Rattle.map_measures.proofs.Given.SeizeEndsBatches.Held.{waits_held}
 use Rattle.seize.specs.Defer.{defer_plan}
 use Rattle.seize.specs.Settle as settles
 use Rattle.seize.specs.declared.states.TheConstants.{BATCH, HELD}
-use Rattle.seize.specs.declared.progress.Progress.{Progress}
-use Rattle.seize.specs.declared.progress.Progress.TheVariants as progress
+use Rattle.seize.specs.declared.advance.Advance.{Advance}
+use Rattle.seize.specs.declared.advance.Advance.TheVariants as progress
 use Rattle.seize.specs.declared.rows.defer.Defer.{Defer}
 use Rattle.seize.specs.declared.rows.settle.Settle.{Settle}
 use Rattle.seize.specs.declared.rows.settle.Settling.{Settling}
@@ -33,8 +33,8 @@ use Rattle.map_measures.specs.Given.ResizeDeclared.copier.Copying.TheVariants as
 use Rattle.map_measures.specs.Given.ResizeDeclared.dispose.Dispose.{Dispose}
 use Rattle.map_measures.specs.Given.ResizeDeclared.dispose.Disposing.{Disposing}
 use Rattle.map_measures.specs.Given.ResizeDeclared.dispose.Disposing.TheVariants as disposes
-use Rattle.map_measures.specs.Given.ResizeDeclared.outcome.Outcome.{Outcome}
-use Rattle.map_measures.specs.Given.ResizeDeclared.outcome.Outcome.TheVariants as outcome
+use Rattle.map_measures.specs.Given.ResizeDeclared.yielding.Yielding.{Yielding}
+use Rattle.map_measures.specs.Given.ResizeDeclared.yielding.Yielding.TheVariants as outcome
 use Rattle.papaya_raw.specs.Call as call
 use Rattle.papaya_raw.specs.CallPoints as points
 use Rattle.papaya_raw.specs.declared.machines.answer.Called.{Called}
@@ -76,11 +76,11 @@ module _ {K V : Type 0} (m m2 : Mem (Node K V)) where
       ]
 
   -- a copier at a row
-  pub copier_stays : (hash : K → ℕ) (p : Copier) → IsRowOfCopier p.stands → (e : Copier × Outcome (Node K V) Table) → Steps Took value_at m (copier.copier_plan hash p) m2 e
+  pub copier_stays : (hash : K → ℕ) (p : Copier) → IsRowOfCopier p.stands → (e : Copier × Yielding (Node K V) Table) → Steps Took value_at m (copier.copier_plan hash p) m2 e
       → ((e.1 ≡ outcome.Goes) ⊎ ((value : Node K V) × (e.1 ≡ outcome.Gave value))) ⊎ ((e.1 ≡ outcome.Waits) × (e.0 ≡ p) × (m2 ≡ m))
   copier_stays hash p row e st = by p.stands refl row st
     where
-      Told : Copier × Outcome (Node K V) Table → Type 0
+      Told : Copier × Yielding (Node K V) Table → Type 0
       Told x = ((x.1 ≡ outcome.Goes) ⊎ ((value : Node K V) × (x.1 ≡ outcome.Gave value))) ⊎ ((x.1 ≡ outcome.Waits) × (x.0 ≡ p) × (m2 ≡ m))
 
       told : (settle : Settle) (rest : ℕ) → p.stands ≡ copies.Retires settle rest → (y : Settle) (o : Settled (Node K V))
@@ -112,7 +112,7 @@ module _ {K V : Type 0} (m m2 : Mem (Node K V)) where
       settles_told settle is y (settled.Gave value) inner = λ w. absurd (cc w)
       settles_told settle is y settled.Done inner = λ w. absurd (cc w)
 
-      defers_told : (defer y : Defer) (o : Progress Unit) → Steps Took value_at m (defer_plan defer) m2 (y, o) → Told (dispose.deferred d (y, o))
+      defers_told : (defer y : Defer) (o : Advance Unit) → Steps Took value_at m (defer_plan defer) m2 (y, o) → Told (dispose.deferred d (y, o))
       defers_told defer y progress.Goes inner = λ w. absurd (cc w)
       defers_told defer y progress.Waits inner = absurd (deferring_never_waits deferred_word defer y m m2 inner)
       defers_told defer y (progress.Done end) inner = λ w. absurd (cc w)
@@ -129,7 +129,7 @@ module _ {K V : Type 0} (m m2 : Mem (Node K V)) where
 
   module _ (hash : K → ℕ) where
     -- what a copier tells at a row
-    abbrev Tells : Copier → Copier × Outcome (Node K V) Table → Type 0
+    abbrev Tells : Copier → Copier × Yielding (Node K V) Table → Type 0
     Tells p x = ((x.1 ≡ outcome.Goes) ⊎ ((value : Node K V) × (x.1 ≡ outcome.Gave value))) ⊎ ((x.1 ≡ outcome.Waits) × (x.0 ≡ p) × (m2 ≡ m))
 
     -- a call on one key
@@ -137,7 +137,7 @@ module _ {K V : Type 0} (m m2 : Mem (Node K V)) where
       abbrev Call : Type 0
       Call = KeyCall K V Q × Called (Node K V)
 
-      helped_stays : (goal : Table) (copy : Copier) (x : Copier × Outcome (Node K V) Table) → Tells copy x → (call.helped p goal x).1 ≡ called.Waits
+      helped_stays : (goal : Table) (copy : Copier) (x : Copier × Yielding (Node K V) Table) → Tells copy x → (call.helped p goal x).1 ≡ called.Waits
           → ((call.helped p goal x).0 ≡ points.standing p (at.Helps copy goal)) × (m2 ≡ m)
       helped_stays goal copy (next, outcome.Goes) tells w = absurd (cc w)
       helped_stays goal copy (next, outcome.Waits) (inr is) w = (ap (λ (z : Copier). points.standing p (at.Helps z goal)) is.1, is.2)
@@ -151,7 +151,7 @@ module _ {K V : Type 0} (m m2 : Mem (Node K V)) where
       helped_stays goal copy (next, outcome.Refused fault) (inl (inl told)) w = absurd (cc told)
       helped_stays goal copy (next, outcome.Refused fault) (inl (inr told)) w = absurd (let e = told.1 in cc e)
 
-      copied_stays : (copy : Copier) (x : Copier × Outcome (Node K V) Table) → Tells copy x → (call.copied p x).1 ≡ called.Waits
+      copied_stays : (copy : Copier) (x : Copier × Yielding (Node K V) Table) → Tells copy x → (call.copied p x).1 ≡ called.Waits
           → ((call.copied p x).0 ≡ points.standing p (at.Copies copy)) × (m2 ≡ m)
       copied_stays copy (next, outcome.Goes) tells w = absurd (cc w)
       copied_stays copy (next, outcome.Waits) (inr is) w = (ap (λ (z : Copier). points.standing p (at.Copies z)) is.1, is.2)
@@ -194,7 +194,7 @@ module _ {K V : Type 0} (m m2 : Mem (Node K V)) where
 
     -- a reservation
     module _ (p : Reserve) where
-      room_copied_stays : (copy : Copier) (x : Copier × Outcome (Node K V) Table) → Tells copy x → (reserve.copied p x).1 ≡ outcome.Waits
+      room_copied_stays : (copy : Copier) (x : Copier × Yielding (Node K V) Table) → Tells copy x → (reserve.copied p x).1 ≡ outcome.Waits
           → ((reserve.copied p x).0 ≡ reserve.standing p (reserves.Copies copy)) × (m2 ≡ m)
       room_copied_stays copy (next, outcome.Goes) tells w = absurd (cc w)
       room_copied_stays copy (next, outcome.Waits) (inr is) w = (ap (λ (z : Copier). reserve.standing p (reserves.Copies z)) is.1, is.2)
@@ -207,8 +207,8 @@ module _ {K V : Type 0} (m m2 : Mem (Node K V)) where
       pub room_stays : IsRowOfReserve p.stands → (q : Reserve) → Steps Took value_at m (reserve.reserve_plan hash p) m2 (q, outcome.Waits) → (q ≡ p) × (m2 ≡ m)
       room_stays row q st = at_room_row (λ x. p.stands ≡ x → Steps Took value_at m (reserve.plan_at hash p x) m2 (q, outcome.Waits) → (q ≡ p) × (m2 ≡ m)) (λ copy at is inner.
           let b = steps_back (reserve.copied p) m m2 (copier.copier_plan hash copy) (q, outcome.Waits) inner in
-          let s = room_copied_stays copy b.0 (copier_stays hash copy at b.0 b.1) (sym (ap (λ (z : Reserve × Outcome (Node K V) Unit). z.1) b.2)) in
-          (ap (λ (z : Reserve × Outcome (Node K V) Unit). z.0) b.2 ∙ s.0 ∙ ap (λ (z : Reserving). reserve.standing p z) (sym is), s.1)) p.stands row refl st
+          let s = room_copied_stays copy b.0 (copier_stays hash copy at b.0 b.1) (sym (ap (λ (z : Reserve × Yielding (Node K V) Unit). z.1) b.2)) in
+          (ap (λ (z : Reserve × Yielding (Node K V) Unit). z.0) b.2 ∙ s.0 ∙ ap (λ (z : Reserving). reserve.standing p z) (sym is), s.1)) p.stands row refl st
 
     -- a sweep
     module _ (p : Sweep) where
@@ -232,7 +232,7 @@ module _ {K V : Type 0} (m m2 : Mem (Node K V)) where
           by (sweeps.Counts removed) e = cc e
           by (sweeps.Disposes d) e = cc e
 
-      sweep_copied_stays : (copy : Copier) (x : Copier × Outcome (Node K V) Table) → Tells copy x → (sweep.copied p x).1 ≡ swept.Waits
+      sweep_copied_stays : (copy : Copier) (x : Copier × Yielding (Node K V) Table) → Tells copy x → (sweep.copied p x).1 ≡ swept.Waits
           → ((sweep.copied p x).0 ≡ sweeping.standing p (sweeps.Copies copy)) × (m2 ≡ m)
       sweep_copied_stays copy (next, outcome.Goes) tells w = absurd (cc w)
       sweep_copied_stays copy (next, outcome.Waits) (inr is) w = (ap (λ (z : Copier). sweeping.standing p (sweeps.Copies z)) is.1, is.2)

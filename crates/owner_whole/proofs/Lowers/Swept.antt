@@ -15,8 +15,8 @@ use Rattle.map_measures.specs.Given.ResizeDeclared.copier.Copier.{Copier}
 use Rattle.map_measures.specs.Given.ResizeDeclared.dispose.Dispose.{Dispose}
 use Rattle.map_measures.specs.Given.ResizeDeclared.dispose.Disposing.{Disposing}
 use Rattle.map_measures.specs.Given.ResizeDeclared.dispose.Disposing.TheVariants as disposes
-use Rattle.map_measures.specs.Given.ResizeDeclared.outcome.Outcome.{Outcome}
-use Rattle.map_measures.specs.Given.ResizeDeclared.outcome.Outcome.TheVariants as outcome
+use Rattle.map_measures.specs.Given.ResizeDeclared.yielding.Yielding.{Yielding}
+use Rattle.map_measures.specs.Given.ResizeDeclared.yielding.Yielding.TheVariants as outcome
 use Rattle.papaya_raw.specs.Given.SweepsSweep.{copied, plan_at, sweep_plan}
 use Rattle.papaya_raw.specs.Given.ReservesDeclared.sweep.Sweep.{Sweep}
 use Rattle.papaya_raw.specs.Given.ReservesDeclared.sweep.Sweeping.{Sweeping}
@@ -117,7 +117,7 @@ module _ {K V Q : Type 0} (same : K → K → Bool) (hash : K → ℕ) (asks : Q
         abbrev Goal : Sweep × Swept (Node K V) → Type 0
         Goal to = ComesOn (at.Copies copier) to.1 → IsBelow (number_of_sweep hash c2 blocks2 to.0) (numbers_at hash c blocks p (at.Copies copier))
 
-        copied_falls : (to : Copier × Outcome (Node K V) Table) → CopyFalls same hash here w.memory c blocks m2 c2 blocks2 onward copier none (is_incremental p.setting.mode) to → Goal (copied p to)
+        copied_falls : (to : Copier × Yielding (Node K V) Table) → CopyFalls same hash here w.memory c blocks m2 c2 blocks2 onward copier none (is_incremental p.setting.mode) to → Goal (copied p to)
         copied_falls (next, outcome.Goes) falls goes = falls
         copied_falls (next, outcome.Waits) falls goes = absurd goes
         copied_falls (next, outcome.Gave value) falls goes = falls

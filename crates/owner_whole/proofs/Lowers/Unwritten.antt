@@ -20,8 +20,8 @@ use Rattle.map_measures.specs.Given.ResizeCopierMarks.{marked}
 use Rattle.map_measures.specs.Given.ResizeDeclared.copier.Copier.{Copier}
 use Rattle.map_measures.specs.Given.ResizeDeclared.copier.Copying.{Copying}
 use Rattle.map_measures.specs.Given.ResizeDeclared.copier.Copying.TheVariants as copies
-use Rattle.map_measures.specs.Given.ResizeDeclared.outcome.Outcome.{Outcome}
-use Rattle.map_measures.specs.Given.ResizeDeclared.outcome.Outcome.TheVariants as outcome
+use Rattle.map_measures.specs.Given.ResizeDeclared.yielding.Yielding.{Yielding}
+use Rattle.map_measures.specs.Given.ResizeDeclared.yielding.Yielding.TheVariants as outcome
 use Rattle.papaya_raw.specs.Call as call
 use Rattle.papaya_raw.specs.declared.machines.answer.Called.TheVariants as called
 use Rattle.papaya_raw.specs.declared.machines.call.KeyCall.{KeyCall}
@@ -59,7 +59,7 @@ same_word a b e = cc e
 
 module _ {K V : Type 0} (m m2 : Mem (Node K V)) (hash : K → ℕ) where
   -- a copier: it has read a status, or has set a mark that was set
-  pub copier_unwritten : (p : Copier) → Sees p m p.stands → (e : Copier × Outcome (Node K V) Table) → Steps Took value_at m (copier.copier_plan hash p) m2 e → m2 ≡ m
+  pub copier_unwritten : (p : Copier) → Sees p m p.stands → (e : Copier × Yielding (Node K V) Table) → Steps Took value_at m (copier.copier_plan hash p) m2 e → m2 ≡ m
   copier_unwritten p sees e st = by p.stands sees st
     where
       by : (x : Copying) → Sees p m x → Steps Took value_at m (copier.plan_at hash p x) m2 e → m2 ≡ m

@@ -5,12 +5,12 @@ use Rattle.seize_words.specs.OneMemory.Mem.{Mem, Took, value_at}
 use Rattle.seize_words.specs.OneMemory.Plan.{Steps}
 use Rattle.map_measures.proofs.Given.SeizeRuleRows.Leaving.{steps_back}
 use Rattle.seize.specs.World.{World, Rests}
-use Rattle.seize.specs.declared.progress.Progress.{Progress as Counted}
-use Rattle.seize.specs.declared.progress.Progress.TheVariants as counted
+use Rattle.seize.specs.declared.advance.Advance.{Advance as Counted}
+use Rattle.seize.specs.declared.advance.Advance.TheVariants as counted
 use Rattle.map_tables.specs.declared.node.Node.{Node}
 use Rattle.map_measures.specs.Given.ResizeSum.{sum_plan}
-use Rattle.map_measures.specs.Given.ResizeDeclared.outcome.Outcome.{Outcome}
-use Rattle.map_measures.specs.Given.ResizeDeclared.outcome.Outcome.TheVariants as outcome
+use Rattle.map_measures.specs.Given.ResizeDeclared.yielding.Yielding.{Yielding}
+use Rattle.map_measures.specs.Given.ResizeDeclared.yielding.Yielding.TheVariants as outcome
 use Rattle.map_measures.specs.Given.ResizeDeclared.sum.Sum.{Sum}
 use Rattle.papaya_raw.specs.Call.{call_plan}
 use Rattle.papaya_raw.specs.Machine as machines
@@ -72,7 +72,7 @@ called_waits (called.Asks asked) e = absurd (cc e)
 called_waits (called.Done answer) e = absurd (cc e)
 called_waits (called.Refused fault) e = absurd (cc e)
 
-outcome_waits : {T : Type 0} (x : Outcome T Unit) → of_outcome x ≡ progress.Waits → x ≡ outcome.Waits
+outcome_waits : {T : Type 0} (x : Yielding T Unit) → of_outcome x ≡ progress.Waits → x ≡ outcome.Waits
 outcome_waits outcome.Goes e = absurd (cc e)
 outcome_waits outcome.Waits e = refl
 outcome_waits (outcome.Gave value) e = absurd (cc e)
@@ -190,14 +190,14 @@ module _ {K Q : Type 0} (V : Type 0) (same : K → K → Bool) (asks : Q → K �
           (room_unwritten w.memory m2 s.hash r.reserve none e.0.0 waiting, machine_is ∙ ap kinds.Reserve h.0, inl h.1))
     ]
       where
-        e : (e : Reserve × Outcome (Node K V) Unit) × Steps Took value_at w.memory (reserve_plan s.hash r.reserve) m2 e × ((machine, progress.Waits) ≡ machines.reserved e)
+        e : (e : Reserve × Yielding (Node K V) Unit) × Steps Took value_at w.memory (reserve_plan s.hash r.reserve) m2 e × ((machine, progress.Waits) ≡ machines.reserved e)
         e = steps_back machines.reserved w.memory m2 (reserve_plan s.hash r.reserve) (machine, progress.Waits) st
 
         machine_is : machine ≡ kinds.Reserve e.0.0
         machine_is = ap (λ (x : Machine K V Q × Progress (Node K V)). x.0) e.2
 
         waiting : Steps Took value_at w.memory (reserve_plan s.hash r.reserve) m2 (e.0.0, outcome.Waits)
-        waiting = subst (λ (x : Outcome (Node K V) Unit). Steps Took value_at w.memory (reserve_plan s.hash r.reserve) m2 (e.0.0, x))
+        waiting = subst (λ (x : Yielding (Node K V) Unit). Steps Took value_at w.memory (reserve_plan s.hash r.reserve) m2 (e.0.0, x))
             (outcome_waits e.0.1 (sym (ap (λ (x : Machine K V Q × Progress (Node K V)). x.1) e.2))) e.1
 
     at_sweep : (o : CallOverAll) → calls m i ≡ Some (OverAll o) → Steps' (OverAll o) → Reason (OverAll o)

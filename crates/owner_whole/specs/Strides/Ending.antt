@@ -3,42 +3,42 @@ use Rattle.std.specs.Prelude.{◌≡◌, Result, Ok, Err}
 use Rattle.seize_words.specs.OneMemory.Mem.{Mem, Can, Took, value_at}
 use Rattle.seize_words.specs.OneMemory.Plan.{Plan, May, Steps}
 use Rattle.seize_words.specs.declared.fault.Fault.{Fault}
-use Rattle.seize.specs.declared.progress.Progress.{Progress}
-use Rattle.seize.specs.declared.progress.Progress.TheVariants as progress
+use Rattle.seize.specs.declared.advance.Advance.{Advance}
+use Rattle.seize.specs.declared.advance.Advance.TheVariants as progress
 
 module _ {A : Type 0} where
   -- a machine that tells this takes a further step
-  abbrev pub GoesOn : Progress A → Type 0
+  abbrev pub GoesOn : Advance A → Type 0
   GoesOn progress.Goes = Unit {0}
   GoesOn progress.Waits = Unit {0}
   GoesOn _ = ⊥
 
   -- it tells this answer, or this fault
-  abbrev pub Tells : Progress A → Result A Fault → Type 0
+  abbrev pub Tells : Advance A → Result A Fault → Type 0
   Tells (progress.Done a) (Ok b) = b ≡ a
   Tells (progress.Refused f) (Err g) = g ≡ f
   Tells _ _ = ⊥
 
-module _ {T X A : Type 0} (plan : X → Plan T (X × Progress A)) where
+module _ {T X A : Type 0} (plan : X → Plan T (X × Advance A)) where
   -- From here on the machine may take each of its steps, and each run of them comes to an end.
   pub data Ends : X → Mem T → Type 0 where
     all_end : (x : X) (m : Mem T) → May Can Took value_at m (plan x)
-        → ((m2 : Mem T) (x2 : X) (told : Progress A) → GoesOn told → Steps Took value_at m (plan x) m2 (x2, told) → Ends x2 m2) → Ends x m
+        → ((m2 : Mem T) (x2 : X) (told : Advance A) → GoesOn told → Steps Took value_at m (plan x) m2 (x2, told) → Ends x2 m2) → Ends x m
 
   -- a run from there has ended here, with this result
   pub data RunsTo : X → Mem T → X → Mem T → Result A Fault → Type 0 where
-    stops : (x : X) (m : Mem T) (x2 : X) (m2 : Mem T) (told : Progress A) (result : Result A Fault)
+    stops : (x : X) (m : Mem T) (x2 : X) (m2 : Mem T) (told : Advance A) (result : Result A Fault)
         → Steps Took value_at m (plan x) m2 (x2, told) → Tells told result → RunsTo x m x2 m2 result
-    goes : (x : X) (m : Mem T) (x1 : X) (m1 : Mem T) (told : Progress A) → GoesOn told → Steps Took value_at m (plan x) m1 (x1, told)
+    goes : (x : X) (m : Mem T) (x1 : X) (m1 : Mem T) (told : Advance A) → GoesOn told → Steps Took value_at m (plan x) m1 (x1, told)
         → (x2 : X) (m2 : Mem T) (result : Result A Fault) → RunsTo x1 m1 x2 m2 result → RunsTo x m x2 m2 result
 
   -- Some steps that go on lead from the one to the other, and from this memory to that.
   pub data Leads : X → Mem T → X → Mem T → Type 0 where
     none_taken : (x : X) (m : Mem T) → Leads x m x m
-    one_more : (x : X) (m : Mem T) (y : X) (n : Mem T) → Leads x m y n → (told : Progress A) → GoesOn told → (z : X) (k : Mem T) → Steps Took value_at n (plan y) k (z, told) → Leads x m z k
+    one_more : (x : X) (m : Mem T) (y : X) (n : Mem T) → Leads x m y n → (told : Advance A) → GoesOn told → (z : X) (k : Mem T) → Steps Took value_at n (plan y) k (z, told) → Leads x m z k
 
   -- some steps that go on lead to one that comes to this
-  abbrev pub Strides : X → Mem T → Mem T → X × Progress A → Type 0
+  abbrev pub Strides : X → Mem T → Mem T → X × Advance A → Type 0
   Strides x m m2 end = (y : X) × (n : Mem T) × Leads x m y n × Steps Took value_at n (plan y) m2 end
 
   -- It was run to its end, from this memory on.

@@ -9,8 +9,8 @@ use Rattle.seize_words.specs.OneMemory.Op.{Op, Out, Load, Store, Swap, Add, Or, 
 use Rattle.seize_words.specs.OneMemory.Place.{capacity}
 use Rattle.seize_words.specs.OneMemory.Plan.{Plan, Turn, Do, Then, Now, Seeing, Sure}
 use Rattle.seize_words.specs.declared.fault.Fault.TheVariants.{Memory}
-use Rattle.seize.specs.declared.progress.Progress.{Progress}
-use Rattle.seize.specs.declared.progress.Progress.TheVariants as progress
+use Rattle.seize.specs.declared.advance.Advance.{Advance}
+use Rattle.seize.specs.declared.advance.Advance.TheVariants as progress
 
 -- so it is with what is there, if anything is
 abbrev pub of_some : {T : Type 0} → Option T → (T → Bool) → Bool
@@ -54,12 +54,12 @@ module _ {T : Type 0} where
     of_steps m (Do op rest) ok = of_answers m op (λ out. of_ends (value_at (after m op out)) (rest out) (ok (after m op out)))
 
 -- it is so, where the machine takes a further step
-abbrev pub if_goes : {A : Type 0} → Progress A → Bool → Bool
+abbrev pub if_goes : {A : Type 0} → Advance A → Bool → Bool
 if_goes progress.Goes b = b
 if_goes progress.Waits b = b
 if_goes _ b = true
 
-module _ {T X A : Type 0} (plan : X → Plan T (X × Progress A)) where
+module _ {T X A : Type 0} (plan : X → Plan T (X × Advance A)) where
   -- each run from here on has fewer steps than this number
   abbrev pub within : ℕ → X → Mem T → Bool
   within zero x m = false

@@ -20,7 +20,7 @@ use Rattle.map_measures.specs.Given.RuleMaps.{spot_of}
 use Rattle.map_measures.specs.Given.RuleRule.{Rule, no_table}
 use Rattle.map_measures.specs.Given.RuleInWorld.{IsMapIn}
 use Rattle.papaya_raw.specs.CallAsks.{replied}
-use Rattle.papaya_raw.specs.declared.machines.asking.Reply.{Reply}
+use Rattle.papaya_raw.specs.declared.machines.asking.MachineReply.{MachineReply}
 use Rattle.papaya_raw.specs.declared.machines.answer.KeyAnswer.{KeyAnswer}
 use Rattle.map_tables.specs.declared.node.Node.TheVariants as node
 use Rattle.map_tables.specs.Chunks.{is_incremental}
@@ -143,7 +143,7 @@ module _ {K Q : Type 0} (V : Type 0) (same : K → K → Bool) (hash : K → ℕ
   -- A reply counts nothing.
   abbrev pub RepliesCountNothing : Type 0
   RepliesCountNothing =
-      (p : KeyCall K V Q) (asks_at : Asking) → p.stands ≡ at.Asks asks_at → (reply : Reply V) → counted_at (replied p reply).0.stands ≡ counted_at p.stands
+      (p : KeyCall K V Q) (asks_at : Asking) → p.stands ≡ at.Asks asks_at → (reply : MachineReply V) → counted_at (replied p reply).0.stands ≡ counted_at p.stands
 
   -- Where a call answers, and the shards said how many pairs the map had as it began, they say so of the map at its end.
   abbrev pub CountsAtEnd : Type 0

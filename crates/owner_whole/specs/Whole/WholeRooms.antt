@@ -4,13 +4,13 @@ use Rattle.std.specs.Int.{IsPowerOfTwo}
 use Rattle.seize_words.specs.OneMemory.Mem.{Mem, Can, Took, value_at}
 use Rattle.seize_words.specs.OneMemory.Plan.{May, Steps}
 use Rattle.seize.specs.World.{World}
-use Rattle.seize.specs.declared.progress.Progress.{Progress}
-use Rattle.seize.specs.declared.progress.Progress.TheVariants as progress
+use Rattle.seize.specs.declared.advance.Advance.{Advance}
+use Rattle.seize.specs.declared.advance.Advance.TheVariants as progress
 use Rattle.map_tables.specs.declared.node.Node.{Node}
 use Rattle.map_tables.specs.declared.setting.Setting.{Setting}
 use Rattle.map_measures.specs.Given.ResizeSum.{summing, sum_plan}
-use Rattle.map_measures.specs.Given.ResizeDeclared.outcome.Outcome.{Outcome}
-use Rattle.map_measures.specs.Given.ResizeDeclared.outcome.Outcome.TheVariants as outcome
+use Rattle.map_measures.specs.Given.ResizeDeclared.yielding.Yielding.{Yielding}
+use Rattle.map_measures.specs.Given.ResizeDeclared.yielding.Yielding.TheVariants as outcome
 use Rattle.map_measures.specs.Given.ResizeDeclared.sum.Sum.{Sum}
 use Rattle.papaya_raw.specs.Given.ReservesReserve.{reserving, reserve_plan}
 use Rattle.papaya_raw.specs.Given.ReservesDeclared.reserve.Reserve.{Reserve}
@@ -41,7 +41,7 @@ room_so r p = record { began = r.began; reserve = p }
 
 module _ {K V Q : Type 0} (same : K → K → Bool) (hash : K → ℕ) (asks : Q → K → Bool) (setting : Setting) (slot : ℕ → ℕ) where
   -- After a step of a reservation, by what it tells: it never waits. It is alone still, or has ended, and the owner rests.
-  abbrev pub RoomLeads : World (Node K V) → World (Node K V) → Chart K → Blocks → (ℕ → Sight) → CallForRoom → Outcome (Node K V) Unit → Type 0
+  abbrev pub RoomLeads : World (Node K V) → World (Node K V) → Chart K → Blocks → (ℕ → Sight) → CallForRoom → Yielding (Node K V) Unit → Type 0
   RoomLeads w w2 c2 blocks2 sights2 r outcome.Goes = IsAlone {Q = Q} same hash asks setting slot w2 c2 blocks2 sights2 (ForRoom r)
   RoomLeads w w2 c2 blocks2 sights2 r outcome.Waits = ⊥
   RoomLeads w w2 c2 blocks2 sights2 r (outcome.Gave value) = IsAlone {Q = Q} same hash asks setting slot w2 c2 blocks2 sights2 (ForRoom r) × IsReclaimed w w2 value
@@ -49,7 +49,7 @@ module _ {K V Q : Type 0} (same : K → K → Bool) (hash : K → ℕ) (asks : Q
   RoomLeads w w2 c2 blocks2 sights2 r (outcome.Refused fault) = AtRest {K = K} {V = V} {Q = Q} same hash asks setting slot w2 c2 blocks2 sights2
 
   -- where a step leads, be it one of a row of the collector: no pair of the map has changed
-  pub record RoomStepLeads (w : World (Node K V)) (c : Chart K) (blocks : Blocks) (r : CallForRoom) (m2 : Mem (Node K V)) (p2 : Reserve) (end : Outcome (Node K V) Unit) : Type 0 where
+  pub record RoomStepLeads (w : World (Node K V)) (c : Chart K) (blocks : Blocks) (r : CallForRoom) (m2 : Mem (Node K V)) (p2 : Reserve) (end : Yielding (Node K V) Unit) : Type 0 where
     pub w2 : World (Node K V)
     pub c2 : Chart K
     pub blocks2 : Blocks
@@ -71,14 +71,14 @@ module _ {K V Q : Type 0} (same : K → K → Bool) (hash : K → ℕ) (asks : Q
         → StandsInReserving (IsForRoom c2 r.reserve.additional count) (IsTheLast c2) p2.stands × RefusesSo (IsForRoom c2 r.reserve.additional count) end
 
   -- After a step of a counting, it is alone still, or has ended, and the owner rests.
-  abbrev pub CountLeads : World (Node K V) → Chart K → Blocks → (ℕ → Sight) → Sum → Progress ℕ → Type 0
+  abbrev pub CountLeads : World (Node K V) → Chart K → Blocks → (ℕ → Sight) → Sum → Advance ℕ → Type 0
   CountLeads w c blocks sights sum progress.Goes = IsAlone {Q = Q} same hash asks setting slot w c blocks sights (Counting sum)
   CountLeads w c blocks sights sum progress.Waits = ⊥
   CountLeads w c blocks sights sum (progress.Done count) = AtRest {K = K} {V = V} {Q = Q} same hash asks setting slot w c blocks sights
   CountLeads w c blocks sights sum (progress.Refused fault) = ⊥
 
 -- a step of a counting tells this: it will come to what it would have come to, or has come to it
-abbrev pub ComesTo : {T : Type 0} → Setting → Mem T → Sum → Sum × Progress ℕ → Type 0
+abbrev pub ComesTo : {T : Type 0} → Setting → Mem T → Sum → Sum × Advance ℕ → Type 0
 ComesTo setting m sum (sum2, progress.Goes) = count_ahead setting m sum2.stands ≡ count_ahead setting m sum.stands
 ComesTo setting m sum (sum2, progress.Done count) = count ≡ count_ahead setting m sum.stands
 ComesTo setting m sum _ = ⊥
@@ -102,7 +102,7 @@ module _ {K Q : Type 0} (V : Type 0) (same : K → K → Bool) (hash : K → ℕ
       AreLawful same hash → IsPowerOfTwo setting.initial
       → (w : World (Node K V)) (c : Chart K) (blocks : Blocks) (sights : ℕ → Sight) (r : CallForRoom) → IsAlone {Q = Q} same hash asks setting slot w c blocks sights (ForRoom r)
       → May Can Took value_at w.memory (reserve_plan hash r.reserve)
-      × ((m2 : Mem (Node K V)) (p2 : Reserve) (end : Outcome (Node K V) Unit) → Steps Took value_at w.memory (reserve_plan hash r.reserve) m2 (p2, end)
+      × ((m2 : Mem (Node K V)) (p2 : Reserve) (end : Yielding (Node K V) Unit) → Steps Took value_at w.memory (reserve_plan hash r.reserve) m2 (p2, end)
       → RoomStepLeads {Q = Q} same hash asks setting slot w c blocks r m2 p2 end)
 
   -- Each run of its steps, with those of the rows that it begins, comes to an end.
@@ -123,5 +123,5 @@ module _ {K Q : Type 0} (V : Type 0) (same : K → K → Bool) (hash : K → ℕ
   CountingsGoOnAlone =
       (w : World (Node K V)) (c : Chart K) (blocks : Blocks) (sights : ℕ → Sight) (sum : Sum) → IsAlone {Q = Q} same hash asks setting slot w c blocks sights (Counting sum)
       → May Can Took value_at w.memory (sum_plan sum)
-      × ((m2 : Mem (Node K V)) (sum2 : Sum) (end : Progress ℕ) → Steps Took value_at w.memory (sum_plan sum) m2 (sum2, end)
+      × ((m2 : Mem (Node K V)) (sum2 : Sum) (end : Advance ℕ) → Steps Took value_at w.memory (sum_plan sum) m2 (sum2, end)
       → (m2 ≡ w.memory) × ComesTo setting w.memory sum (sum2, end) × CountLeads {V = V} {Q = Q} same hash asks setting slot w c blocks sights sum2 end)

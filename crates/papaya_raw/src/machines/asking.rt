@@ -6,7 +6,7 @@ use std::mem;
 
 /// What a call is told that has asked.
 #[derive(Drop)]
-pub enum Reply<V> {
+pub enum MachineReply<V> {
     /// This value is to be stored.
     Insert(V),
     /// The pair is to be removed.

@@ -4,7 +4,7 @@ ghost use Rattle.papaya_raw.specs.EndMap.{ending, is_current, next_place, reads,
 ghost use Rattle.seize.specs.Given.SeizeWordsPlan.{May, Steps};
 
 use map_tables::marks::{COPYING, has};
-use map_tables::named::{At, Link, Machine, Memory, Settled, states};
+use map_tables::named::{At, Link, Memory, Settled, StepMachine, states};
 use map_tables::table_words::{DEFERRED, NEXT, PLACES};
 use map_tables::{Node, Setting, Table};
 
@@ -291,7 +291,7 @@ impl EndMap {
     }
 }
 
-impl<K, V> Machine<Node<K, V>> for EndMap {
+impl<K, V> StepMachine<Node<K, V>> for EndMap {
     ghost use Rattle.papaya_raw.specs.EndMap.{end_map_plan};
 
     type Progress = Settled<Node<K, V>>;

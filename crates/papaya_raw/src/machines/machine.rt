@@ -8,7 +8,7 @@ ghost use Rattle.map_sweeps.specs.Given.ResizeSum.{sum_plan};
 ghost use Rattle.map_sweeps.specs.Sweeps.Sweep.{sweep_plan};
 ghost use Rattle.seize.specs.Given.SeizeWordsPlan.{May, Steps, plan_as};
 
-use crate::machines::asking::Reply;
+use crate::machines::asking::MachineReply;
 use crate::machines::call::KeyCall;
 use crate::machines::progress::Progress;
 use map_sweeps::named_sweeps::{Reserve, Sum};
@@ -32,12 +32,12 @@ pub enum Machine<K, V, Q = K> {
 }
 
 /// Tells a sweep that asks whether the pair is to be kept: yes keeps it. Any other reply is handed back.
-fn reply_to<V: Drop>(sweep: &mut Sweep, reply: Reply<V>) -> Result<(), Reply<V>>
+fn reply_to<V: Drop>(sweep: &mut Sweep, reply: MachineReply<V>) -> Result<(), MachineReply<V>>
     ensures { (sweep.new, result) ≡ sweep_replied sweep.old reply }
 {
     match (sweep.stands, reply) {
-        (Sweeping::Asks { .. }, Reply::Yes) => sweep.reply(true),
-        (Sweeping::Asks { .. }, Reply::No) => sweep.reply(false),
+        (Sweeping::Asks { .. }, MachineReply::Yes) => sweep.reply(true),
+        (Sweeping::Asks { .. }, MachineReply::No) => sweep.reply(false),
         (_, reply) => return Err(reply),
     }
     Ok(())
@@ -58,7 +58,7 @@ impl<K, V, Q> Machine<K, V, Q> {
         requires { May M.can M.took M.shown memory.old (plan_as (counted {K = K} {V = V} {Q = Q}) (sum_plan sum.old)) }
         ensures { Steps M.took M.shown memory.old (plan_as (counted {K = K} {V = V} {Q = Q}) (sum_plan sum.old)) memory.new (kinds.Count sum.new, result) }
     {
-        let progress = map_tables::named::Machine::step(sum, memory);
+        let progress = map_tables::named::StepMachine::step(sum, memory);
         Progress::of_counting(progress)
     }
 
@@ -103,7 +103,7 @@ impl<K: Drop, V: Drop, Q> Machine<K, V, Q> {
 
     /// Tells it what it asks for. Its next steps go on from there. It hands back a reply that it does not take: where it asks for
     /// nothing, or for a reply of another kind. Nothing changes then.
-    pub fn reply(&mut self, reply: Reply<V>) -> Result<(), Reply<V>>
+    pub fn reply(&mut self, reply: MachineReply<V>) -> Result<(), MachineReply<V>>
         ensures { (self.new, result) ≡ machine_replied self.old reply }
     {
         match self {

@@ -1,10 +1,10 @@
-//! How far a call of a map is, whichever call it is, and what it answers. The rows of the collector have `seize::Progress`.
+//! How far a call of a map is, whichever call it is, and what it answers. The rows of the collector have `seize::Advance`.
 ghost use Rattle.std.specs.Prelude.{◌≡◌};
 ghost use Rattle.papaya_raw.specs.Progress.{of_called, of_outcome, of_swept, of_counting};
 
 use crate::machines::answer::{Called, KeyAnswer};
 use map_sweeps::Swept;
-use map_sweeps::named_sweeps::Outcome;
+use map_sweeps::named_sweeps::Yielding;
 use map_tables::named::Fault;
 
 /// What a call of a map answers.
@@ -61,15 +61,15 @@ impl<T> Progress<T> {
     }
 
     /// How far a reservation is.
-    pub(super) fn of_outcome(outcome: Outcome<T, ()>) -> Self
+    pub(super) fn of_outcome(outcome: Yielding<T, ()>) -> Self
         ensures { result ≡ of_outcome outcome }
     {
         match outcome {
-            Outcome::Goes => Progress::Goes,
-            Outcome::Waits => Progress::Waits,
-            Outcome::Gave(value) => Progress::Gave(value),
-            Outcome::Done(()) => Progress::Done(Answer::Reserved),
-            Outcome::Refused(fault) => Progress::Refused(fault),
+            Yielding::Goes => Progress::Goes,
+            Yielding::Waits => Progress::Waits,
+            Yielding::Gave(value) => Progress::Gave(value),
+            Yielding::Done(()) => Progress::Done(Answer::Reserved),
+            Yielding::Refused(fault) => Progress::Refused(fault),
         }
     }
 
@@ -90,14 +90,14 @@ impl<T> Progress<T> {
     }
 
     /// How far a counting is.
-    pub(super) fn of_counting(progress: map_tables::named::Progress<u64>) -> Self
+    pub(super) fn of_counting(progress: map_tables::named::Advance<u64>) -> Self
         ensures { result ≡ of_counting progress }
     {
         match progress {
-            map_tables::named::Progress::Goes => Progress::Goes,
-            map_tables::named::Progress::Waits => Progress::Waits,
-            map_tables::named::Progress::Done(count) => Progress::Done(Answer::Count(count)),
-            map_tables::named::Progress::Refused(fault) => Progress::Refused(fault),
+            map_tables::named::Advance::Goes => Progress::Goes,
+            map_tables::named::Advance::Waits => Progress::Waits,
+            map_tables::named::Advance::Done(count) => Progress::Done(Answer::Count(count)),
+            map_tables::named::Advance::Refused(fault) => Progress::Refused(fault),
         }
     }
 }

@@ -31,7 +31,7 @@ use Rattle.play_events.specs.Given.SchedulerWorks.{DidNothing}
 use Rattle.play_events.specs.Given.SchedulerDeclared.played.Played.{Played}
 use Rattle.play_events.specs.Given.SchedulerDeclared.scheduler.Scheduler.{Scheduler}
 use Rattle.play_events.proofs.Given.MappingAllGiven.{nobody_has}
-use Rattle.play_events.specs.Given.ExecutorDeclared.caller.Caller.{Caller}
+use Rattle.play_events.specs.Given.ExecutorDeclared.caller.NamedCaller.{NamedCaller}
 use Rattle.play_events.specs.Given.ActsLists.{Course}
 use Rattle.run_schedules.specs.Deeds.Deeds.{ReclaimsAll}
 use Rattle.play_events.specs.Given.PlayedPlay.{State, settled_outcome}
@@ -56,7 +56,7 @@ done_is settled.Waits is = absurd (cc is)
 done_is (settled.Gave value) is = absurd (cc is)
 done_is settled.Done is = refl
 
-module _ {K V S : Type 0} (same : K → K → Bool) (by_hasher : S → K → ℕ) (shards : ℕ) (log : List (Entry K V)) (event : Event K V) (calls : List (Caller V)) (may : (names : Names) (last : Bool) → MayHave names (moment log) event (ReclaimsAll last))
+module _ {K V S : Type 0} (same : K → K → Bool) (by_hasher : S → K → ℕ) (shards : ℕ) (log : List (Entry K V)) (event : Event K V) (calls : List (NamedCaller V)) (may : (names : Names) (last : Bool) → MayHave names (moment log) event (ReclaimsAll last))
     (h : S) (b r : ℕ) (any : Course V same by_hasher b r slot_of) (small : b < 2 ^ 64) where
   abbrev In : (did : List Effect) → Outcome V → State K V S → Type 0
   In did o x = InEvent log event did 0 o calls x
@@ -171,7 +171,7 @@ module _ {K V S : Type 0} (same : K → K → Bool) (by_hasher : S → K → ℕ
           let ended = reach_so same by_hasher e.hasher terms.batch_size terms.roots (shards_of terms) (λ (x : State K V S). InEvent log event played.effects.items 0 outcome.Done old.calls x)
           (PlaysSo (entry_of event played ∷ log) new.calls)
           (λ x so. event_ends log event played.effects.items played.steps played.outcome new.calls x (later_by event played old new log makes_none given next next2)
-          (subst (λ (c : List (Caller V)). InEvent log event played.effects.items played.steps played.outcome c x) (sym works.0)
+          (subst (λ (c : List (NamedCaller V)). InEvent log event played.effects.items played.steps played.outcome c x) (sym works.0)
           (subst (λ (o : Outcome V). InEvent log event played.effects.items played.steps o old.calls x) (sym done)
           (subst (λ (n : ℕ). InEvent log event played.effects.items n outcome.Done old.calls x) (sym idle) so)))) new.logged.executor (known new.logged.notes) over in
           subst (λ (h : S). Reach same by_hasher h terms.batch_size terms.roots (shards_of terms) (PlaysSo (entry_of event played ∷ log) new.calls) new.logged.executor (known new.logged.notes)) (sym over.hasher_is) ended

@@ -30,7 +30,7 @@ use Rattle.play_events.specs.Given.SchedulerDeclared.scheduler.Scheduler.{Schedu
 use Rattle.play_events.proofs.Given.SchedulerBegins.{at_slot, entered, fits}
 use Rattle.play_events.proofs.Given.SchedulerMaps.{setting_of_it}
 use Rattle.play_events.specs.Given.NamedSeen.{Seen}
-use Rattle.play_events.specs.Given.ExecutorDeclared.caller.Caller.{Caller}
+use Rattle.play_events.specs.Given.ExecutorDeclared.caller.NamedCaller.{NamedCaller}
 use Rattle.play_events.specs.Given.ExecutorDeclared.caller.Stands.{Stands as HowFar}
 use Rattle.play_events.specs.Given.ExecutorDeclared.caller.Stands.TheVariants as far
 use Rattle.play_events.specs.Given.ActsLists.{Course}
@@ -81,7 +81,7 @@ module _ {K V S : Type 0} (same : K → K → Bool) (by_hasher : S → K → ℕ
   -- no caller has its number
   apart : AllByRecursion (λ d. (d.number == i) ≡ false) old.calls
   apart =
-      each_so (IsUnderWayAs AsFar stands.name stands.scene old.there) (λ (d : Caller V). (d.number == i) ≡ false)
+      each_so (IsUnderWayAs AsFar stands.name stands.scene old.there) (λ (d : NamedCaller V). (d.number == i) ≡ false)
       (λ d way. ne_eqb d.number i (λ is.
       (let none = no_calls_yet same its_hash e stands.scene stands.shown.is_at led.slot (fits same its_hash terms (moment log) old stands own guard name call led.free led.slot led.lives led.number led.setting led.found) d.map in
       let here = subst (λ (n : ℕ). stands.scene.calls d.map n ≡ Some way.0) is way.1 in
@@ -92,7 +92,7 @@ module _ {K V S : Type 0} (same : K → K → Bool) (by_hasher : S → K → ℕ
       → Reach same by_hasher e.hasher e.batch_size e.roots (shards_of terms) (PlaysSo log old.calls) e (known old.logged.notes)
       → Reach same by_hasher e.hasher e.batch_size e.roots (shards_of terms) (λ (x : State K V S). InEvent log event [] 0 outcome.Goes mid.calls x) e2 (known mid.logged.notes)
   begin_goes given any at =
-      subst (λ (l : List (Caller V)). Reach same by_hasher e.hasher e.batch_size e.roots (shards_of terms) (λ (x : State K V S). InEvent log event [] 0 outcome.Goes l x) e2 (known mid.logged.notes)) (sym led.items)
+      subst (λ (l : List (NamedCaller V)). Reach same by_hasher e.hasher e.batch_size e.roots (shards_of terms) (λ (x : State K V S). InEvent log event [] 0 outcome.Goes l x) e2 (known mid.logged.notes)) (sym led.items)
       (subst (λ (k : Known). Reach same by_hasher e.hasher e.batch_size e.roots (shards_of terms) (λ (x : State K V S). InEvent log event [] 0 outcome.Goes (led.caller ∷ old.calls) x) e2 k) (ap known (sym led.notes))
       (call_begins log event own beginner i led.number call (λ names called. may names i (slot_of i) led.number called lives_there its.0) old.calls led.free apart led.caller (ap (λ (s : Seen). s.name) led.is) led.numbered (ap (λ (s : Seen). s.map) led.is)
       (ap (λ (s : Seen). s.kind) led.is) led.keeps_none same by_hasher (shards_of terms) e e2 given any led.slot its_slot led.setting setting_is
@@ -151,7 +151,7 @@ module _ {K V S : Type 0} (same : K → K → Bool) (by_hasher : S → K → ℕ
       gone_so : (mid : Scheduler K V S) → HasBegun same hash nameless guard name call old mid → StandsFor same hash terms (with_call nameless guard call (number_of name (moment log)) (moment log)) mid
           → GoneBy same hash 0 played.steps played.outcome [] played.effects.items mid new → After
       gone_so mid led stands_mid gone =
-          let here : slice_get mid.calls 0 ≡ Some led.caller = ap (λ (l : List (Caller V)). slice_get l 0) led.items in
+          let here : slice_get mid.calls 0 ≡ Some led.caller = ap (λ (l : List (NamedCaller V)). slice_get l 0) led.items in
           let works = works_at same hash terms (with_call nameless guard call (number_of name (moment log)) (moment log)) mid stands_mid 0 led.caller here in
           let on = given_gone same hash 0 played.steps played.outcome [] played.effects.items mid new gone in
           let stays : StaysGiven old.logged.executor mid.logged.executor = (sym on.0 ∙ given.0, sym on.1 ∙ given.1, sym on.2 ∙ given.2) in
@@ -172,7 +172,7 @@ module _ {K V S : Type 0} (same : K → K → Bool) (by_hasher : S → K → ℕ
 
       by : (it : (begun : Bool) × (mid : Scheduler K V S) × BeginsSo same hash terms (moment log) nameless guard name call begun old mid
           × (mid.logged.executor.batch_size ≡ old.logged.executor.batch_size)
-          × (begun ≡ true → (d : Caller V) → slice_get mid.calls 0 ≡ Some d → TakenBy same hash 0 most_steps d.stands played mid new)
+          × (begun ≡ true → (d : NamedCaller V) → slice_get mid.calls 0 ≡ Some d → TakenBy same hash 0 most_steps d.stands played mid new)
           × (begun ≡ false → SaysAgain same hash (outcome.Refused fault.Busy) played mid new)) → After
       by (false, mid, so, size, steps, none) =
           let n = none refl in
@@ -181,5 +181,5 @@ module _ {K V S : Type 0} (same : K → K → Bool) (by_hasher : S → K → ℕ
       by (true, mid, so, size, steps, none) =
           let led = so.led refl in
           let goes : led.caller.stands ≡ far.Goes = ap (λ (s : Seen). s.far) led.is in
-          let here : slice_get mid.calls 0 ≡ Some led.caller = ap (λ (l : List (Caller V)). slice_get l 0) led.items in
+          let here : slice_get mid.calls 0 ≡ Some led.caller = ap (λ (l : List (NamedCaller V)). slice_get l 0) led.items in
           steps_so mid led (so.stands refl) (subst (λ (h : HowFar). TakenBy same hash 0 most_steps h played mid new) goes (steps refl led.caller here))

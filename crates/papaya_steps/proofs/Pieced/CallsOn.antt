@@ -12,10 +12,10 @@ use Rattle.run_effects.specs.declared.changed.Changed.{Changed}
 use Rattle.play_events.specs.Given.ScenesStepping.{has_ended}
 use Rattle.run_effects.specs.Effects.Known.{Known}
 use Rattle.play_events.specs.Given.NamedSeen.{kind_of}
-use Rattle.play_events.specs.Given.ExecutorDeclared.caller.Caller.{Caller}
+use Rattle.play_events.specs.Given.ExecutorDeclared.caller.NamedCaller.{NamedCaller}
 use Rattle.play_events.specs.Given.ExecutorDeclared.caller.Stands.{Stands as HowFar}
 use Rattle.play_events.specs.Given.ExecutorDeclared.caller.Stands.TheVariants as far
-use Rattle.play_events.specs.Given.ExecutorDeclared.kind.Kind.{Kind}
+use Rattle.play_events.specs.Given.ExecutorDeclared.kind.CallKind.{CallKind}
 use Rattle.play_events.specs.Given.NamedTelling.{kept, number_by}
 use Rattle.play_events.specs.Given.PlayedPlay.{Calling, State, call_stepped, going, keeps}
 use Rattle.play_events.specs.Given.PlayedPlay as play
@@ -26,7 +26,7 @@ use Rattle.play_events.specs.Given.GroupedCalled.{CallersAre, IsCalledAs}
 use Rattle.play_events.proofs.Given.GroupedCallers.{call_beside, call_here, remove_one, removed_count, set_count, set_one}
 
 -- what a step says is the same outcome in both words
-pub same_outcome : {K V : Type 0} (by : Known) (its : Kind) (value : Option V) (said : Progress (Node K V)) → play.outcome_of by its value said ≡ stepping.outcome_of by its value said
+pub same_outcome : {K V : Type 0} (by : Known) (its : CallKind) (value : Option V) (said : Progress (Node K V)) → play.outcome_of by its value said ≡ stepping.outcome_of by its value said
 same_outcome by its value progress.Goes = refl
 same_outcome by its value (progress.Gave node) = refl
 same_outcome by its value (progress.Unstored node) = refl
@@ -38,7 +38,7 @@ same_outcome by its value (progress.Done said) = refl
 same_outcome by its value (progress.Refused fault) = refl
 
 -- a caller that goes on has the name, the number and the map that it had
-pub then_as : {K V : Type 0} (by : Known) (d : Caller V) (said : Progress (Node K V)) → ((caller_then by d said).name ≡ d.name) × ((caller_then by d said).number ≡ d.number) × ((caller_then by d said).map ≡ d.map)
+pub then_as : {K V : Type 0} (by : Known) (d : NamedCaller V) (said : Progress (Node K V)) → ((caller_then by d said).name ≡ d.name) × ((caller_then by d said).number ≡ d.number) × ((caller_then by d said).map ≡ d.map)
 then_as by d progress.Goes = (refl, refl, refl)
 then_as by d (progress.Gave node) = (refl, refl, refl)
 then_as by d (progress.Unstored node) = (refl, refl, refl)
@@ -49,7 +49,7 @@ then_as by d (progress.Pair word) = (refl, refl, refl)
 then_as by d (progress.Done said) = (refl, refl, refl)
 then_as by d (progress.Refused fault) = (refl, refl, refl)
 
-module _ {K V S : Type 0} (names : Names) (x : State K V S) (d : Caller V) (by : Known) (changed : Changed) (memory : Mem (Node K V)) (machine : Machine K V K) (called : IsCalledAs names x d)
+module _ {K V S : Type 0} (names : Names) (x : State K V S) (d : NamedCaller V) (by : Known) (changed : Changed) (memory : Mem (Node K V)) (machine : Machine K V K) (called : IsCalledAs names x d)
     (it : Calling K V) (here : called.call ≡ it) where
   -- the state after its step, which says this
   abbrev after : Progress (Node K V) → State K V S
@@ -77,7 +77,7 @@ module _ {K V S : Type 0} (names : Names) (x : State K V S) (d : Caller V) (by :
   is_then progress.Goes on = is_as progress.Goes on far.Goes d.value its_value
   is_then (progress.Gave node) on = is_as (progress.Gave node) on far.Goes d.value its_value
   is_then (progress.Unstored node) on =
-      is_as (progress.Unstored node) on far.Goes (kept d.kind node d.value) (ap (λ (k : Kind). kept k node it.value) its_kind ∙ ap (kept d.kind node) its_value)
+      is_as (progress.Unstored node) on far.Goes (kept d.kind node d.value) (ap (λ (k : CallKind). kept k node it.value) its_kind ∙ ap (kept d.kind node) its_value)
   is_then progress.Waits on = is_as progress.Waits on far.Goes d.value its_value
   is_then (progress.Asks word) on = is_as (progress.Asks word) on (far.Asks (option_map (number_by by) word)) d.value its_value
   is_then progress.Ready on = is_as progress.Ready on far.Ready d.value its_value
@@ -86,7 +86,7 @@ module _ {K V S : Type 0} (names : Names) (x : State K V S) (d : Caller V) (by :
   is_then (progress.Refused fault) on = absurd (cc on)
 
   -- other callers' calls are as they were
-  others_as : (said : Progress (Node K V)) (c : Caller V) → (c.number == d.number) ≡ false → IsCalledAs names x c → IsCalledAs names (after said) c
+  others_as : (said : Progress (Node K V)) (c : NamedCaller V) → (c.number == d.number) ≡ false → IsCalledAs names x c → IsCalledAs names (after said) c
   others_as said c other is = record {
     name = is.name;
     call = is.call;
@@ -95,7 +95,7 @@ module _ {K V S : Type 0} (names : Names) (x : State K V S) (d : Caller V) (by :
     value = is.value;
   }
 
-  pub callers_on : (calls : List (Caller V)) (place : ℕ) → slice_get calls place ≡ Some d → CallersAre names calls x → (said : Progress (Node K V))
+  pub callers_on : (calls : List (NamedCaller V)) (place : ℕ) → slice_get calls place ≡ Some d → CallersAre names calls x → (said : Progress (Node K V))
       → CallersAre names (callers_then by place d said calls) (after said)
   callers_on calls place at so said = cases (has_ended said) refl
     where
@@ -105,10 +105,10 @@ module _ {K V S : Type 0} (names : Names) (x : State K V S) (d : Caller V) (by :
       cases : (q : Bool) → has_ended said ≡ q → CallersAre names (if q then remove calls place else slice_set calls place (caller_then by d said)) (after said)
       cases true ends = record {
         each = remove_one (λ c. c.number == d.number) (λ c. IsCalledAs names x c) (λ c. IsCalledAs names (after said) c) (others_as said) calls place d at is_it (so.once d.number) so.each;
-        once = λ n. (let few = removed_count (λ (c : Caller V). c.number == n) calls place in let one = so.once n in omega (arith, few, one));
+        once = λ n. (let few = removed_count (λ (c : NamedCaller V). c.number == n) calls place in let one = so.once n in omega (arith, few, one));
       }
       cases false on = record {
         each = set_one (λ c. c.number == d.number) (λ c. IsCalledAs names x c) (λ c. IsCalledAs names (after said) c) (others_as said) (caller_then by d said) (is_then said on) calls place d at is_it
             (so.once d.number) so.each;
-        once = λ n. subst (λ (k : ℕ). k ≤ 1) (sym (set_count (λ (c : Caller V). c.number == n) calls place d (caller_then by d said) at (ap (λ (k : ℕ). k == n) (then_as by d said).1))) (so.once n);
+        once = λ n. subst (λ (k : ℕ). k ≤ 1) (sym (set_count (λ (c : NamedCaller V). c.number == n) calls place d (caller_then by d said) at (ap (λ (k : ℕ). k == n) (then_as by d said).1))) (so.once n);
       }

@@ -12,7 +12,7 @@ use Rattle.play_events.specs.Given.SchedulerPlayed.{entry_of}
 use Rattle.play_events.specs.Given.SchedulerWorks.{WorksOnSetup}
 use Rattle.play_events.specs.Given.SchedulerDeclared.played.Played.{Played}
 use Rattle.play_events.specs.Given.SchedulerDeclared.scheduler.Scheduler.{Scheduler}
-use Rattle.play_events.specs.Given.ExecutorDeclared.caller.Caller.{Caller}
+use Rattle.play_events.specs.Given.ExecutorDeclared.caller.NamedCaller.{NamedCaller}
 use Rattle.play_events.specs.Given.ActsLists.{Course}
 use Rattle.play_events.specs.Given.PlayedPlay.{State, choice_come}
 use Rattle.play_events.specs.Given.GroupedCalled.{PlaysSo}
@@ -23,7 +23,7 @@ use Rattle.play_events.specs.Given.GroupedGrouping.{MayRest}
 
 module _ {K V S : Type 0} where
   -- a choice makes no entry
-  pub quiet_choice : (log : List (Entry K V)) (calls : List (Caller V)) (choice : ℕ) (x : State K V S) → PlaysSo log calls x → PlaysSo log calls (choice_come choice x)
+  pub quiet_choice : (log : List (Entry K V)) (calls : List (NamedCaller V)) (choice : ℕ) (x : State K V S) → PlaysSo log calls x → PlaysSo log calls (choice_come choice x)
   quiet_choice log calls choice x so = record {
     names = so.names;
     grouping = so.grouping;
@@ -32,7 +32,7 @@ module _ {K V S : Type 0} where
   }
 
   -- and where an event is nothing else, it is the grouping of nothing
-  event_choice : (log : List (Entry K V)) (e : Entry K V) (calls : List (Caller V)) (choice : ℕ) (x : State K V S) → e.steps ≡ 0 → e.effects ≡ [] → (moment log).made ≤ (moment (e ∷ log)).made → MayRest (moment log) e.event e.outcome → PlaysSo log calls x
+  event_choice : (log : List (Entry K V)) (e : Entry K V) (calls : List (NamedCaller V)) (choice : ℕ) (x : State K V S) → e.steps ≡ 0 → e.effects ≡ [] → (moment log).made ≤ (moment (e ∷ log)).made → MayRest (moment log) e.event e.outcome → PlaysSo log calls x
       → PlaysSo (e ∷ log) calls (choice_come choice x)
   event_choice log e calls choice x idle none later rest so = record {
     names = so.names;

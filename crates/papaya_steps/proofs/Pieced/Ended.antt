@@ -27,7 +27,7 @@ use Rattle.play_events.specs.Given.SchedulerDeclared.played.Played.{Played}
 use Rattle.play_events.specs.Given.SchedulerDeclared.scheduler.Scheduler.{Scheduler}
 use Rattle.play_events.proofs.Given.SchedulerMaps.{number_is}
 use Rattle.play_events.proofs.Given.MappingMapsEnded.{no_call}
-use Rattle.play_events.specs.Given.ExecutorDeclared.caller.Caller.{Caller}
+use Rattle.play_events.specs.Given.ExecutorDeclared.caller.NamedCaller.{NamedCaller}
 use Rattle.play_events.specs.Given.ActsLists.{Course}
 use Rattle.run_schedules.specs.Deeds.Deeds.{Ends, MapGoes}
 use Rattle.play_events.specs.Given.PlayedPlay.{State, is_over, settled_outcome}
@@ -54,7 +54,7 @@ done_outcome V settled.Waits is = absurd (cc is)
 done_outcome V (settled.Gave value) is = absurd (cc is)
 done_outcome V settled.Done is = refl
 
-module _ {K V S : Type 0} (same : K → K → Bool) (by_hasher : S → K → ℕ) (shards : ℕ) (log : List (Entry K V)) (event : Event K V) (calls : List (Caller V)) (b r : ℕ) (any : Course V same by_hasher b r slot_of) (i map : ℕ)
+module _ {K V S : Type 0} (same : K → K → Bool) (by_hasher : S → K → ℕ) (shards : ℕ) (log : List (Entry K V)) (event : Event K V) (calls : List (NamedCaller V)) (b r : ℕ) (any : Course V same by_hasher b r slot_of) (i map : ℕ)
     (may : (names : Names) (last : Bool) → MayHave names (moment log) event (if last then MapGoes map else Ends map)) where
   abbrev At : (State K V S → Type 0) → Logged K V S → Type 0
   At P l = Reach same by_hasher l.executor.hasher b r shards P l.executor (known l.notes)
@@ -128,7 +128,7 @@ module _ {K V S : Type 0} (same : K → K → Bool) (by_hasher : S → K → ℕ
           reach_so same by_hasher new.logged.executor.hasher terms.batch_size terms.roots (shards_of terms) (λ (x : State K V S). InEvent log ev played.effects.items 0 outcome.Done old.calls x)
           (PlaysSo (entry_of ev played ∷ log) new.calls)
           (λ x so. event_ends log ev played.effects.items played.steps played.outcome new.calls x (later_by ev played old new log refl given next next2)
-          (subst (λ (c : List (Caller V)). InEvent log ev played.effects.items played.steps played.outcome c x) (sym works.0)
+          (subst (λ (c : List (NamedCaller V)). InEvent log ev played.effects.items played.steps played.outcome c x) (sym works.0)
           (subst (λ (o : Outcome V). InEvent log ev played.effects.items played.steps o old.calls x) (sym done)
           (subst (λ (n : ℕ). InEvent log ev played.effects.items n outcome.Done old.calls x) (sym idle) so)))) new.logged.executor (known new.logged.notes) over
 

@@ -6,7 +6,7 @@ use Rattle.run_effects.specs.Effects.Known.{known, nothing_known}
 use Rattle.play_events.specs.Given.ExecutorIsThere.{IsThere}
 use Rattle.play_events.specs.Given.LoggedChoosing.{logged_chosen}
 use Rattle.play_events.specs.Given.LoggedDeclared.logged.Logged.{Logged}
-use Rattle.play_events.specs.Given.ExecutorDeclared.caller.Caller.{Caller}
+use Rattle.play_events.specs.Given.ExecutorDeclared.caller.NamedCaller.{NamedCaller}
 use Rattle.play_events.specs.Given.ActsLists.{Course, nothing_done}
 use Rattle.play_events.specs.Given.PlayedPlay.{State, first_state}
 use Rattle.play_events.specs.Given.GroupedCalled.{PlaysSo}
@@ -20,7 +20,7 @@ plays_none roots = record { names = []; grouping = (refl, refl); callers = recor
 
 module _ {K V S : Type 0} (same : K → K → Bool) (by_hasher : S → K → ℕ) (terms : Terms) (l : Logged K V S) where
   pub none_yet : IsThere same (by_hasher l.executor.hasher) l.executor (at_first terms.roots) → l.executor.batch_size ≡ terms.batch_size → l.executor.roots ≡ terms.roots → known l.notes ≡ nothing_known
-      → (calls : List (Caller V)) → calls ≡ [] → ActsSoFar same by_hasher terms [] l calls
+      → (calls : List (NamedCaller V)) → calls ≡ [] → ActsSoFar same by_hasher terms [] l calls
   none_yet there size roots nothing calls none = record {
     hasher_is = refl;
     size = size;
@@ -34,11 +34,11 @@ module _ {K V S : Type 0} (same : K → K → Bool) (by_hasher : S → K → ℕ
       plays = refl;
       new = tt;
       knows = sym nothing;
-      so = subst (λ (c : List (Caller V)). PlaysSo [] c (first_state {K = K} {V = V} {S = S} terms.roots)) (sym none) (plays_none terms.roots);
+      so = subst (λ (c : List (NamedCaller V)). PlaysSo [] c (first_state {K = K} {V = V} {S = S} terms.roots)) (sym none) (plays_none terms.roots);
     };
   }
 
-  pub one_choice_yet : (any : (batch_size roots : ℕ) → Course V same by_hasher batch_size roots slot_of) (choice : ℕ) (calls : List (Caller V)) → ActsSoFar same by_hasher terms [] l calls
+  pub one_choice_yet : (any : (batch_size roots : ℕ) → Course V same by_hasher batch_size roots slot_of) (choice : ℕ) (calls : List (NamedCaller V)) → ActsSoFar same by_hasher terms [] l calls
       → ActsSoFar same by_hasher terms [] (logged_chosen choice l) calls
   one_choice_yet any choice calls at =
       choice_goes same by_hasher (shards_of terms) choice l.executor (PlaysSo [] calls) (PlaysSo [] calls) (λ (x : State K V S) so. quiet_choice [] calls choice x so) (known l.notes) terms.batch_size terms.roots

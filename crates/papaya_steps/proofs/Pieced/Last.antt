@@ -6,7 +6,7 @@ use Rattle.play_events.specs.Given.ScenesScene.{slot_of}
 use Rattle.run_schedules.specs.Schedules.Entry.{Entry}
 use Rattle.run_schedules.specs.Schedules.Terms.{Terms}
 use Rattle.play_events.specs.Given.LoggedDeclared.logged.Logged.{Logged}
-use Rattle.play_events.specs.Given.ExecutorDeclared.caller.Caller.{Caller}
+use Rattle.play_events.specs.Given.ExecutorDeclared.caller.NamedCaller.{NamedCaller}
 use Rattle.play_events.specs.Given.ActsLists.{Course}
 use Rattle.play_events.proofs.Given.ActsLists.{lists_determine}
 use Rattle.play_events.specs.Given.GroupedByActs.{IsByActs}
@@ -17,7 +17,7 @@ module _ {K S : Type 0} (V : Type 0) (same : K → K → Bool) (by_hasher : S �
   any_course lawful batch_size roots = (lists_determine {V = V} same by_hasher batch_size roots slot_of lawful).0
 
 module _ {K V S : Type 0} (same : K → K → Bool) (by_hasher : S → K → ℕ) (any : (batch_size roots : ℕ) → Course V same by_hasher batch_size roots slot_of) (terms : Terms) (log : List (Entry K V)) (l : Logged K V S)
-    (calls : List (Caller V)) where
+    (calls : List (NamedCaller V)) where
   pub by_acts : ActsSoFar same by_hasher terms log l calls → IsByActs same by_hasher l.executor.hasher terms log
   by_acts at = record {
     small = subst (λ (n : ℕ). n < 2 ^ 64) at.size ((at.leads (any terms.batch_size terms.roots)).3.held.small);

@@ -6,8 +6,8 @@ use Rattle.std.proofs.lemmas.Bool.{cases_eq}
 use Rattle.std.proofs.lemmas.List.{length-take-le}
 use Rattle.play_events.specs.Given.SeizeActsAnswers.{Grant}
 use Rattle.play_events.proofs.Given.SeizeActsAnswers.{same_some}
-use Rattle.map_tables.specs.Given.SeizeDeclared.progress.Progress.{Progress}
-use Rattle.map_tables.specs.Given.SeizeDeclared.progress.Progress.TheVariants as progress
+use Rattle.map_tables.specs.Given.SeizeDeclared.advance.Advance.{Advance}
+use Rattle.map_tables.specs.Given.SeizeDeclared.advance.Advance.TheVariants as progress
 use Rattle.map_tables.specs.declared.resize_mode.ResizeMode.{ResizeMode}
 use Rattle.map_tables.specs.declared.setting.Setting.{Setting}
 use Rattle.map_tables.specs.Powers.{next_power}
@@ -41,7 +41,7 @@ use Rattle.play_events.specs.Given.SchedulerWorks.{DidNothing, MakingHasRun, Wor
 use Rattle.play_events.specs.Given.SchedulerDeclared.played.Played.{Played}
 use Rattle.play_events.specs.Given.SchedulerDeclared.scheduler.Scheduler.{Scheduler}
 use Rattle.play_events.specs.Given.NamedPlaces.{first_places}
-use Rattle.play_events.specs.Given.ExecutorDeclared.caller.Caller.{Caller}
+use Rattle.play_events.specs.Given.ExecutorDeclared.caller.NamedCaller.{NamedCaller}
 use Rattle.play_events.specs.Given.ActsActs.{OfMaking, StepsMaking}
 use Rattle.play_events.specs.Given.ActsLeads.{Led}
 use Rattle.play_events.specs.Given.ActsLeads as leads
@@ -61,7 +61,7 @@ use Rattle.play_events.proofs.Given.AgreesFirstPlaces.{asked_places, first_back}
 use Rattle.papaya_steps.proofs.Pieced.Quiet.{did_nothing}
 
 -- a making that is not over goes on
-on_is : {T : Type 0} (said : Progress T) → is_over said ≡ false → is_on said ≡ true
+on_is : {T : Type 0} (said : Advance T) → is_over said ≡ false → is_on said ≡ true
 on_is progress.Goes e = refl
 on_is progress.Waits e = refl
 on_is (progress.Done answer) e = absurd (cc e)
@@ -105,17 +105,17 @@ module _ {K V S : Type 0} (same : K → K → Bool) (by_hasher : S → K → ℕ
         by_less : (k l x : ℕ) → k ≡ map → l ≡ map + 1 → x < l → x ≢ map → x < k
         by_less k l x few long less ne = omega (arith, few, long, less, ne)
 
-  back_there : (g : Grant) (said : Progress Setting) → e3.maps.items ≡ given_back map said e2.maps.items → Led same by_hasher e.batch_size e.roots slot_of (StepsMaking i g) s (OfMaking said) n → IsThere same (by_hasher e.hasher) e3 n
+  back_there : (g : Grant) (said : Advance Setting) → e3.maps.items ≡ given_back map said e2.maps.items → Led same by_hasher e.batch_size e.roots slot_of (StepsMaking i g) s (OfMaking said) n → IsThere same (by_hasher e.hasher) e3 n
   back_there g progress.Goes items led = kept items
   back_there g progress.Waits items led = kept items
   back_there g (progress.Done setting) items led = kept items
   back_there g (progress.Refused fault) items (b, makes, m2, machine, end, computed, tells, did, came) =
       let said : end ≡ progress.Refused fault = cc (tells) in
-      let is_n = subst (λ (x : Progress Setting). leads.MakingCame {V = V} same by_hasher e.batch_size e.roots slot_of s i b did.step.w2 machine n x) said came in
+      let is_n = subst (λ (x : Advance Setting). leads.MakingCame {V = V} same by_hasher e.batch_size e.roots slot_of s i b did.step.w2 machine n x) said came in
       dropped b makes (ap (λ (x : Scene K V). x.maps) is_n) (ap (λ (x : Scene K V). x.makers i) is_n ∙ at_same s.makers i None i refl)
       (λ k ne. ap (λ (x : Scene K V). x.makers k) is_n ∙ at_other s.makers i None k ne) (length e2.maps.items == map + 1) refl items
 
-module _ {K V S : Type 0} (same : K → K → Bool) (by_hasher : S → K → ℕ) (shards : ℕ) (log : List (Entry K V)) (own : List ℕ) (mode : ResizeMode) (capacity : ℕ) (calls : List (Caller V)) (b r : ℕ) (any : Course V same by_hasher b r slot_of)
+module _ {K V S : Type 0} (same : K → K → Bool) (by_hasher : S → K → ℕ) (shards : ℕ) (log : List (Entry K V)) (own : List ℕ) (mode : ResizeMode) (capacity : ℕ) (calls : List (NamedCaller V)) (b r : ℕ) (any : Course V same by_hasher b r slot_of)
     (i map : ℕ) (map_is : map ≡ (moment log).made) (places : ℕ) (back : first_places (pairs_for places) ≡ first_places capacity) where
   abbrev ev : Event K V
   ev = event.MakeMap own mode capacity
@@ -127,7 +127,7 @@ module _ {K V S : Type 0} (same : K → K → Bool) (by_hasher : S → K → ℕ
   abbrev Makes' : (did : List Effect) → Outcome V → State K V S → Type 0
   Makes' did o x = InEvent log ev did 0 o calls x × MakesSo i (moment log).made mode places x
 
-  abbrev Then : Progress Setting → List Effect → State K V S → Type 0
+  abbrev Then : Advance Setting → List Effect → State K V S → Type 0
   Then said did x = InEvent log ev did 0 (making_outcome said) calls x × MakesThen i (moment log).made mode places said x
 
   abbrev SoFar : Far K V S → Type 0
@@ -162,18 +162,18 @@ module _ {K V S : Type 0} (same : K → K → Bool) (by_hasher : S → K → ℕ
         (step_so x y at step y.logged refl refl (stays_so step.said on)),
   )
     where
-      stays_so : (said : Progress Setting) → is_over said ≡ false → y.logged.executor.maps.items ≡ given_back map said y.logged.executor.maps.items
+      stays_so : (said : Advance Setting) → is_over said ≡ false → y.logged.executor.maps.items ≡ given_back map said y.logged.executor.maps.items
       stays_so progress.Goes e = refl
       stays_so progress.Waits e = refl
       stays_so (progress.Done setting) e = refl
       stays_so (progress.Refused fault) e = absurd (cc e)
 
   -- from where it begins to where it is over
-  pub made_by : (told : Progress Setting) (effects : List Effect) (began new : Logged K V S) → MakingGone i map told [] effects began new → (o : Outcome V) → At (λ s. Makes' [] o s) began → At (λ s. Then told effects s) new
+  pub made_by : (told : Advance Setting) (effects : List Effect) (began new : Logged K V S) → MakingGone i map told [] effects began new → (o : Outcome V) → At (λ s. Makes' [] o s) began → At (λ s. Then told effects s) new
   made_by told effects began new (prev, goes, mid, step, says, notes, is, items) o at =
-      subst (λ (t : Progress Setting). At (λ s. Then t effects s) new) says
+      subst (λ (t : Advance Setting). At (λ s. Then t effects s) new) says
       (step_so prev (far effects mid) (goes_to (MakingOn i map) SoFar goes_on (far [] began) prev goes (o, at)) step new notes is
-      (items ∙ ap (λ (t : Progress Setting). given_back map t mid.executor.maps.items) (sym says)))
+      (items ∙ ap (λ (t : Advance Setting). given_back map t mid.executor.maps.items) (sym says)))
 
 module _ {K V S : Type 0} (same : K → K → Bool) (by_hasher : S → K → ℕ) (any : (batch_size roots : ℕ) → Course V same by_hasher batch_size roots slot_of) (own : List ℕ) (mode : ResizeMode) (capacity : ℕ) (played : Played V)
     (old new : Scheduler K V S) (idle : played.steps ≡ 0) (works : WorksOnMap played old new own mode capacity) (lawful : AreLawful same (by_hasher old.logged.executor.hasher)) (processors : old.setup.processors ≤ 2 ^ 63)
@@ -191,7 +191,7 @@ module _ {K V S : Type 0} (same : K → K → Bool) (by_hasher : S → K → ℕ
       l = old.logged
 
       -- what its making has come to
-      run_so : (told : Progress Setting) (d : MakingHasRun played old new own mode capacity told)
+      run_so : (told : Advance Setting) (d : MakingHasRun played old new own mode capacity told)
           → Reach same by_hasher new.logged.executor.hasher terms.batch_size terms.roots (shards_of terms)
           (λ (x : State K V S). InEvent log ev played.effects.items 0 (making_outcome told) old.calls x × MakesThen d.caller (moment log).made mode d.places told x) new.logged.executor (known new.logged.notes)
       run_so told d =
@@ -212,14 +212,14 @@ module _ {K V S : Type 0} (same : K → K → Bool) (by_hasher : S → K → ℕ
       later : (moment (entry_of ev played ∷ log)).made ≡ numbers_made played.outcome (moment log).made
       later = sym next2 ∙ count ∙ ap (numbers_made played.outcome) next
 
-      over : (told : Progress Setting) → played.outcome ≡ making_outcome told → (d : MakingHasRun played old new own mode capacity told)
+      over : (told : Advance Setting) → played.outcome ≡ making_outcome told → (d : MakingHasRun played old new own mode capacity told)
           → ((x : State K V S) → InEvent log ev played.effects.items 0 (making_outcome told) old.calls x → MakesThen d.caller (moment log).made mode d.places told x
           → (n : ℕ) → (moment (entry_of ev played ∷ log)).made ≤ n → is_taken n x.history ≡ false) → After
       over told says d fresh =
           reach_so same by_hasher new.logged.executor.hasher terms.batch_size terms.roots (shards_of terms)
           (λ (x : State K V S). InEvent log ev played.effects.items 0 (making_outcome told) old.calls x × MakesThen d.caller (moment log).made mode d.places told x) (PlaysSo (entry_of ev played ∷ log) new.calls)
           (λ x so. event_ends_so log ev played.effects.items played.steps played.outcome new.calls x (fresh x so.0 so.1)
-          (subst (λ (c : List (Caller V)). InEvent log ev played.effects.items played.steps played.outcome c x) (sym works.0)
+          (subst (λ (c : List (NamedCaller V)). InEvent log ev played.effects.items played.steps played.outcome c x) (sym works.0)
           (subst (λ (o : Outcome V). InEvent log ev played.effects.items played.steps o old.calls x) (sym says)
           (subst (λ (n : ℕ). InEvent log ev played.effects.items n (making_outcome told) old.calls x) (sym idle) so.0)))) new.logged.executor (known new.logged.notes) (run_so told d)
 

@@ -5,7 +5,7 @@ use Rattle.run_schedules.specs.declared.event.Event.{Event}
 use Rattle.run_schedules.specs.Schedules.After.{moment}
 use Rattle.run_schedules.specs.Schedules.Entry.{Entry}
 use Rattle.run_schedules.specs.Schedules.Terms.{Terms}
-use Rattle.play_events.specs.Given.ExecutorDeclared.caller.Caller.{Caller}
+use Rattle.play_events.specs.Given.ExecutorDeclared.caller.NamedCaller.{NamedCaller}
 use Rattle.play_events.specs.Given.ExecutorIsThere.{KeepsGiven}
 use Rattle.play_events.specs.Given.LoggedDeclared.logged.Logged.{Logged}
 use Rattle.play_events.specs.Given.SchedulerPlayed.{entry_of}
@@ -16,7 +16,7 @@ use Rattle.papaya_steps.specs.Pieced.SoFar.{ActsSoFar, GoesOnByActs}
 use Rattle.play_events.specs.Given.GroupedGrouping.{MayRest}
 use Rattle.run_schedules.specs.Schedules.Moment.{Moment}
 
-module _ {K V S : Type 0} (same : K → K → Bool) (by_hasher : S → K → ℕ) (terms : Terms) (log : List (Entry K V)) (l : Logged K V S) (calls : List (Caller V)) where
+module _ {K V S : Type 0} (same : K → K → Bool) (by_hasher : S → K → ℕ) (terms : Terms) (log : List (Entry K V)) (l : Logged K V S) (calls : List (NamedCaller V)) where
   pub quiet_goes_on : (e : Entry K V) → e.steps ≡ 0 → e.effects ≡ [] → (moment log).made ≤ (moment (e ∷ log)).made → MayRest (moment log) e.event e.outcome → ActsSoFar same by_hasher terms log l calls
       → ActsSoFar same by_hasher terms (e ∷ log) l calls
   quiet_goes_on e steps none later rest at = record {
@@ -54,5 +54,5 @@ module _ {K V S : Type 0} (event : Event K V) (played : Played V) (old new : Sch
   did_nothing same by_hasher idle none logged calls rest terms log stands in_turn next next2 at =
       let count : length new.logged.executor.maps.items ≡ length old.logged.executor.maps.items = ap (λ (l : Logged K V S). length l.executor.maps.items) logged in
       subst (λ (l : Logged K V S). ActsSoFar same by_hasher terms (entry_of event played ∷ log) l new.calls) (sym logged)
-      (subst (λ (c : List (Caller V)). ActsSoFar same by_hasher terms (entry_of event played ∷ log) old.logged c) (sym calls)
+      (subst (λ (c : List (NamedCaller V)). ActsSoFar same by_hasher terms (entry_of event played ∷ log) old.logged c) (sym calls)
       (quiet_goes_on same by_hasher terms log old.logged old.calls (entry_of event played) idle none (omega (arith, count, next, next2)) (rest (moment log) stands.there) at))

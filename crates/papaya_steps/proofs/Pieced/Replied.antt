@@ -29,7 +29,7 @@ use Rattle.play_events.specs.Given.SchedulerDeclared.played.Played.{Played}
 use Rattle.play_events.specs.Given.SchedulerDeclared.scheduler.Scheduler.{Scheduler}
 use Rattle.play_events.specs.Given.NamedMachines.{aborted_by}
 use Rattle.play_events.specs.Given.NamedSeen.{kind_of}
-use Rattle.play_events.specs.Given.ExecutorDeclared.caller.Caller.{Caller}
+use Rattle.play_events.specs.Given.ExecutorDeclared.caller.NamedCaller.{NamedCaller}
 use Rattle.play_events.specs.Given.ExecutorDeclared.caller.Stands.TheVariants as far
 use Rattle.play_events.specs.Given.ActsActs.{OfReply, TellsCall}
 use Rattle.play_events.specs.Given.ActsDoings.{Stage}
@@ -70,7 +70,7 @@ taken (Ok a) plain = refl
 taken (Err b) plain = absurd (cc plain)
 
 module _ {K V S : Type 0} (same : K → K → Bool) (by_hasher : S → K → ℕ) (terms : Terms) (log : List (Entry K V)) (own : List ℕ) (told : Reply V) (played : Played V) (old new : Scheduler K V S)
-    (did : HasReplied same (by_hasher old.logged.executor.hasher) own told old new) (d : Caller V) (here : slice_get old.calls did.place ≡ Some d) (named : d.name ≡ own) (its : did.whose ≡ d)
+    (did : HasReplied same (by_hasher old.logged.executor.hasher) own told old new) (d : NamedCaller V) (here : slice_get old.calls did.place ≡ Some d) (named : d.name ≡ own) (its : did.whose ≡ d)
     (later : (moment log).made + 0 ≤ (moment (entry_of (event.Replied own told) played ∷ log)).made) where
   abbrev e : Executor K V S
   e = old.logged.executor
@@ -82,7 +82,7 @@ module _ {K V S : Type 0} (same : K → K → Bool) (by_hasher : S → K → ℕ
   entry = record { deed = Replies d.number told; outcome = outcome.Goes; effects = []; refused = false }
 
   -- its caller goes on, by what it was told
-  abbrev next_caller : Caller V
+  abbrev next_caller : NamedCaller V
   next_caller = record d { stands = far.Goes; value = did.value }
 
   module _ (names : Names) (x : State K V S) (so : CallersAre names old.calls x) (c : Calling K V) (at : x.now.calls d.map d.number ≡ Some c) (aborts : ℕ → V) (is_ok_then : is_ok (machine_replied c.machine did.as_it).1 ≡ true)
@@ -101,7 +101,7 @@ module _ {K V S : Type 0} (same : K → K → Bool) (by_hasher : S → K → ℕ
     one : called.call ≡ c
     one = same_some called.call c (sym called.here ∙ at)
 
-    others : (a : Caller V) → (a.number == d.number) ≡ false → IsCalledAs names x a → IsCalledAs names z a
+    others : (a : NamedCaller V) → (a.number == d.number) ≡ false → IsCalledAs names x a → IsCalledAs names z a
     others a other is = record {
       name = is.name;
       call = is.call;
@@ -120,10 +120,10 @@ module _ {K V S : Type 0} (same : K → K → Bool) (by_hasher : S → K → ℕ
     }
 
     callers_then : CallersAre names new.calls z
-    callers_then = subst (λ (l : List (Caller V)). CallersAre names l z) (sym (did.calls d here)) (record {
+    callers_then = subst (λ (l : List (NamedCaller V)). CallersAre names l z) (sym (did.calls d here)) (record {
       each = set_one (λ a. a.number == d.number) (λ a. IsCalledAs names x a) (λ a. IsCalledAs names z a) others next_caller it_then old.calls did.place d here (eq-eqb d.number d.number refl)
           (so.once d.number) so.each;
-      once = λ n. subst (λ (k : ℕ). k ≤ 1) (sym (set_count (λ (a : Caller V). a.number == n) old.calls did.place d next_caller here refl)) (so.once n);
+      once = λ n. subst (λ (k : ℕ). k ≤ 1) (sym (set_count (λ (a : NamedCaller V). a.number == n) old.calls did.place d next_caller here refl)) (so.once n);
     })
 
   -- played, it is a piece of one entry
@@ -154,7 +154,7 @@ module _ {K V S : Type 0} (same : K → K → Bool) (by_hasher : S → K → ℕ
       is s there =
           let c = under machine_of (s.calls d.map d.number) has.0 (there.calls d.map d.number ∙ has.1) in
           (executors_act V same by_hasher e e2 s there given d.number).0.reply did.as_it did.result
-          (subst (λ (i : ℕ). RepliesThere same (by_hasher e.hasher) i did.as_it did.result s e e2) (ap (λ (a : Caller V). a.number) its) (did.leads s there)) d.map c.0 c.1
+          (subst (λ (i : ℕ). RepliesThere same (by_hasher e.hasher) i did.as_it did.result s e e2) (ap (λ (a : NamedCaller V). a.number) its) (did.leads s there)) d.map c.0 c.1
 
       next : (value : V) (aborts : ℕ → V) (x y : State K V S) (p : Stage V same by_hasher e.batch_size e.roots slot_of) → IsOfStage by_hasher same e.batch_size e.roots p x.now
           → IsThere same (by_hasher e.hasher) e p.0 → aborts (length x.told) ≡ abort_of told value → play_act same by_hasher e.batch_size e.roots aborts (TellsCall d.number d.map did.as_it) x ≡ Some y

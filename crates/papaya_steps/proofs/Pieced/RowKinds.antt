@@ -9,7 +9,7 @@ use Rattle.seize_words.specs.declared.fault.Fault.TheVariants.{SlotsUsedUp}
 use Rattle.map_tables.specs.Given.SeizeLeave as leave
 use Rattle.map_tables.specs.Given.SeizeRegister as register
 use Rattle.map_tables.specs.Given.SeizeSettle.{settle_plan}
-use Rattle.map_tables.specs.Given.SeizeDeclared.progress.Progress.{Progress}
+use Rattle.map_tables.specs.Given.SeizeDeclared.advance.Advance.{Advance}
 use Rattle.map_tables.specs.Given.SeizeDeclared.rows.leave.Leave.{Leave}
 use Rattle.map_tables.specs.Given.SeizeDeclared.rows.leave.Leaving.{Leaving}
 use Rattle.map_tables.specs.Given.SeizeDeclared.rows.leave.Leaving.TheVariants as leaves
@@ -49,7 +49,7 @@ use Rattle.papaya_steps.specs.Pieced.RowFor.{IsRowFor}
 
 -- a registering that enters none goes on so
 module _ (T : Type 0) (c : Register) (none : c.enters ≡ false) (never : c.stands ≡ registers.Enter → ⊥) where
-  abbrev Short : Register × Progress ℕ → Type 0
+  abbrev Short : Register × Advance ℕ → Type 0
   Short (c2, o) = (c2.enters ≡ false) × (c2.stands ≡ registers.Enter → ⊥)
 
   further_short : (t : Bool) → Short (if t then register.going (record c { slot = c.slot + 1 }) registers.Look else register.refused c SlotsUsedUp)

@@ -40,7 +40,7 @@ use Rattle.play_events.proofs.Given.SchedulerUnregisters as unregisters
 use Rattle.play_events.specs.Given.RowsRows.{RowRan}
 use Rattle.play_events.proofs.Given.RowsNeverWaits.{done_alone}
 use Rattle.play_events.proofs.Given.RowsRan.{done_once}
-use Rattle.play_events.specs.Given.ExecutorDeclared.caller.Caller.{Caller}
+use Rattle.play_events.specs.Given.ExecutorDeclared.caller.NamedCaller.{NamedCaller}
 use Rattle.play_events.specs.Given.ActsLists.{Course}
 use Rattle.play_events.specs.Given.PlayedPlay.{State, row_outcome}
 use Rattle.play_events.specs.Given.GroupedCalled.{PlaysSo}
@@ -64,7 +64,7 @@ on_is after row told.Done is = absurd (cc is)
 on_is after row (told.Registered slot) is = absurd (cc is)
 on_is after row (told.Refused fault) is = absurd (cc is)
 
-module _ {K V S : Type 0} (same : K → K → Bool) (by_hasher : S → K → ℕ) (shards : ℕ) (log : List (Entry K V)) (event : Event K V) (calls : List (Caller V)) (b r : ℕ) (any : Course V same by_hasher b r slot_of)
+module _ {K V S : Type 0} (same : K → K → Bool) (by_hasher : S → K → ℕ) (shards : ℕ) (log : List (Entry K V)) (event : Event K V) (calls : List (NamedCaller V)) (b r : ℕ) (any : Course V same by_hasher b r slot_of)
     (p : Scheduler K V S) (there : (moment log).there ≡ p.there) (slot i : ℕ) (in_slot : slot_of i ≡ slot) (about : IsAbout event p slot) where
   abbrev At : (did : List Effect) → Outcome V → Logged K V S → Type 0
   At did o l = Reach same by_hasher l.executor.hasher b r shards (λ s. InEvent log event did 0 o calls s) l.executor (known l.notes)
@@ -197,7 +197,7 @@ module _ {K V S : Type 0} (same : K → K → Bool) (by_hasher : S → K → ℕ
           reach_so same by_hasher new.logged.executor.hasher terms.batch_size terms.roots (shards_of terms) (λ (x : State K V S). InEvent log event played.effects.items 0 (row_outcome said) old.calls x)
           (PlaysSo (entry_of event played ∷ log) new.calls)
           (λ x so. event_ends log event played.effects.items played.steps played.outcome new.calls x (later_by event played old new log makes_none given next next2)
-          (subst (λ (c : List (Caller V)). InEvent log event played.effects.items played.steps played.outcome c x) (sym works.0)
+          (subst (λ (c : List (NamedCaller V)). InEvent log event played.effects.items played.steps played.outcome c x) (sym works.0)
           (subst (λ (o : Outcome V). InEvent log event played.effects.items played.steps o old.calls x) (sym (facts.1 said comes ran))
           (subst (λ (n : ℕ). InEvent log event played.effects.items n (row_outcome said) old.calls x) (sym idle) so)))) new.logged.executor (known new.logged.notes) over
         where

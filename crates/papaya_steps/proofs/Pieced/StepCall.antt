@@ -26,8 +26,8 @@ use Rattle.play_events.specs.Given.ExecutorIsThere.{IsThere, StaysGiven, call_in
 use Rattle.play_events.specs.Given.ExecutorDeclared.executor.Executor.{Executor}
 use Rattle.play_events.specs.Given.SchedulerDeclared.scheduler.Scheduler.{Scheduler}
 use Rattle.play_events.specs.Given.NamedSeen.{kind_of}
-use Rattle.play_events.specs.Given.ExecutorDeclared.caller.Caller.{Caller}
-use Rattle.play_events.specs.Given.ExecutorDeclared.kind.Kind.{Kind}
+use Rattle.play_events.specs.Given.ExecutorDeclared.caller.NamedCaller.{NamedCaller}
+use Rattle.play_events.specs.Given.ExecutorDeclared.kind.CallKind.{CallKind}
 use Rattle.play_events.specs.Given.ActsActs.{OfCall, StepsCall}
 use Rattle.play_events.specs.Given.ActsAsSteps.{changed_by}
 use Rattle.play_events.specs.Given.ActsLeads.{CallCame}
@@ -149,12 +149,12 @@ module _ {K V S : Type 0} (same : K → K → Bool) (by_hasher : S → K → ℕ
       outcome_so =
           ap (λ (k : Known). play.outcome_of k (kind_of it.call) it.value st.said) known_then
           ∙ ap (λ (c : Calling K V). play.outcome_of (known new.logged.notes) (kind_of c.call) c.value st.said) (sym one)
-          ∙ ap (λ (k : Kind). play.outcome_of (known new.logged.notes) k called.call.value st.said) called.kind
+          ∙ ap (λ (k : CallKind). play.outcome_of (known new.logged.notes) k called.call.value st.said) called.kind
           ∙ ap (λ (v : Option V). play.outcome_of (known new.logged.notes) st.caller.kind v st.said) called.value
           ∙ same_outcome (known new.logged.notes) st.caller.kind st.caller.value st.said ∙ sym st.outcome_is
 
       callers : CallersAre names new.calls z
-      callers = subst (λ (l : List (Caller V)). CallersAre names l z) (sym st.calls)
+      callers = subst (λ (l : List (NamedCaller V)). CallersAre names l z) (sym st.calls)
           (callers_on names x st.caller (known new.logged.notes) e2.memory.changed memory machine2 called it one old.calls place st.at so.callers st.said)
 
       after_so : After z

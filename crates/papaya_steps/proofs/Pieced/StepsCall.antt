@@ -16,8 +16,8 @@ use Rattle.run_schedules.specs.Schedules.Entry.{Entry}
 use Rattle.run_effects.specs.Effects.Known.{Known, known}
 use Rattle.play_events.specs.Given.SchedulerDeclared.scheduler.Scheduler.{Scheduler}
 use Rattle.play_events.specs.Given.NamedTelling.{goes_on}
-use Rattle.play_events.specs.Given.ExecutorDeclared.caller.Caller.{Caller}
-use Rattle.play_events.specs.Given.ExecutorDeclared.kind.Kind.{Kind}
+use Rattle.play_events.specs.Given.ExecutorDeclared.caller.NamedCaller.{NamedCaller}
+use Rattle.play_events.specs.Given.ExecutorDeclared.kind.CallKind.{CallKind}
 use Rattle.play_events.specs.Given.ActsLists.{Course}
 use Rattle.run_schedules.specs.Deeds.Deeds.{Steps}
 use Rattle.play_events.specs.Given.SteppingStepping.{GoneBy, GoneFor, IsStepped, caller_then, outcome_of}
@@ -32,7 +32,7 @@ none_more : (n : ℕ) → n ≡ 0 + n
 none_more n = omega arith
 
 -- a step after which a call goes on by itself is none by which it has ended
-still : {K V : Type 0} (by : Known) (its : Kind) (value : Option V) (said : Progress (Node K V)) → goes_on (outcome_of by its value said) ≡ true → has_ended said ≡ false
+still : {K V : Type 0} (by : Known) (its : CallKind) (value : Option V) (said : Progress (Node K V)) → goes_on (outcome_of by its value said) ≡ true → has_ended said ≡ false
 still by its value progress.Goes on = refl
 still by its value (progress.Gave node) on = refl
 still by its value (progress.Unstored node) on = refl
@@ -47,7 +47,7 @@ module _ {K V S : Type 0} (same : K → K → Bool) (by_hasher : S → K → ℕ
     (may : (names : Names) → number_called own names ≡ Some i → MayHave names (moment log) event (Steps i)) where
   -- at this place stands the caller of this name, and has its call under way
   pub record StandsThere (p : Scheduler K V S) : Type 0 where
-    pub caller : Caller V
+    pub caller : NamedCaller V
     pub at : slice_get p.calls place ≡ Some caller
     pub name : caller.name ≡ own
     pub number : caller.number ≡ i
@@ -68,9 +68,9 @@ module _ {K V S : Type 0} (same : K → K → Bool) (by_hasher : S → K → ℕ
     goes_here : Goes p.logged.executor.hasher p.logged.executor.batch_size p.logged.executor.roots
     goes_here any st stands at =
         let one : st.caller ≡ stands.caller = same_some st.caller stands.caller (sym st.at ∙ stands.at) in
-        let name : st.caller.name ≡ own = ap (λ (d : Caller V). d.name) one ∙ stands.name in
-        let number : st.caller.number ≡ i = ap (λ (d : Caller V). d.number) one ∙ stands.number in
-        let map : st.caller.map ≡ m = ap (λ (d : Caller V). d.map) one ∙ stands.map in
+        let name : st.caller.name ≡ own = ap (λ (d : NamedCaller V). d.name) one ∙ stands.name in
+        let number : st.caller.number ≡ i = ap (λ (d : NamedCaller V). d.number) one ∙ stands.number in
+        let map : st.caller.map ≡ m = ap (λ (d : NamedCaller V). d.map) one ∙ stands.map in
         let has = subst (λ (j : ℕ). HasCallIn j st.caller.map p.logged.executor) (sym number) (subst (λ (n : ℕ). HasCallIn i n p.logged.executor) (sym map) stands.works) in
         let done = step_goes same by_hasher place outcome before after p q st log event
         (λ names called. subst (λ (j : ℕ). MayHave names (moment log) event (Steps j)) (sym number)
@@ -78,7 +78,7 @@ module _ {K V S : Type 0} (same : K → K → Bool) (by_hasher : S → K → ℕ
           done.0,
           λ on. (let alike = then_as (known q.logged.notes) st.caller st.said in record {
             caller = caller_then (known q.logged.notes) st.caller st.said;
-            at = ap (λ (l : List (Caller V)). slice_get l place) st.calls
+            at = ap (λ (l : List (NamedCaller V)). slice_get l place) st.calls
                 ∙ ap (λ (c : Bool). slice_get (if c then remove p.calls place else slice_set p.calls place (caller_then (known q.logged.notes) st.caller st.said)) place) on
                 ∙ set_there p.calls place st.caller (caller_then (known q.logged.notes) st.caller st.said) st.at;
             name = alike.0 ∙ name;

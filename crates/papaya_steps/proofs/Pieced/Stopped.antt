@@ -27,7 +27,7 @@ use Rattle.play_events.proofs.Given.SchedulerHere.{here_at, read_here}
 use Rattle.play_events.proofs.Given.SchedulerStopped.{asked_ready, ready_parts, shows_is}
 use Rattle.play_events.specs.Given.NamedMachines.{IsAsFar}
 use Rattle.play_events.specs.Given.NamedSeen.{is_ready as is_ready_there}
-use Rattle.play_events.specs.Given.ExecutorDeclared.caller.Caller.{Caller}
+use Rattle.play_events.specs.Given.ExecutorDeclared.caller.NamedCaller.{NamedCaller}
 use Rattle.play_events.specs.Given.ExecutorDeclared.caller.Stands.{Stands as HowFar}
 use Rattle.play_events.specs.Given.ActsActs.{OfAsking, StopsCall}
 use Rattle.play_events.specs.Given.ActsLists.{Course}
@@ -52,7 +52,7 @@ abbrev entry : {K V : Type 0} → ℕ → Act K V
 entry i = record { deed = Stops i; outcome = outcome.Done; effects = []; refused = false }
 
 module _ {K V S : Type 0} (same : K → K → Bool) (by_hasher : S → K → ℕ) (terms : Terms) (log : List (Entry K V)) (own : List ℕ) (played : Played V) (old new : Scheduler K V S)
-    (did : HasStopped same (by_hasher old.logged.executor.hasher) own old new) (d : Caller V) (here : slice_get old.calls did.place ≡ Some d) (named : d.name ≡ own) (its : did.whose ≡ d)
+    (did : HasStopped same (by_hasher old.logged.executor.hasher) own old new) (d : NamedCaller V) (here : slice_get old.calls did.place ≡ Some d) (named : d.name ≡ own) (its : did.whose ≡ d)
     (machine : Machine K V K) (ready : (machine_asked machine).1 ≡ true) (is_stopped : did.stopped ≡ true) (later : (moment log).made + 0 ≤ (moment (entry_of (event.Stop own) played ∷ log)).made) where
   abbrev e : Executor K V S
   e = old.logged.executor
@@ -72,7 +72,7 @@ module _ {K V S : Type 0} (same : K → K → Bool) (by_hasher : S → K → ℕ
     history_then = ap (λ (b : Bool). if b then record { deed = Stops d.number; outcome = outcome.Done; effects = []; refused = false } ∷ x.history else x.history) asked
 
     callers_then : (names : Names) → CallersAre names old.calls x → CallersAre names new.calls z
-    callers_then names so = subst (λ (l : List (Caller V)). CallersAre names l z) (sym did.calls) (record {
+    callers_then names so = subst (λ (l : List (NamedCaller V)). CallersAre names l z) (sym did.calls) (record {
       each = remove_one (λ a. a.number == d.number) (λ a. IsCalledAs names x a) (λ a. IsCalledAs names z a)
           (λ a other is. record {
             name = is.name;
@@ -81,7 +81,7 @@ module _ {K V S : Type 0} (same : K → K → Bool) (by_hasher : S → K → ℕ
             kind = is.kind;
             value = is.value;
           }) old.calls did.place d here (eq-eqb d.number d.number refl) (so.once d.number) so.each;
-      once = λ n. (let few = removed_count (λ (a : Caller V). a.number == n) old.calls did.place in let one = so.once n in omega (arith, few, one));
+      once = λ n. (let few = removed_count (λ (a : NamedCaller V). a.number == n) old.calls did.place in let one = so.once n in omega (arith, few, one));
     })
 
     -- so it is a piece of one entry
@@ -116,7 +116,7 @@ module _ {K V S : Type 0} (same : K → K → Bool) (by_hasher : S → K → ℕ
       is s there =
           let c = under machine_of (s.calls d.map d.number) machine (has s there) in
           (executors_act V same by_hasher e e2 s there given d.number).0.stop did.stopped
-          (subst (λ (i : ℕ). StopsThere same (by_hasher e.hasher) i did.stopped s e e2) (ap (λ (a : Caller V). a.number) its) (did.leads s there)) d.map c.0 c.1
+          (subst (λ (i : ℕ). StopsThere same (by_hasher e.hasher) i did.stopped s e e2) (ap (λ (a : NamedCaller V). a.number) its) (did.leads s there)) d.map c.0 c.1
 
 -- The event by which it is given up, or is out of turn.
 module _ {K V S : Type 0} (same : K → K → Bool) (by_hasher : S → K → ℕ) (any : (batch_size roots : ℕ) → Course V same by_hasher batch_size roots slot_of) (own : List ℕ) (played : Played V) (old new : Scheduler K V S)
@@ -136,7 +136,7 @@ module _ {K V S : Type 0} (same : K → K → Bool) (by_hasher : S → K → ℕ
       let far_is = shows_is here.caller.stands (sym (ap is_ready_there here.at) ∙ placed.1) in
       let machine : Machine K V K = machine_of here.way.0 in
       let ready = asked_ready here.caller.kind machine (subst (λ (x : HowFar). IsAsFar here.caller.kind x machine) far_is here.way.4.0) in
-      let led = subst (λ (x : Caller V). StopsThere same hash x.number it.0.stopped stands.scene old.logged.executor new.logged.executor) its (it.0.leads stands.scene stands.shown.is_at) in
+      let led = subst (λ (x : NamedCaller V). StopsThere same hash x.number it.0.stopped stands.scene old.logged.executor new.logged.executor) its (it.0.leads stands.scene stands.shown.is_at) in
       let is_stopped = (led.1 here.caller.map here.way.0 here.way.1).0 ∙ ready in
       let works = works_at same hash terms (moment log) old stands it.0.place here.caller here.at in
       let same_machine : works.0 ≡ machine = same_some works.0 machine (sym works.1 ∙ sym (stands.shown.is_at.calls here.caller.map here.caller.number) ∙ ap (option_map machine_of) here.way.1) in

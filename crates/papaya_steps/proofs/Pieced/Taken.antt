@@ -19,7 +19,7 @@ use Rattle.play_events.specs.Given.SchedulerPlayed.{IsPlayed, IsUnderWayAs, AsFa
 use Rattle.play_events.specs.Given.SchedulerDeclared.played.Played.{Played}
 use Rattle.play_events.specs.Given.SchedulerDeclared.scheduler.Scheduler.{Scheduler}
 use Rattle.play_events.specs.Given.NamedSeen.{is_named}
-use Rattle.play_events.specs.Given.ExecutorDeclared.caller.Caller.{Caller}
+use Rattle.play_events.specs.Given.ExecutorDeclared.caller.NamedCaller.{NamedCaller}
 use Rattle.play_events.specs.Given.ExecutorDeclared.caller.Stands.{Stands as HowFar}
 use Rattle.play_events.specs.Given.ExecutorDeclared.caller.Stands.TheVariants as far
 use Rattle.play_events.specs.Given.ActsLists.{Course}
@@ -37,7 +37,7 @@ use Rattle.papaya_steps.proofs.Pieced.StepCall.{HasCallIn}
 use Rattle.papaya_steps.proofs.Pieced.StepsCall.{gone_by}
 
 -- whose call is under way, has it under way in the executor
-pub works_at : {K V S : Type 0} (same : K → K → Bool) (hash : K → ℕ) (terms : Terms) (m : Moment K V) (p : Scheduler K V S) → StandsFor same hash terms m p → (place : ℕ) (d : Caller V)
+pub works_at : {K V S : Type 0} (same : K → K → Bool) (hash : K → ℕ) (terms : Terms) (m : Moment K V) (p : Scheduler K V S) → StandsFor same hash terms m p → (place : ℕ) (d : NamedCaller V)
     → slice_get p.calls place ≡ Some d → HasCallIn d.number d.map p.logged.executor
 works_at same hash terms m p stands place d here =
     let under_way = each_at (IsUnderWayAs AsFar stands.name stands.scene p.there) p.calls place d here stands.calls.each in
@@ -59,7 +59,7 @@ module _ {K V S : Type 0} (same : K → K → Bool) (by_hasher : S → K → ℕ
       (quiet_goes_on same by_hasher terms log old.logged old.calls (entry_of event played) none idle (omega (arith, later)) (subst (MayRest (moment log) event) (sym says) rest) at)
 
   -- the caller's call, as far as it is, has taken steps, or none
-  pub taken : (place most : ℕ) (d : Caller V) → slice_get old.calls place ≡ Some d → d.name ≡ own → HasCallIn d.number d.map old.logged.executor → (stands : HowFar)
+  pub taken : (place most : ℕ) (d : NamedCaller V) → slice_get old.calls place ≡ Some d → d.name ≡ own → HasCallIn d.number d.map old.logged.executor → (stands : HowFar)
       → TakenBy same (by_hasher old.logged.executor.hasher) place most stands played old new → Before → After
   taken place most d here name works (far.Asks question) says at = again (outcome.Asks question) (inr (inr (inl (takes, refl)))) says at
   taken place most d here name works far.Ready says at = again outcome.Ready (inr (inr (inl (takes, refl)))) says at

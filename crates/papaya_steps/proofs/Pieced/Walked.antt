@@ -26,7 +26,7 @@ use Rattle.play_events.specs.Given.SchedulerDeclared.scheduler.Scheduler.{Schedu
 use Rattle.play_events.proofs.Given.SchedulerHere.{here_at}
 use Rattle.play_events.proofs.Given.SchedulerStopped.{ready_parts}
 use Rattle.play_events.specs.Given.NamedSeen.{kind_of, ready_place}
-use Rattle.play_events.specs.Given.ExecutorDeclared.caller.Caller.{Caller}
+use Rattle.play_events.specs.Given.ExecutorDeclared.caller.NamedCaller.{NamedCaller}
 use Rattle.play_events.specs.Given.ExecutorDeclared.caller.Stands.{Stands as HowFar}
 use Rattle.play_events.specs.Given.ExecutorDeclared.caller.Stands.TheVariants as far
 use Rattle.play_events.specs.Given.ActsActs.{AsksCall, OfAsking}
@@ -62,12 +62,12 @@ each_back P [] k x y is back all = all
 each_back P (z ∷ xs) zero x y is back all = let e : z ≡ x = cc is in (subst P (sym e) (back all.0), all.1)
 each_back P (z ∷ xs) (suc k) x y is back all = (all.0, each_back P xs k x y is back all.1)
 
-module _ {K V S : Type 0} (names : Names) (x : State K V S) (calls : List (Caller V)) (place : ℕ) (d : Caller V) (at : slice_get calls place ≡ Some d) where
+module _ {K V S : Type 0} (names : Names) (x : State K V S) (calls : List (NamedCaller V)) (place : ℕ) (d : NamedCaller V) (at : slice_get calls place ≡ Some d) where
   -- how far a caller says it is makes no difference to how its call was played
   callers_back : (h : HowFar) → CallersAre names (slice_set calls place (record d { stands = h })) x → CallersAre names calls x
   callers_back h so = record {
     each = each_back (λ a. IsCalledAs names x a) calls place d (record d { stands = h }) at (λ is. record { name = is.name; call = is.call; here = is.here; kind = is.kind; value = is.value }) so.each;
-    once = λ n. subst (λ (k : ℕ). k ≤ 1) (set_count (λ (a : Caller V). a.number == n) calls place d (record d { stands = h }) at refl) (so.once n);
+    once = λ n. subst (λ (k : ℕ). k ≤ 1) (set_count (λ (a : NamedCaller V). a.number == n) calls place d (record d { stands = h }) at refl) (so.once n);
   }
 
   -- one that was asked for its next pair goes on as another machine
@@ -78,7 +78,7 @@ module _ {K V S : Type 0} (names : Names) (x : State K V S) (calls : List (Calle
       let its : IsCalledAs names x d = each_at (λ a. IsCalledAs names x a) calls place d at so.each in
       let one : its.call ≡ c = same_some its.call c (sym its.here ∙ here) in
       record {
-        each = subst (λ (l : List (Caller V)). AllByRecursion (λ a. IsCalledAs names z a) l) (set_same calls place d at)
+        each = subst (λ (l : List (NamedCaller V)). AllByRecursion (λ a. IsCalledAs names z a) l) (set_same calls place d at)
             (set_one (λ a. a.number == d.number) (λ a. IsCalledAs names x a) (λ a. IsCalledAs names z a)
             (λ a other is. record {
               name = is.name;
@@ -124,7 +124,7 @@ module _ {K V S : Type 0} (same : K → K → Bool) (by_hasher : S → K → ℕ
       let done = one_goes same by_hasher shards log event place i m own may outcome.Goes before after p q2 steps prev h b r any stepped there at in
       let calls_are : q.calls ≡ p.calls = ap (λ (x : Scheduler K V S). x.calls) st.rest in
       let on = done.1 refl in (
-        subst (λ (l : List (Caller V)). Reach same by_hasher h b r shards (λ x. InEvent log event after (1 + steps) outcome.Goes l x) q.logged.executor (known q.logged.notes)) (sym calls_are)
+        subst (λ (l : List (NamedCaller V)). Reach same by_hasher h b r shards (λ x. InEvent log event after (1 + steps) outcome.Goes l x) q.logged.executor (known q.logged.notes)) (sym calls_are)
             (reach_so same by_hasher h b r shards (λ x. InEvent log event after (1 + steps) outcome.Goes calls2 x) (λ x. InEvent log event after (1 + steps) outcome.Goes p.calls x)
             (λ x so. record {
               known = so.known;
@@ -139,7 +139,7 @@ module _ {K V S : Type 0} (same : K → K → Bool) (by_hasher : S → K → ℕ
               callers = callers_back (names_after event so.piece so.known) x p.calls place st.caller st.at far.Goes so.callers;
               fresh = so.fresh;
             }) q.logged.executor (known q.logged.notes) done.0),
-        record { caller = there.caller; at = ap (λ (l : List (Caller V)). slice_get l place) calls_are ∙ there.at; name = there.name; number = there.number; map = there.map; works = on.works },
+        record { caller = there.caller; at = ap (λ (l : List (NamedCaller V)). slice_get l place) calls_are ∙ there.at; name = there.name; number = there.number; map = there.map; works = on.works },
       )
 
   -- and several
@@ -170,7 +170,7 @@ module _ {K V S : Type 0} (same : K → K → Bool) (by_hasher : S → K → ℕ
 
 -- The walk is asked for its next pair.
 module _ {K V S : Type 0} (same : K → K → Bool) (by_hasher : S → K → ℕ) (shards : ℕ) (log : List (Entry K V)) (event : Event K V) (e e2 : Executor K V S) (given : StaysGiven e e2)
-    (any : Course V same by_hasher e.batch_size e.roots slot_of) (calls : List (Caller V)) (place : ℕ) (d : Caller V) (at : slice_get calls place ≡ Some d) (ready : Bool)
+    (any : Course V same by_hasher e.batch_size e.roots slot_of) (calls : List (NamedCaller V)) (place : ℕ) (d : NamedCaller V) (at : slice_get calls place ≡ Some d) (ready : Bool)
     (leads : (s : Scene K V) → IsThere same (by_hasher e.hasher) e s → AsksThere same (by_hasher e.hasher) d.number ready s e e2) (has : HasCallIn d.number d.map e) where
   is_asked : (s : Scene K V) → IsThere same (by_hasher e.hasher) e s → IsAct same by_hasher e e2 s (AsksCall d.number d.map) (OfAsking ready)
   is_asked s there =
@@ -241,7 +241,7 @@ module _ {K V S : Type 0} (same : K → K → Bool) (by_hasher : S → K → ℕ
           (λ (x : State K V S). InEvent log ev [] 0 at_rest old.calls x) it.asked.executor k) (ap known (sym it.notes)) asked.0 in
           let done = walked_by same by_hasher (shards_of terms) log ev place it.caller.number it.caller.map own (λ names called. called) old.logged.executor.hasher old.logged.executor.batch_size old.logged.executor.roots course
           it.steps played.steps played.outcome it.mid played.effects.items p0 it.led new at_rest it.steps_are it.walked it.last
-          (record { caller = it.caller; at = it.at; name = ap (λ (c : Caller V). c.name) one ∙ here.named; number = refl; map = refl; works = asked.1 }) began in
+          (record { caller = it.caller; at = it.at; name = ap (λ (c : NamedCaller V). c.name) one ∙ here.named; number = refl; map = refl; works = asked.1 }) began in
           reach_so same by_hasher old.logged.executor.hasher old.logged.executor.batch_size old.logged.executor.roots (shards_of terms)
           (λ (x : State K V S). InEvent log ev played.effects.items played.steps played.outcome new.calls x) (PlaysSo (entry_of ev played ∷ log) new.calls)
           (λ x in_it. event_ends log ev played.effects.items played.steps played.outcome new.calls x (later_by ev played old new log refl given next next2) in_it) new.logged.executor (known new.logged.notes) done))

@@ -67,11 +67,11 @@ use Rattle.play_events.specs.Given.ExecutorContracts.executor.Executor as Execut
 use Rattle.play_events.specs.Given.LoggedContracts.logged.Logged as Logged
 use Rattle.run_schedules.specs.contracts.setup.Setup as Setup
 use Rattle.play_events.specs.Given.SchedulerContracts.scheduler.Scheduler as Scheduler
-use Rattle.run_schedules.specs.contracts.call.Answer as Answer
+use Rattle.run_schedules.specs.contracts.call.Response as Answer
 use Rattle.run_schedules.specs.contracts.shapes.TableShape as TableShape
 use Rattle.run_schedules.specs.contracts.outcome.Outcome as Outcome
 use Rattle.run_schedules.specs.contracts.effect.Growth as Growth
-use Rattle.run_schedules.specs.contracts.effect.Table as RunTable
+use Rattle.run_schedules.specs.contracts.effect.TableId as RunTable
 use Rattle.run_schedules.specs.contracts.effect.Spot as Spot
 use Rattle.run_schedules.specs.contracts.effect.Thing as Thing
 use Rattle.run_schedules.specs.contracts.effect.Effect as Effect

@@ -33,7 +33,7 @@ use Rattle.run_schedules.specs.declared.setup.Setup.{Setup}
 use Rattle.play_events.specs.Given.SchedulerDeclared.scheduler.Scheduler.{Scheduler}
 use Rattle.play_events.proofs.Given.SchedulerChosen.{stands_chosen}
 use Rattle.play_events.specs.Given.NamedSeen.{seen, seen_of}
-use Rattle.play_events.specs.Given.ExecutorDeclared.caller.Caller.{Caller}
+use Rattle.play_events.specs.Given.ExecutorDeclared.caller.NamedCaller.{NamedCaller}
 use Rattle.play_events.specs.Events.Asked.{Holds}
 use Rattle.play_events.specs.Events.OfCalls.{HaveShards, HaveValues, Runs}
 use Rattle.papaya_steps.specs.Pieced.SoFar.{ActsSoFar}
@@ -72,7 +72,7 @@ begins_first {K} {V} setup p played begun shown = record {
       (no_calls p.calls (played same (by_hasher p.logged.executor.hasher)).calls.listed);
 }
   where
-    no_calls : (calls : List (Caller V)) → map seen (start {K = K} {V = V}).calls ≡ map seen_of calls → calls ≡ []
+    no_calls : (calls : List (NamedCaller V)) → map seen (start {K = K} {V = V}).calls ≡ map seen_of calls → calls ≡ []
     no_calls [] alike = refl
     no_calls (d ∷ calls) alike = absurd (cc alike)
 
@@ -154,7 +154,7 @@ module _ {K V S : Type 0} (same : K → K → Bool) (hash : K → ℕ) (setup : 
   no_shards n setting is = absurd (let none = ap (λ (xs : List (Option Setting)). slice_index_or xs n None) begins.begun.maps in cc (none, is))
 
   -- no call is under way
-  no_values : (calls : List (Caller V)) → map seen (start {K = K} {V = V}).calls ≡ map seen_of calls → HaveValues (start {K = K} {V = V}) (record (at_first setup.roots) { world = first.world }) calls
+  no_values : (calls : List (NamedCaller V)) → map seen (start {K = K} {V = V}).calls ≡ map seen_of calls → HaveValues (start {K = K} {V = V}) (record (at_first setup.roots) { world = first.world }) calls
   no_values [] alike = tt
   no_values (d ∷ calls) alike = absurd (cc alike)
 

@@ -4,13 +4,13 @@ use Rattle.std.proofs.Common.{refl, sym, ◌∙◌}
 use Rattle.play_events.proofs.Given.RowsLists.{is_found, place_found, place_some}
 use Rattle.play_events.specs.Given.NamedRoll.{at_place, called}
 use Rattle.play_events.specs.Given.NamedSeen.{is_named}
-use Rattle.play_events.specs.Given.ExecutorDeclared.caller.Caller.{Caller}
+use Rattle.play_events.specs.Given.ExecutorDeclared.caller.NamedCaller.{NamedCaller}
 
 none_is : {X : Type 0} (o : Option X) → is_some o ≡ false → None ≡ o
 none_is None e = refl
 none_is (Some x) e = absurd (cc e)
 
-module _ {V : Type 0} (own : List ℕ) (calls : List (Caller V)) where
+module _ {V : Type 0} (own : List ℕ) (calls : List (NamedCaller V)) where
   pub called_found : called own calls ≡ find (is_named own) calls
   called_found = by (position (is_named own) calls) refl
     where

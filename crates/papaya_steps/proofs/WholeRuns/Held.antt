@@ -28,7 +28,7 @@ use Rattle.play_events.proofs.Given.RowsLists.{found_has}
 use Rattle.play_events.specs.Given.SchedulerMapping.{CountsMaps}
 use Rattle.play_events.specs.Given.SchedulerPlayed.{IsPlayed, IsUnderWay, Plays, entry_of, terms_given}
 use Rattle.play_events.specs.Given.NamedSeen.{is_named}
-use Rattle.play_events.specs.Given.ExecutorDeclared.caller.Caller.{Caller}
+use Rattle.play_events.specs.Given.ExecutorDeclared.caller.NamedCaller.{NamedCaller}
 use Rattle.play_events.specs.Given.SchedulerDeclared.played.Played.{Played}
 use Rattle.play_events.specs.Given.SchedulerDeclared.scheduler.Scheduler.{Scheduler}
 use Rattle.play_events.proofs.Given.SchedulerRanOn.{maps_named}
@@ -57,7 +57,7 @@ module _ {K V S : Type 0} (same : K → K → Bool) (hash : K → ℕ) (terms : 
   called_below : (own : List ℕ) (n : ℕ) → option_map (λ c. c.map) (call_of own m) ≡ Some n → n < m.made
   called_below own n is = by (find (is_named own) p.calls) refl (sym (called_so same hash terms m p holds.stands holds.counts.next own) ∙ is)
     where
-      by : (o : Option (Caller V)) → find (is_named own) p.calls ≡ o → option_map (λ (d : Caller V). d.map) o ≡ Some n → n < m.made
+      by : (o : Option (NamedCaller V)) → find (is_named own) p.calls ≡ o → option_map (λ (d : NamedCaller V). d.map) o ≡ Some n → n < m.made
       by None found e = absurd (cc e)
       by (Some d) found e =
           let way = found_has (IsUnderWay holds.stands.name s p.there) (is_named own) p.calls d found holds.stands.calls.each in

@@ -21,7 +21,7 @@ use Rattle.run_schedules.specs.Schedules.Views.{call_of, number_of}
 use Rattle.play_events.proofs.Given.RowsLists.{found_alike}
 use Rattle.play_events.specs.Given.SchedulerPlayed.{StandsFor}
 use Rattle.play_events.specs.Given.NamedSeen.{Seen, is_named, number_named, seen, seen_of}
-use Rattle.play_events.specs.Given.ExecutorDeclared.caller.Caller.{Caller}
+use Rattle.play_events.specs.Given.ExecutorDeclared.caller.NamedCaller.{NamedCaller}
 use Rattle.play_events.specs.Given.SchedulerDeclared.scheduler.Scheduler.{Scheduler}
 use Rattle.play_events.proofs.Given.SchedulerMaps.{number_is}
 use Rattle.papaya_steps.specs.WholeRuns.Acting.{acting_of, called_map, map_acted, or_else, singles_as, traced}
@@ -132,7 +132,7 @@ seen_map : {K V : Type 0} (o : Option (UnderWay K V)) → option_map (λ (z : Se
 seen_map None = refl
 seen_map (Some c) = refl
 
-seen_map_of : {V : Type 0} (o : Option (Caller V)) → option_map (λ (z : Seen). z.map) (option_map seen_of o) ≡ option_map (λ d. d.map) o
+seen_map_of : {V : Type 0} (o : Option (NamedCaller V)) → option_map (λ (z : Seen). z.map) (option_map seen_of o) ≡ option_map (λ d. d.map) o
 seen_map_of None = refl
 seen_map_of (Some d) = refl
 

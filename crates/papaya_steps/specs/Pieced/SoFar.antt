@@ -4,7 +4,7 @@ use Rattle.run_schedules.specs.declared.event.Event.{Event}
 use Rattle.run_schedules.specs.Schedules.After.{moment}
 use Rattle.run_schedules.specs.Schedules.Entry.{Entry}
 use Rattle.run_schedules.specs.Schedules.Terms.{Terms, shards_of}
-use Rattle.play_events.specs.Given.ExecutorDeclared.caller.Caller.{Caller}
+use Rattle.play_events.specs.Given.ExecutorDeclared.caller.NamedCaller.{NamedCaller}
 use Rattle.run_effects.specs.Effects.Known.{known}
 use Rattle.play_events.specs.Given.LoggedDeclared.logged.Logged.{Logged}
 use Rattle.play_events.specs.Given.SchedulerPlayed.{IsPlayed, entry_of}
@@ -16,7 +16,7 @@ use Rattle.play_events.specs.Given.GroupedReach.{Reach}
 module _ {K V S : Type 0} where
   module _ (same : K → K → Bool) (by_hasher : S → K → ℕ) (terms : Terms) where
     -- A list of acts has led where the executor is, and played, it has a history of which the log is the grouping.
-    abbrev pub ActsSoFar : List (Entry K V) → Logged K V S → List (Caller V) → Type 0
+    abbrev pub ActsSoFar : List (Entry K V) → Logged K V S → List (NamedCaller V) → Type 0
     ActsSoFar log l calls = Reach same by_hasher l.executor.hasher terms.batch_size terms.roots (shards_of terms) (PlaysSo log calls) l.executor (known l.notes)
 
   -- What is promised of an event that is in turn, where the executor has as many numbers of maps as the moments say: the list goes on by its acts.

@@ -9,8 +9,8 @@ use Rattle.run_schedules.specs.declared.outcome.Outcome.TheVariants.{Done}
 use Rattle.run_schedules.specs.Schedules.Entry.{is_busy, nameless}
 use Rattle.play_events.specs.Given.NamedSeen.{is_named, number_named}
 use Rattle.play_events.specs.Given.SchedulerDeclared.scheduler.Scheduler.{Scheduler}
-use Rattle.papaya_steps.specs.declared.acting.Acting.{Acting}
-use Rattle.papaya_steps.specs.declared.acting.Acting.TheVariants.{On, Calls, Makes}
+use Rattle.papaya_steps.specs.declared.acting.ActedOn.{ActedOn}
+use Rattle.papaya_steps.specs.declared.acting.ActedOn.TheVariants.{On, Calls, Makes}
 use Rattle.papaya_steps.specs.declared.acting.Traced.{Traced}
 use Rattle.papaya_steps.specs.declared.acting.Traced.TheVariants.{Whole, Begins, Runs, Steps}
 
@@ -19,7 +19,7 @@ module _ {K V S : Type 0} where
   abbrev pub called_map : List ℕ → Scheduler K V S → Option ℕ
   called_map own p = option_map (λ d. d.map) (find (is_named own) p.calls)
 
-  abbrev pub acting_of : Event K V → Scheduler K V S → Acting
+  abbrev pub acting_of : Event K V → Scheduler K V S → ActedOn
   acting_of (Step caller refuse) p = On (called_map caller p)
   acting_of (Go caller refuse) p = On (called_map caller p)
   acting_of (Next caller) p = On (called_map caller p)
@@ -34,7 +34,7 @@ or_else None other = other
 or_else (Some n) other = Some n
 
 -- the map on which it acts that came to this
-abbrev pub map_acted : {V : Type 0} → Acting → Outcome V → Option ℕ
+abbrev pub map_acted : {V : Type 0} → ActedOn → Outcome V → Option ℕ
 map_acted (On map) outcome = map
 map_acted (Calls begun other) outcome = if is_busy outcome then other else or_else begun other
 map_acted (Makes made other) Done = or_else other (Some made)

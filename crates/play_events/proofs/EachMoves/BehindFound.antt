@@ -9,7 +9,7 @@ use Rattle.play_stepping.specs.Given.SeizeDeclared.rows.reclaim_all.Reclaiming.{
 use Rattle.play_stepping.specs.Given.SeizeDeclared.rows.reclaim_all.Reclaiming.TheVariants as reclaiming
 use Rattle.play_lists.specs.Given.TablesNodes.{deferred_word}
 use Rattle.play_lists.specs.Given.TablesDeclared.node.Node.{Node}
-use Rattle.run_schedules.specs.declared.effect.Table.{Table}
+use Rattle.run_schedules.specs.declared.effect.TableId.{TableId}
 use Rattle.run_schedules.specs.Schedules.Moment.{Behind, Deferral, GivenBack, Handed as IsHanded, InMap, Left, MapThere, Moment, Out, Place, Unborn}
 use Rattle.run_schedules.specs.Schedules.Reclaims.{is_handed}
 use Rattle.run_schedules.specs.Schedules.Views.{is_in_map}
@@ -34,7 +34,7 @@ use Rattle.run_kept.proofs.Given.LivesWorlds.{Kept, has_it, runs_kept, start_kep
 use Rattle.run_kept.proofs.Given.RuleLaws.{current_is_known}
 
 -- where no table has such a pair behind it, it is behind none
-none_put : (P : ℕ → Table → Type 0) (n : ℕ) → ((t : Table) → P n t → ⊥) → (ds : List Deferral) → EachWaits P ds → put_in n ds ≡ 0
+none_put : (P : ℕ → TableId → Type 0) (n : ℕ) → ((t : TableId) → P n t → ⊥) → (ds : List Deferral) → EachWaits P ds → put_in n ds ≡ 0
 none_put P n never [] each = refl
 none_put P n never (d ∷ ds) each = by (n == d.pair) refl (none_put P n never ds each.1)
   where
@@ -69,7 +69,7 @@ module _ {K V : Type 0} (same : K → K → Bool) (hash : ℕ → K → ℕ) (na
 
   -- a pair in a block that is left over
   module _ (b n j : ℕ) (hand : w.hand b ≡ LeftTo j) (noted : known.roles b ≡ role.Pair n) where
-    never_behind : (t : Table) → (m.place n ≡ Behind) × LiesBehind known w n t → ⊥
+    never_behind : (t : TableId) → (m.place n ≡ Behind) × LiesBehind known w n t → ⊥
     never_behind t (told, lies) = by lies.waits
       where
         same_block : lies.pair ≡ b
@@ -104,7 +104,7 @@ module _ {K V : Type 0} (same : K → K → Bool) (hash : ℕ → K → ℕ) (na
         absurd (let its = kept.handed.handed n (ap is_handed is) in
         let one = whole.all.shown.blocks.once its.0 b n its.1 noted in let has = sym (ap w.hand one) ∙ its.2.0 in cc (has, hand))
     its_place Behind is =
-        absurd (let zero = none_put (λ (k : ℕ) (t : Table). (m.place k ≡ Behind) × LiesBehind known w k t) n never_behind m.deferred kept.waiting in
+        absurd (let zero = none_put (λ (k : ℕ) (t : TableId). (m.place k ≡ Behind) × LiesBehind known w k t) n never_behind m.deferred kept.waiting in
         let one : 0 ≡ 1 = sym zero ∙ order.waits.placed.put n ∙ ap (λ (p : Place). once_if (is_behind_one p)) is in cc one)
     its_place Left is = is
     its_place GivenBack is = absurd (let there = subst (λ (p : Place). is_unreclaimed p ≡ true) is (whole.blocks.pairs b n noted) in cc there)

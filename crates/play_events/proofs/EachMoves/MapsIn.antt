@@ -9,7 +9,7 @@ use Rattle.run_schedules.specs.Schedules.Effects.{maps_by, promoted, with_effect
 use Rattle.run_schedules.specs.Schedules.Moment.{MapThere, Moment}
 use Rattle.run_schedules.specs.declared.effect.Effect.{Effect}
 use Rattle.run_schedules.specs.declared.effect.Effect.TheVariants.{Promoted}
-use Rattle.run_schedules.specs.declared.effect.Table.{Table}
+use Rattle.run_schedules.specs.declared.effect.TableId.{TableId}
 use Rattle.run_schedules.specs.declared.outcome.Outcome.{Outcome}
 use Rattle.run_kept.proofs.Given.FollowsCalling.{is_same_refl}
 use Rattle.play_lists.proofs.Agrees.Lists.{all_kept}
@@ -23,7 +23,7 @@ abbrev pub AreIn : (ℕ → Type 0) → List MapThere → Type 0
 AreIn P maps = AllByRecursion (IsIn P) maps
 
 module _ (P : ℕ → Type 0) where
-  promoted_in : (t : Table) (maps : List MapThere) → AreIn P maps → AreIn P (map (promoted t) maps)
+  promoted_in : (t : TableId) (maps : List MapThere) → AreIn P maps → AreIn P (map (promoted t) maps)
   promoted_in t [] all = tt
   promoted_in t (f ∷ maps) all = (by (f.number == t.map), promoted_in t maps all.1)
     where

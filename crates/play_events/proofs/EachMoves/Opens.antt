@@ -3,8 +3,8 @@ use Rattle.std.specs.Prelude.{◌≡◌, ℕ, Bool, Option, Some, None}
 use Rattle.std.proofs.Common.{refl, ap, sym, subst, ◌∙◌}
 use Rattle.seize_acts.proofs.Acts.Answers.{same_some}
 use Rattle.play_stepping.specs.Given.SeizeWorld.{World, with_at}
-use Rattle.play_stepping.specs.Given.SeizeDeclared.progress.Progress.{Progress}
-use Rattle.play_stepping.specs.Given.SeizeDeclared.progress.Progress.TheVariants as progress
+use Rattle.play_stepping.specs.Given.SeizeDeclared.advance.Advance.{Advance}
+use Rattle.play_stepping.specs.Given.SeizeDeclared.advance.Advance.TheVariants as progress
 use Rattle.play_stepping.specs.Given.SeizeDeclared.rows.settle.Settled.{Settled}
 use Rattle.play_stepping.specs.Given.SeizeDeclared.rows.settle.Settled.TheVariants as settled
 use Rattle.play_lists.specs.Given.TablesDeclared.node.Node.{Node}
@@ -55,7 +55,7 @@ module _ {K V S : Type 0} (same : K → K → Bool) (by_hasher : S → K → ℕ
   ended i f w2 deed machine (settled.Gave value) came = ap (λ (z : Scene K V). z.makers) came.3
   ended i f w2 deed machine settled.Done came = ap (λ (z : Scene K V). z.makers) came.2
 
-  made : (old new : Held K V) (i : ℕ) (b : Beginning K) (makes : s.makers i ≡ Some b) (machine : NewMap) (w2 : World (Node K V)) (p : Progress Setting) (comes : MakingComesTo same hash s old new i b machine w2 p)
+  made : (old new : Held K V) (i : ℕ) (b : Beginning K) (makes : s.makers i ≡ Some b) (machine : NewMap) (w2 : World (Node K V)) (p : Advance Setting) (comes : MakingComesTo same hash s old new i b machine w2 p)
       → MadeTo same hash s old new i b machine w2 p comes n → ShowsOpenings n → OpensFor n
   made old new i b makes machine w2 progress.Goes comes to opens =
       next_open s n here i (Some (record b { machine = machine })) (ap (λ (z : Scene K V). z.makers) to)
@@ -64,7 +64,7 @@ module _ {K V S : Type 0} (same : K → K → Bool) (by_hasher : S → K → ℕ
   made old new i b makes machine w2 (progress.Done setting) comes to opens = next_open s n here i None (ap (λ (z : Scene K V). z.makers) to) (λ d none. absurd (cc none)) opens
   made old new i b makes machine w2 (progress.Refused fault) comes to opens = next_open s n here i None (ap (λ (z : Scene K V). z.makers) to) (λ d none. absurd (cc none)) opens
 
-  opened : (old new : Held K V) (i : ℕ) (b : Beginning K) (machine : NewMap) (w2 : World (Node K V)) (p : Progress Setting) (comes : MakingComesTo same hash s old new i b machine w2 p)
+  opened : (old new : Held K V) (i : ℕ) (b : Beginning K) (machine : NewMap) (w2 : World (Node K V)) (p : Advance Setting) (comes : MakingComesTo same hash s old new i b machine w2 p)
       → MadeTo same hash s old new i b machine w2 p comes n → ShowsOpenings (making_after same hash s old new i b machine w2 p comes) → ShowsOpenings n
   opened old new i b machine w2 progress.Goes comes to opens = subst ShowsOpenings (sym to) opens
   opened old new i b machine w2 progress.Waits comes to opens = absurd comes

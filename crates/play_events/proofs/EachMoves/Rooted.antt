@@ -6,8 +6,8 @@ use Rattle.run_schedules.specs.Given.SeizeWordsOp.{Out, Exchanged, Made}
 use Rattle.run_schedules.specs.Given.SeizeWordsPlan.{Ends as EndsSo}
 use Rattle.run_schedules.specs.Given.SeizeWordsDeclared.fault.Fault.{Fault}
 use Rattle.run_schedules.specs.Given.SeizeWordsDeclared.fault.Fault.TheVariants.{Memory, RootsUsedUp}
-use Rattle.play_stepping.specs.Given.SeizeDeclared.progress.Progress.{Progress}
-use Rattle.play_stepping.specs.Given.SeizeDeclared.progress.Progress.TheVariants as progress
+use Rattle.play_stepping.specs.Given.SeizeDeclared.advance.Advance.{Advance}
+use Rattle.play_stepping.specs.Given.SeizeDeclared.advance.Advance.TheVariants as progress
 use Rattle.play_lists.specs.Given.TablesDeclared.node.Node.{Node}
 use Rattle.play_lists.specs.Given.TablesDeclared.setting.Setting.{Setting}
 use Rattle.play_lists.specs.Given.TablesDeclared.table.Table.{Table}
@@ -28,13 +28,13 @@ abbrev pub IsFreeing : Opening → Type 0
 IsFreeing (openings.Frees fault) = Unit {0}
 IsFreeing _ = ⊥
 
-abbrev pub Rooted : Opening → NewMap × Progress Setting → Type 0
+abbrev pub Rooted : Opening → NewMap × Advance Setting → Type 0
 Rooted before e =
     (has_root before ≡ true → has_root e.0.stands ≡ false → IsFreeing before) × ((fault : Fault) → e.1 ≡ progress.Refused fault → has_root e.0.stands ≡ false)
     × ((setting : Setting) → e.1 ≡ progress.Done setting → has_root e.0.stands ≡ true)
 
 -- one that has its root, and is not refused
-at_root_still : (before : Opening) (e : NewMap × Progress Setting) → has_root e.0.stands ≡ true → ((fault : Fault) → e.1 ≡ progress.Refused fault → ⊥) → Rooted before e
+at_root_still : (before : Opening) (e : NewMap × Advance Setting) → has_root e.0.stands ≡ true → ((fault : Fault) → e.1 ≡ progress.Refused fault → ⊥) → Rooted before e
 at_root_still before e has never = (λ had none. absurd (cc (has, none)), λ fault is. absurd (never fault is), λ setting is. has)
 
 -- one that had none goes on
@@ -49,7 +49,7 @@ module _ (c : NewMap) where
       by true = rootless_goes openings.Takes (record c { setting = at_root c.setting (c.setting.root + 1) }) refl
       by false = (λ had gone. absurd (cc had), λ fault is. refl, λ setting is. absurd (cc is))
 
-  opened_rooted : (before : Opening) (x : NewTable × Progress Table) → Rooted before (opened c x)
+  opened_rooted : (before : Opening) (x : NewTable × Advance Table) → Rooted before (opened c x)
   opened_rooted before (making, progress.Goes) = at_root_still before (opened c (making, progress.Goes)) refl (λ fault is. cc is)
   opened_rooted before (making, progress.Waits) = at_root_still before (opened c (making, progress.Waits)) refl (λ fault is. cc is)
   opened_rooted before (making, progress.Done table) = at_root_still before (opened c (making, progress.Done table)) refl (λ fault is. cc is)
@@ -59,8 +59,8 @@ module _ (c : NewMap) where
   sharded before d true = at_root_still before (done d) refl (λ fault is. cc is)
   sharded before d false = at_root_still before (goes d (openings.Tables (first_table d.setting d.len))) refl (λ fault is. cc is)
 
-module _ {K V : Type 0} (c : NewMap) (m n : Mem (Node K V)) (told : Changed) (end : NewMap × Progress Setting) where
-  by_end : (before : Opening) (e : NewMap × Progress Setting) → end ≡ e → Rooted before e → Rooted before end
+module _ {K V : Type 0} (c : NewMap) (m n : Mem (Node K V)) (told : Changed) (end : NewMap × Advance Setting) where
+  by_end : (before : Opening) (e : NewMap × Advance Setting) → end ≡ e → Rooted before e → Rooted before end
   by_end before e is so = subst (Rooted before) (sym is) so
 
   taken_rooted : (out : Out (Node K V)) → EndsSo (value_at n) (taken c out) end → Rooted openings.Takes end
@@ -73,7 +73,7 @@ module _ {K V : Type 0} (c : NewMap) (m n : Mem (Node K V)) (told : Changed) (en
   made_rooted is (Made (Err value)) ends = by_end openings.Shards (goes c (openings.Frees Memory)) ends (at_root_still openings.Shards (goes c (openings.Frees Memory)) refl (λ fault no. cc no))
   made_rooted is _ ends = by_end openings.Shards (c, progress.Goes) ends (at_root_still openings.Shards (c, progress.Goes) (ap has_root is) (λ fault no. cc no))
 
-  pub step_rooted : (stands : Opening) → c.stands ≡ stands → StepsTold K V (NewMap × Progress Setting) m changed.Nothing (plan_at c stands) n told end → Rooted stands end
+  pub step_rooted : (stands : Opening) → c.stands ≡ stands → StepsTold K V (NewMap × Advance Setting) m changed.Nothing (plan_at c stands) n told end → Rooted stands end
   step_rooted openings.Takes is s = taken_rooted s.0 s.2
   step_rooted openings.Shards is s = made_rooted is s.0 s.2
   step_rooted (openings.Tables making) is s =

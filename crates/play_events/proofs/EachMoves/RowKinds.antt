@@ -8,7 +8,7 @@ use Rattle.run_schedules.specs.Given.SeizeWordsOp.{Out, Swap, Found}
 use Rattle.play_stepping.specs.Given.SeizeLeave as leave
 use Rattle.play_stepping.specs.Given.SeizeRegister as register
 use Rattle.play_stepping.specs.Given.SeizeSettle as settle
-use Rattle.play_stepping.specs.Given.SeizeDeclared.progress.Progress.{Progress}
+use Rattle.play_stepping.specs.Given.SeizeDeclared.advance.Advance.{Advance}
 use Rattle.play_stepping.specs.Given.SeizeDeclared.rows.leave.Leave.{Leave}
 use Rattle.play_stepping.specs.Given.SeizeDeclared.rows.leave.Leaving.{Leaving}
 use Rattle.play_stepping.specs.Given.SeizeDeclared.rows.leave.Leaving.TheVariants as leaving
@@ -52,7 +52,7 @@ module _ {K V : Type 0} (m m2 : Mem (Node K V)) (told : Changed) (after : SlotRo
 
   pub enters_quietly : (c : Register) → RowSteps K V (rows.Registers c) m m2 told after → c.stands ≡ registering.Enter → effects ≡ []
   enters_quietly c s is =
-      let it = subst (λ (p : Registering). StepsTold K V (Register × Progress ℕ) m changed.Nothing (register.plan_at c p) m2 told s.0) is s.1 in ap (effects_of acts.Row known) it.1.1
+      let it = subst (λ (p : Registering). StepsTold K V (Register × Advance ℕ) m changed.Nothing (register.plan_at c p) m2 told s.0) is s.1 in ap (effects_of acts.Row known) it.1.1
 
   leaves_at : (c : Leave) (s : RowSteps K V (rows.Leaves c) m m2 told after) (p : Leaving) → c.stands ≡ p
       → StepsTold K V (Leave × Settled (Node K V)) m changed.Nothing (leave.plan_at deferred_word c p) m2 told s.0

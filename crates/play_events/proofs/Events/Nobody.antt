@@ -7,7 +7,7 @@ use Rattle.play_stepping.specs.Given.CallersTogether.{CameAbout, UnderWay}
 use Rattle.run_kept.specs.Given.ScenesDeclared.row.SlotUse.{SlotUse}
 use Rattle.run_kept.specs.Given.ScenesDeclared.row.SlotUse.TheVariants as used
 use Rattle.run_schedules.specs.Runs.Present.{Present, guards_on, has_registration}
-use Rattle.run_schedules.specs.declared.holders.Guard.{Guard}
+use Rattle.run_schedules.specs.declared.holders.NamedGuard.{NamedGuard}
 use Rattle.run_schedules.specs.Schedules.After.{moment}
 use Rattle.run_schedules.specs.Schedules.Entry.{Entry}
 use Rattle.run_schedules.specs.Schedules.Lists.{is_empty}
@@ -43,7 +43,7 @@ outside_by : (slot : ℕ) (there : Present) → there.guards ≡ [] → (kind : 
 outside_by slot there none kind v is fits =
     outside_so (has_registration slot there.registrations) v
     (subst (λ (x : SlotUse). IsUsedAs x v)
-    (is ∙ ap (λ (gs : List Guard). if guards_on slot gs == 0 then (if has_registration slot there.registrations then used.Outside else used.Vacant) else used.Inside) none) fits)
+    (is ∙ ap (λ (gs : List NamedGuard). if guards_on slot gs == 0 then (if has_registration slot there.registrations then used.Outside else used.Vacant) else used.Inside) none) fits)
 
 module _ {K V S : Type 0} (same : K → K → Bool) (hash : K → ℕ) (terms : Terms) (log : List (Entry K V)) (p : Scheduler K V S) (runs : Runs same hash terms log p) where
   abbrev m : Moment K V

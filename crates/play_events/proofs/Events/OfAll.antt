@@ -40,7 +40,7 @@ use Rattle.play_lists.proofs.Given.LoggedReclaimsRun.{same_setting}
 use Rattle.play_stepping.specs.Given.SchedulerAllWorks.{WorksOnAll}
 use Rattle.play_stepping.specs.Given.SchedulerPlayed.{IsPlayed, entry_of}
 use Rattle.play_stepping.specs.Given.SchedulerReclaiming.{MayGiveAll, are_gone}
-use Rattle.play_stepping.specs.Given.ExecutorDeclared.caller.Caller.{Caller}
+use Rattle.play_stepping.specs.Given.ExecutorDeclared.caller.NamedCaller.{NamedCaller}
 use Rattle.play_stepping.specs.Given.SchedulerDeclared.played.Played.{Played}
 use Rattle.play_stepping.specs.Given.SchedulerDeclared.scheduler.Scheduler.{Scheduler}
 use Rattle.play_stepping.proofs.Mapping.AllGiven.{may_reclaim, nobody_has}
@@ -198,7 +198,7 @@ module _ {K V S : Type 0} (same : K → K → Bool) (hash : K → ℕ) (terms : 
     there = over_there same hash terms 0 mid end y.now y.scene y.lists y.under_way y.roots ran.5 done
 
     named : AreNamed name new.calls
-    named = subst (λ (cs : List (Caller V)). AreNamed name cs) (sym calls) (its_named same hash terms m old run.stands)
+    named = subst (λ (cs : List (NamedCaller V)). AreNamed name cs) (sym calls) (its_named same hash terms m old run.stands)
 
     -- each map stands as it stood
     stood : (k : ℕ) → slice_index_or new.logged.executor.maps.items k None ≡ slice_index_or old.logged.executor.maps.items k None
@@ -218,7 +218,7 @@ module _ {K V S : Type 0} (same : K → K → Bool) (hash : K → ℕ) (terms : 
 
     values : HaveValues (moment (e ∷ log)) last_scene new.calls
     values =
-        subst (λ (cs : List (Caller V)). HaveValues (moment (e ∷ log)) last_scene cs) (sym calls)
+        subst (λ (cs : List (NamedCaller V)). HaveValues (moment (e ∷ log)) last_scene cs) (sym calls)
         (have_values_then m (moment (e ∷ log)) (nobody_says e m (busy_still log s.world event of_all 0).no_call) s last_scene y.calls old.calls run.values)
 
     -- no bucket of slots is forgotten

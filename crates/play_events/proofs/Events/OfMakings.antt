@@ -4,8 +4,8 @@ use Rattle.std.specs.List.{AllByRecursion}
 use Rattle.std.proofs.Common.{refl, sym, ap, subst, inl, inr, ◌∙◌, arith}
 use Rattle.std.proofs.lemmas.Bool.{eq-eqb, ne_eqb}
 use Rattle.std.proofs.lemmas.Nat.{pow_pos}
-use Rattle.play_stepping.specs.Given.SeizeDeclared.progress.Progress.{Progress}
-use Rattle.play_stepping.specs.Given.SeizeDeclared.progress.Progress.TheVariants as progress
+use Rattle.play_stepping.specs.Given.SeizeDeclared.advance.Advance.{Advance}
+use Rattle.play_stepping.specs.Given.SeizeDeclared.advance.Advance.TheVariants as progress
 use Rattle.run_schedules.specs.Runs.Same.{is_same}
 use Rattle.play_lists.specs.Given.TablesDeclared.resize_mode.ResizeMode.{ResizeMode}
 use Rattle.play_lists.specs.Given.TablesLengths.{places_for}
@@ -232,7 +232,7 @@ module _ {K V S : Type 0} (same : K → K → Bool) (hash : K → ℕ) (terms : 
     mid = d.gone.2
 
     was : WasNew b.map d.gone.3.said prev.0.now
-    was = subst (λ (t : Progress Setting). WasNew b.map t prev.0.now) (sym d.gone.4) prev.2
+    was = subst (λ (t : Advance Setting). WasNew b.map t prev.0.now) (sym d.gone.4) prev.2
 
     abbrev y : MakingComes same hash terms name log own mode capacity i b bm (suc d.gone.1.0) x (far effects mid)
     y = comes_on same hash terms name log own mode capacity i b bm there d.faultless d.places_are below d.gone.1.0 x d.gone.0 (far effects mid) prev.0 s.maps prev.1 d.gone.3 was setting prev.2 prev.3
@@ -290,7 +290,7 @@ module _ {K V S : Type 0} (same : K → K → Bool) (hash : K → ℕ) (terms : 
     -- and has made no other
     told_all : CountsTables b.map effects y.now None
     told_all =
-        subst (λ (t : Progress Setting). CountsTables b.map effects y.now (table_left (d.gone.3.leads same hash prev.0.scene prev.0.is_at (record b { machine = prev.1.0 }) prev.1.1).0 t)) d.gone.4
+        subst (λ (t : Advance Setting). CountsTables b.map effects y.now (table_left (d.gone.3.leads same hash prev.0.scene prev.0.is_at (record b { machine = prev.1.0 }) prev.1.1).0 t)) d.gone.4
         (counts_on same hash terms name log own mode capacity i b bm there d.faultless d.places_are below d.gone.1.0 x d.gone.0 (far effects mid) prev.0 s.maps prev.1 d.gone.3 was setting prev.2 prev.3 prev.4)
 
     made_tables : length (tables_of b.map bw) ≡ length (filter is_table_made effects)

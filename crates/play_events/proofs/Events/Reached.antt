@@ -16,8 +16,8 @@ use Rattle.play_lists.specs.Given.TablesNodes.{deferred_word}
 use Rattle.play_lists.specs.Given.TablesDeclared.node.Node.{Node}
 use Rattle.play_stepping.proofs.Given.CallersTogether.Came.{came_reached}
 use Rattle.run_schedules.specs.Runs.Present.{Present, guards_on, has_registration, slot_of_guard, slot_of_registration}
-use Rattle.run_schedules.specs.declared.holders.Guard.{Guard}
-use Rattle.run_schedules.specs.declared.holders.Registration.{Registration}
+use Rattle.run_schedules.specs.declared.holders.NamedGuard.{NamedGuard}
+use Rattle.run_schedules.specs.declared.holders.NamedRegistration.{NamedRegistration}
 use Rattle.run_schedules.specs.Runs.Runs.{map_fault}
 use Rattle.run_schedules.specs.declared.event.Event.{Event}
 use Rattle.run_schedules.specs.declared.event.Event.TheVariants as event
@@ -49,15 +49,15 @@ or_so : (b c : Bool) → c ≡ true → (b || c) ≡ true
 or_so true c is = refl
 or_so false c is = is
 
-registered_among : (s : ℕ) (name : List ℕ) (rs : List Registration) (ys : List ℕ) → is_among s (map (λ (r : Registration). r.slot) (rs ++ record { name = name; slot = s } ∷ []) ++ ys) ≡ true
+registered_among : (s : ℕ) (name : List ℕ) (rs : List NamedRegistration) (ys : List ℕ) → is_among s (map (λ (r : NamedRegistration). r.slot) (rs ++ record { name = name; slot = s } ∷ []) ++ ys) ≡ true
 registered_among s name [] ys = ap (λ (b : Bool). b || is_among s ys) (eq-eqb s s refl)
 registered_among s name (r ∷ rs) ys = or_so (s == r.slot) _ (registered_among s name rs ys)
 
-guard_last : (s : ℕ) (name : List ℕ) (gs : List Guard) → is_among s (map (λ (g : Guard). g.slot) (gs ++ record { name = name; slot = s; forgotten = false } ∷ [])) ≡ true
+guard_last : (s : ℕ) (name : List ℕ) (gs : List NamedGuard) → is_among s (map (λ (g : NamedGuard). g.slot) (gs ++ record { name = name; slot = s; forgotten = false } ∷ [])) ≡ true
 guard_last s name [] = ap (λ (b : Bool). b || false) (eq-eqb s s refl)
 guard_last s name (g ∷ gs) = or_so (s == g.slot) _ (guard_last s name gs)
 
-guard_among : (s : ℕ) (name : List ℕ) (xs : List ℕ) (gs : List Guard) → is_among s (xs ++ map (λ (g : Guard). g.slot) (gs ++ record { name = name; slot = s; forgotten = false } ∷ [])) ≡ true
+guard_among : (s : ℕ) (name : List ℕ) (xs : List ℕ) (gs : List NamedGuard) → is_among s (xs ++ map (λ (g : NamedGuard). g.slot) (gs ++ record { name = name; slot = s; forgotten = false } ∷ [])) ≡ true
 guard_among s name [] gs = guard_last s name gs
 guard_among s name (x ∷ xs) gs = or_so (s == x) _ (guard_among s name xs gs)
 
@@ -180,9 +180,9 @@ module _ {K V : Type 0} (terms : Terms) (log : List (Entry K V)) (e : Entry K V)
 
   comes : (its : Event K V) → e.event ≡ its → ComesTo terms log m e its e.outcome → Uses
   comes (event.Register registration) event_is right =
-      uses_by (event.Register registration) event_is (registered_among s registration (worked e m).there.registrations (map (λ (g : Guard). g.slot) (worked e m).there.guards))
+      uses_by (event.Register registration) event_is (registered_among s registration (worked e m).there.registrations (map (λ (g : NamedGuard). g.slot) (worked e m).there.guards))
   comes (event.Own guard) event_is right =
-      uses_by (event.Own guard) event_is (guard_among s guard (map (λ (r : Registration). r.slot) (worked e m).there.registrations) (worked e m).there.guards)
+      uses_by (event.Own guard) event_is (guard_among s guard (map (λ (r : NamedRegistration). r.slot) (worked e m).there.registrations) (worked e m).there.guards)
   comes (event.Collector setup) event_is right = out_of _ IsDone right not_done
   comes (event.Hash by) event_is right = out_of _ IsDone right not_done
   comes (event.Choose choice) event_is right = not_done right

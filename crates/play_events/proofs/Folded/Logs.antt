@@ -4,7 +4,7 @@ use Rattle.std.proofs.Common.{refl, ap, sym, subst, ◌∙◌, arith, inl, inr}
 use Rattle.std.proofs.lemmas.List.{append-nil}
 use Rattle.run_schedules.specs.declared.effect.Effect.{Effect}
 use Rattle.run_schedules.specs.declared.effect.Effect.TheVariants as effect
-use Rattle.run_schedules.specs.declared.effect.Table.{Table}
+use Rattle.run_schedules.specs.declared.effect.TableId.{TableId}
 use Rattle.run_schedules.specs.declared.effect.Thing.{Thing}
 use Rattle.run_schedules.specs.declared.outcome.Outcome.{Outcome}
 use Rattle.run_schedules.specs.Schedules.After.{AtEachEvent, moment}
@@ -128,7 +128,7 @@ ended_calls_fold K V terms log e all life clear own its c is =
 module _ {K V : Type 0} (terms : Terms) (moments : List (Moment K V)) (everything : Bool) where
   -- a pair that is put behind a table may wait there
   waits_there : (who : Option (List ℕ)) (acted : Option ℕ) (m : Moment K V) (f : Effect) → Finds terms who acted everything moments m f
-      → (n : ℕ) (t : Table) → f ≡ effect.Deferred n t → ByCall (λ c. MayDefer c.map m n t) (acting who m)
+      → (n : ℕ) (t : TableId) → f ≡ effect.Deferred n t → ByCall (λ c. MayDefer c.map m n t) (acting who m)
   waits_there None None m f finds n t is = absurd (subst (Finds terms None None everything moments m) is finds)
   waits_there None (Some map) m f finds n t is = absurd (subst (Finds terms None (Some map) everything moments m) is finds)
   waits_there (Some own) acted m f finds n t is = by (call_of own m) (subst (Finds terms (Some own) acted everything moments m) is finds)
@@ -142,5 +142,5 @@ deferrals_are_right K V terms log e life =
     let b = at_work e (moment log) in
     let moments = moments_of terms log (acting (caller_of e.event) b) in
     each_so (Finds terms (caller_of e.event) (acted_on e.event b) (gives_all e.event) moments)
-    (λ v f. (n : ℕ) (t : Table) → f ≡ effect.Deferred n t → ByCall (λ c. MayDefer c.map v n t) (acting (caller_of e.event) v))
+    (λ v f. (n : ℕ) (t : TableId) → f ≡ effect.Deferred n t → ByCall (λ c. MayDefer c.map v n t) (acting (caller_of e.event) v))
     (λ v f its. waits_there terms moments (gives_all e.event) (caller_of e.event) (acted_on e.event b) v f its) (caller_of e.event) (acted_on e.event b) e.effects b life.finds

@@ -2,11 +2,11 @@
 use Rattle.std.specs.Prelude.{◌≡◌, ℕ, true, false, List, [], ◌∷◌, Some}
 use Rattle.std.proofs.Common.{refl, arith}
 use Rattle.play_lists.specs.Given.TablesDeclared.resize_mode.ResizeMode.TheVariants.{Blocking}
-use Rattle.run_schedules.specs.declared.call.Answer.TheVariants.{Completed}
+use Rattle.run_schedules.specs.declared.call.Response.TheVariants.{Completed}
 use Rattle.run_schedules.specs.declared.call.Call.TheVariants.{Clear}
 use Rattle.run_schedules.specs.declared.effect.Effect.{Effect}
 use Rattle.run_schedules.specs.declared.effect.Effect.TheVariants.{Deferred, Removed, Retired}
-use Rattle.run_schedules.specs.declared.effect.Table.{Table}
+use Rattle.run_schedules.specs.declared.effect.TableId.{TableId}
 use Rattle.run_schedules.specs.declared.effect.Thing.TheVariants.{APair, ATable}
 use Rattle.run_schedules.specs.declared.event.Event.TheVariants.{Begin, MakeMap, Step}
 use Rattle.run_schedules.specs.declared.outcome.Outcome.TheVariants.{Answered, Done, Goes}
@@ -22,7 +22,7 @@ use Rattle.play_events.specs.Folded.Folded.{HandInOrder, HandsAllOver, handed, s
 abbrev own : List ℕ
 own = 1 ∷ []
 
-abbrev table : ℕ → Table
+abbrev table : ℕ → TableId
 table turn = record { map = 0; turn = turn }
 
 -- a moment at which its call owes pair 4, and behind that the first table of map 0

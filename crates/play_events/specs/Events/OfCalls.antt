@@ -26,7 +26,7 @@ use Rattle.run_kept.specs.Given.HistoriesInEvent.{ComesSo}
 use Rattle.run_kept.specs.Given.FinishesMachines.{machine_of}
 use Rattle.run_kept.specs.Models.CallEvents.{IsInItsRow}
 use Rattle.run_kept.specs.Values.Values.{KeepsValue}
-use Rattle.play_stepping.specs.Given.ExecutorDeclared.caller.Caller.{Caller}
+use Rattle.play_stepping.specs.Given.ExecutorDeclared.caller.NamedCaller.{NamedCaller}
 use Rattle.run_legal.specs.CallEvents.{InCallEvent, IsLegalBut}
 use Rattle.run_legal.specs.CallSwept.{TellsOf}
 use Rattle.run_legal.specs.Carried.{ShowsRun}
@@ -48,10 +48,10 @@ abbrev pub HaveShards : {K V S : Type 0} → Terms → Executor K V S → Type 0
 HaveShards terms e = (n : ℕ) (setting : Setting) → slice_index_or e.maps.items n None ≡ Some setting → setting.mask + 1 ≡ shards_of terms
 
 -- each caller keeps the value that it is to tell back, by its call and replies and its machine
-abbrev pub IsWorth : {K V : Type 0} → Moment K V → Scene K V → Caller V → Type 0
+abbrev pub IsWorth : {K V : Type 0} → Moment K V → Scene K V → NamedCaller V → Type 0
 IsWorth {K} {V} m s d = (u : UnderWay K V K) → s.calls d.map d.number ≡ Some u → (c : CallThere K V) → call_of d.name m ≡ Some c → KeepsValue c.call c.replies (machine_of u) d.value
 
-abbrev pub HaveValues : {K V : Type 0} → Moment K V → Scene K V → List (Caller V) → Type 0
+abbrev pub HaveValues : {K V : Type 0} → Moment K V → Scene K V → List (NamedCaller V) → Type 0
 HaveValues m s calls = AllByRecursion (λ d. IsWorth m s d) calls
 
 module _ {K V S : Type 0} (same : K → K → Bool) (hash : K → ℕ) where

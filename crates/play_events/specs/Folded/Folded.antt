@@ -3,7 +3,7 @@ use Rattle.std.specs.Prelude.{◌≡◌, ℕ, nat_lt, true, List, [], ◌∷◌,
 use Rattle.run_schedules.specs.Runs.Same.{is_same}
 use Rattle.run_schedules.specs.declared.effect.Effect.{Effect}
 use Rattle.run_schedules.specs.declared.effect.Effect.TheVariants.{Deferred, Retired}
-use Rattle.run_schedules.specs.declared.effect.Table.{Table}
+use Rattle.run_schedules.specs.declared.effect.TableId.{TableId}
 use Rattle.run_schedules.specs.declared.effect.Thing.{Thing}
 use Rattle.run_schedules.specs.declared.effect.Thing.TheVariants.{APair}
 use Rattle.run_schedules.specs.Schedules.After.{AtEachEvent, moment}
@@ -87,4 +87,4 @@ module _ (K V : Type 0) where
   DeferralsAreRight =
       (terms : Terms) (log : List (Entry K V)) (e : Entry K V) → MovesOn terms log e
       → (let b = at_work e (moment log) in
-      AtEachEffect (λ v f. (n : ℕ) (t : Table) → f ≡ Deferred n t → ByCall (λ c. MayDefer c.map v n t) (acting (caller_of e.event) v)) (caller_of e.event) (acted_on e.event b) e.effects b)
+      AtEachEffect (λ v f. (n : ℕ) (t : TableId) → f ≡ Deferred n t → ByCall (λ c. MayDefer c.map v n t) (acting (caller_of e.event) v)) (caller_of e.event) (acted_on e.event b) e.effects b)

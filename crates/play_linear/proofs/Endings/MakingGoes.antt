@@ -4,8 +4,8 @@ use Rattle.std.specs.List.{list_all}
 use Rattle.std.proofs.Common.{refl, ap, ◌∙◌}
 use Rattle.seize_acts.specs.Acts.Answers.{Grant}
 use Rattle.play_stepping.specs.Given.SeizeWorld.{World}
-use Rattle.play_stepping.specs.Given.SeizeDeclared.progress.Progress.{Progress}
-use Rattle.play_stepping.specs.Given.SeizeDeclared.progress.Progress.TheVariants as progress
+use Rattle.play_stepping.specs.Given.SeizeDeclared.advance.Advance.{Advance}
+use Rattle.play_stepping.specs.Given.SeizeDeclared.advance.Advance.TheVariants as progress
 use Rattle.play_lists.specs.Given.TablesDeclared.node.Node.{Node}
 use Rattle.play_lists.specs.Given.TablesDeclared.resize_mode.ResizeMode.{ResizeMode}
 use Rattle.play_lists.specs.Given.TablesDeclared.setting.Setting.{Setting}
@@ -104,7 +104,7 @@ module _ {K V S : Type 0} (same : K → K → Bool) (by_hasher : S → K → ℕ
   abbrev m : Moment K V
   m = moment x.history
 
-  made_ends : (b : Beginning K) (opening : NewMap) (w2 : World (Node K V)) (p : Progress Setting) (comes : MakingComesTo same hash s old new i b opening w2 p) → MadeTo same hash s old new i b opening w2 p comes n → n.enders ≡ s.enders
+  made_ends : (b : Beginning K) (opening : NewMap) (w2 : World (Node K V)) (p : Advance Setting) (comes : MakingComesTo same hash s old new i b opening w2 p) → MadeTo same hash s old new i b opening w2 p comes n → n.enders ≡ s.enders
   made_ends b opening w2 progress.Goes comes is_n = ap (λ (v : Scene K V). v.enders) is_n
   made_ends b opening w2 progress.Waits comes never = absurd never
   made_ends b opening w2 (progress.Done setting) comes is_n = ap (λ (v : Scene K V). v.enders) is_n

@@ -9,7 +9,7 @@ use Rattle.play_lists.specs.Given.FinishesEndings.{Finishing}
 use Rattle.run_schedules.specs.declared.effect.Effect.{Effect}
 use Rattle.run_schedules.specs.declared.effect.Effect.TheVariants as effect
 use Rattle.run_schedules.specs.declared.effect.Growth.TheVariants.{ABucket}
-use Rattle.run_schedules.specs.declared.effect.Table.{Table}
+use Rattle.run_schedules.specs.declared.effect.TableId.{TableId}
 use Rattle.run_schedules.specs.Schedules.Effects.{AtEachEffect, with_effect}
 use Rattle.run_schedules.specs.Schedules.Handing.{is_first_making}
 use Rattle.run_schedules.specs.Schedules.Moment.{Moment}
@@ -51,7 +51,7 @@ module _ {K V : Type 0} (same : K → K → Bool) (name : ℕ → List ℕ) (map
     out_spares (acts.Ending of) k out = out
     out_spares _ k out = out
 
-    other_spares : (who : Acting) (t : Table) → IsOther map m t → Spares map acted m (table_taken who t)
+    other_spares : (who : Acting) (t : TableId) → IsOther map m t → Spares map acted m (table_taken who t)
     other_spares (acts.Ending of) t other = other
     other_spares _ t other = other
 

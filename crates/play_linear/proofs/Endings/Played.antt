@@ -4,7 +4,7 @@ use Rattle.std.proofs.Common.{refl, ap, sym, subst, ◌∙◌}
 use Rattle.seize_acts.specs.Acts.Answers.{Grant}
 use Rattle.play_stepping.specs.Given.SeizeWorld.{Row, times}
 use Rattle.play_stepping.specs.Given.RawMachine.{machine_asked, machine_plan, machine_replied}
-use Rattle.play_stepping.specs.Given.RawDeclared.machines.asking.Reply.{Reply as Told}
+use Rattle.play_stepping.specs.Given.RawDeclared.machines.asking.MachineReply.{MachineReply as Told}
 use Rattle.play_lists.specs.Given.FinishesEndings.{Finishing, FinishingFacts}
 use Rattle.play_lists.specs.Given.FinishesMachines.{machine_of}
 use Rattle.play_lists.proofs.Given.FinishesEnds.CountedBlocks.{some_last}

@@ -3,8 +3,8 @@ use Rattle.std.specs.Prelude.{◌≡◌, ℕ, ◌==◌, Bool, true, false, Optio
 use Rattle.std.proofs.Common.{refl, sym, subst}
 use Rattle.run_schedules.specs.Given.SeizeWordsOp.{Out, Found, Stored, Exchanged, Made, Taken, Roomed}
 use Rattle.run_schedules.specs.Given.SeizeWordsWord.{block_in}
-use Rattle.play_stepping.specs.Given.SeizeDeclared.progress.Progress.{Progress as Counting}
-use Rattle.play_stepping.specs.Given.SeizeDeclared.progress.Progress.TheVariants as counting
+use Rattle.play_stepping.specs.Given.SeizeDeclared.advance.Advance.{Advance as Counting}
+use Rattle.play_stepping.specs.Given.SeizeDeclared.advance.Advance.TheVariants as counting
 use Rattle.play_stepping.specs.Given.SeizeDeclared.rows.settle.Settled.{Settled}
 use Rattle.play_stepping.specs.Given.SeizeDeclared.rows.settle.Settled.TheVariants as settled
 use Rattle.play_lists.specs.Given.TablesChunks.{is_incremental}
@@ -25,8 +25,8 @@ use Rattle.play_stepping.specs.Given.ResizeDeclared.copier.Copier.{Copier}
 use Rattle.play_stepping.specs.Given.ResizeDeclared.dispose.Dispose.{Dispose}
 use Rattle.play_stepping.specs.Given.ResizeDeclared.lookup.Lookup.{Lookup}
 use Rattle.play_stepping.specs.Given.ResizeDeclared.new_table.NewTable.{NewTable}
-use Rattle.play_stepping.specs.Given.ResizeDeclared.outcome.Outcome.{Outcome}
-use Rattle.play_stepping.specs.Given.ResizeDeclared.outcome.Outcome.TheVariants as outcome
+use Rattle.play_stepping.specs.Given.ResizeDeclared.yielding.Yielding.{Yielding}
+use Rattle.play_stepping.specs.Given.ResizeDeclared.yielding.Yielding.TheVariants as outcome
 use Rattle.play_stepping.specs.Given.RawAnswers.{ended}
 use Rattle.play_stepping.specs.Given.RawCall.{made, makes_of, root_found, next_found, dropped, key_read, pair_read, word_read, word_found, tried, looked, looks_for, first_made, next_made, disposed, helped, copied, plan_at}
 use Rattle.play_stepping.specs.Given.RawCallFills.{filled, putting_by, fill_by, emptied, fills_with, given_up, asks_at}
@@ -170,14 +170,14 @@ module _ {K V Q : Type 0} where
     next_so (n, counting.Done table) = on_so table
     next_so (n, counting.Refused fault) = ending_so (ends.Refused fault)
 
-    helped_so : (goal : Table) (end : Copier × Outcome (Node K V) Table) → AsksAloud (helped p goal end)
+    helped_so : (goal : Table) (end : Copier × Yielding (Node K V) Table) → AsksAloud (helped p goal end)
     helped_so goal (c, outcome.Goes) = tt
     helped_so goal (c, outcome.Waits) = tt
     helped_so goal (c, outcome.Gave value) = tt
     helped_so goal (c, outcome.Done table) = tt
     helped_so goal (c, outcome.Refused fault) = ending_so (ends.Refused fault)
 
-    copied_so : (end : Copier × Outcome (Node K V) Table) → AsksAloud (copied p end)
+    copied_so : (end : Copier × Yielding (Node K V) Table) → AsksAloud (copied p end)
     copied_so (c, outcome.Goes) = tt
     copied_so (c, outcome.Waits) = tt
     copied_so (c, outcome.Gave value) = tt

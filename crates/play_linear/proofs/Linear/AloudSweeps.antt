@@ -14,8 +14,8 @@ use Rattle.play_stepping.specs.Given.ResizeCopier.{copier_plan}
 use Rattle.play_stepping.specs.Given.ResizeDispose.{dispose_plan}
 use Rattle.play_stepping.specs.Given.ResizeDeclared.copier.Copier.{Copier}
 use Rattle.play_stepping.specs.Given.ResizeDeclared.dispose.Dispose.{Dispose}
-use Rattle.play_stepping.specs.Given.ResizeDeclared.outcome.Outcome.{Outcome}
-use Rattle.play_stepping.specs.Given.ResizeDeclared.outcome.Outcome.TheVariants as outcome
+use Rattle.play_stepping.specs.Given.ResizeDeclared.yielding.Yielding.{Yielding}
+use Rattle.play_stepping.specs.Given.ResizeDeclared.yielding.Yielding.TheVariants as outcome
 use Rattle.play_stepping.specs.Given.SweepsSweep.{word_found, tried, disposed, root_read, next_read, copied, plan_at}
 use Rattle.play_stepping.specs.Given.SweepsSweepPoints.{removes, beginning, tableless, entering, further, told, telling, at_pair, seen}
 use Rattle.play_stepping.specs.Given.ReservesDeclared.sweep.Purpose.{Purpose}
@@ -107,7 +107,7 @@ module _ (K V : Type 0) (p : Sweep) where
   disposed_aloud (d, settled.Gave value) = tt
   disposed_aloud (d, settled.Done) = telling_aloud (further p)
 
-  copied_aloud : (end : Copier × Outcome (Node K V) Table) → AsksAloud (copied p end)
+  copied_aloud : (end : Copier × Yielding (Node K V) Table) → AsksAloud (copied p end)
   copied_aloud (c, outcome.Goes) = tt
   copied_aloud (c, outcome.Waits) = tt
   copied_aloud (c, outcome.Gave value) = tt

@@ -6,7 +6,7 @@ use Rattle.play_stepping.specs.Given.SeizeDeclared.rows.reclaim_all.ReclaimAll.{
 use Rattle.play_stepping.specs.Given.SeizeDeclared.rows.settle.Settled.{Settled}
 use Rattle.play_lists.specs.Given.TablesDeclared.node.Node.{Node}
 use Rattle.play_stepping.specs.Given.RawMachine.{machine_asked, machine_plan, machine_replied}
-use Rattle.play_stepping.specs.Given.RawDeclared.machines.asking.Reply.{Reply as Told}
+use Rattle.play_stepping.specs.Given.RawDeclared.machines.asking.MachineReply.{MachineReply as Told}
 use Rattle.play_stepping.specs.Given.RawDeclared.machines.progress.Progress.{Progress}
 use Rattle.play_stepping.specs.Given.CallersTogether.{UnderWay}
 use Rattle.play_lists.specs.Given.FinishesEndings.{Finishing}

@@ -5,8 +5,8 @@ use Rattle.std.proofs.lemmas.Bool.{cases_eq}
 use Rattle.seize_acts.specs.Acts.Answers.{Grant}
 use Rattle.seize_acts.proofs.Acts.Answers.{same_some}
 use Rattle.play_stepping.specs.Given.SeizeWorld.{World, with_at}
-use Rattle.play_stepping.specs.Given.SeizeDeclared.progress.Progress.{Progress}
-use Rattle.play_stepping.specs.Given.SeizeDeclared.progress.Progress.TheVariants as progress
+use Rattle.play_stepping.specs.Given.SeizeDeclared.advance.Advance.{Advance}
+use Rattle.play_stepping.specs.Given.SeizeDeclared.advance.Advance.TheVariants as progress
 use Rattle.play_stepping.specs.Given.SeizeDeclared.rows.settle.Settled.{Settled}
 use Rattle.play_stepping.specs.Given.SeizeDeclared.rows.settle.Settled.TheVariants as settled
 use Rattle.play_lists.specs.Given.TablesDeclared.node.Node.{Node}
@@ -81,7 +81,7 @@ module _ {K V S : Type 0} (same : K → K → Bool) (by_hasher : S → K → ℕ
       is_below (record s { world = w2; maps = maps2 }) is
       (maps_below count s here w2 maps2 (λ m. (same_map_keeps (hash m) (s.maps m) (maps2 m) (hashes m) (as_they_were m)).setting) (record s { world = w2; maps = maps2 }) refl refl)
 
-  made_on : (i : ℕ) (b : Beginning K) (makes : s.makers i ≡ Some b) (w2 : World (Node K V)) (machine : NewMap) (told : Progress Setting)
+  made_on : (i : ℕ) (b : Beginning K) (makes : s.makers i ≡ Some b) (w2 : World (Node K V)) (machine : NewMap) (told : Advance Setting)
       → MakingCame {S = S} same by_hasher batch_size roots slot_of s i b w2 machine n told → MapsAreBelow count n
   made_on i b makes w2 machine progress.Goes is =
       is_below (record s { world = w2; makers = with_at s.makers i (Some (record b { machine = machine })) }) is

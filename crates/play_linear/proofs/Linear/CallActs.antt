@@ -5,7 +5,7 @@ use Rattle.seize_acts.specs.Acts.Acts.{rests}
 use Rattle.seize_acts.specs.Acts.Answers.{Grant}
 use Rattle.seize_acts.proofs.Acts.Answers.{same_some}
 use Rattle.play_stepping.specs.Given.RawMachine.{machine_asked, machine_replied}
-use Rattle.play_stepping.specs.Given.RawDeclared.machines.asking.Reply.{Reply as Told}
+use Rattle.play_stepping.specs.Given.RawDeclared.machines.asking.MachineReply.{MachineReply as Told}
 use Rattle.play_stepping.specs.Given.RawDeclared.machines.machine.Machine.{Machine}
 use Rattle.play_stepping.specs.Given.RawDeclared.machines.progress.Progress.{Progress}
 use Rattle.play_stepping.specs.Given.SeizeWorld.{Rests, Row}

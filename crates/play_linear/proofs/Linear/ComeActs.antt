@@ -5,8 +5,8 @@ use Rattle.std.proofs.lemmas.Bool.{cases_eq}
 use Rattle.seize_acts.specs.Acts.Answers.{Grant}
 use Rattle.seize_acts.proofs.Acts.Answers.{same_some}
 use Rattle.play_stepping.specs.Given.SeizeWorld.{Row, World, with_at}
-use Rattle.play_stepping.specs.Given.SeizeDeclared.progress.Progress.{Progress}
-use Rattle.play_stepping.specs.Given.SeizeDeclared.progress.Progress.TheVariants as progress
+use Rattle.play_stepping.specs.Given.SeizeDeclared.advance.Advance.{Advance}
+use Rattle.play_stepping.specs.Given.SeizeDeclared.advance.Advance.TheVariants as progress
 use Rattle.play_stepping.specs.Given.SeizeDeclared.rows.settle.Settled.{Settled}
 use Rattle.play_stepping.specs.Given.SeizeDeclared.rows.settle.Settled.TheVariants as settled
 use Rattle.play_lists.specs.Given.TablesDeclared.node.Node.{Node}
@@ -67,7 +67,7 @@ module _ {K V : Type 0} (same : K → K → Bool) (hash : ℕ → K → ℕ) (ol
 
 module _ {K V S : Type 0} where
   -- a making that goes on leaves ends as they are
-  pub made_enders : (b : Making S) (i : ℕ) (machine : NewMap) (told : Progress Setting) (now : Now K V S) → (made_on i b machine told now).enders ≡ now.enders
+  pub made_enders : (b : Making S) (i : ℕ) (machine : NewMap) (told : Advance Setting) (now : Now K V S) → (made_on i b machine told now).enders ≡ now.enders
   made_enders b i machine progress.Goes now = refl
   made_enders b i machine progress.Waits now = refl
   made_enders b i machine (progress.Done setting) now = refl
@@ -168,14 +168,14 @@ module _ {K V S : Type 0} (same : K → K → Bool) (by_hasher : S → K → ℕ
     abbrev new : Held K V
     new = then_held made_act
 
-    abbrev step : ℕ → NewMap → NewMap → Progress Setting → Entry K V
+    abbrev step : ℕ → NewMap → NewMap → Advance Setting → Entry K V
     step map first machine said = record { deed = making_deed map first machine; outcome = making_outcome said; effects = effects_of (acts.Making map) x.known new.changed; refused = is_refusal new.changed }
 
     pub making_steps_come : PlayedAs same by_hasher batch_size roots aborts x y (StepsMaking i g) → Leads (StepsMaking i g) → LeadsAs same by_hasher hash (StepsMaking i g) s told n old new → IsAt same hash new n → Here y
     making_steps_come played led (said, answer, leads, goes) at2 = by led
       where
         -- the makings' ends, and what is noted
-        enders_same : (b : Beginning K) (machine : NewMap) (progress : Progress Setting) (w2 : World (Node K V)) → MakingCame {S = S} same by_hasher batch_size roots slot_of s i b w2 machine n progress → n.enders ≡ s.enders
+        enders_same : (b : Beginning K) (machine : NewMap) (progress : Advance Setting) (w2 : World (Node K V)) → MakingCame {S = S} same by_hasher batch_size roots slot_of s i b w2 machine n progress → n.enders ≡ s.enders
         enders_same b machine progress.Goes w2 came = ap (λ (z : Scene K V). z.enders) came
         enders_same b machine progress.Waits w2 came = absurd came
         enders_same b machine (progress.Done setting) w2 (standing, is_made, came) = ap (λ (z : Scene K V). z.enders) came
@@ -196,7 +196,7 @@ module _ {K V S : Type 0} (same : K → K → Bool) (by_hasher : S → K → ℕ
             Then map first = MapsComeAndGo (moment (step map first machine progress ∷ x.history)) (known_after (acts.Making map) new.changed x.known) x.now.enders n
 
             its_leads : MakingLeads same hash i progress s old new
-            its_leads = subst (λ (p : Progress Setting). MakingLeads same hash i p s old new) (let both : ◌≡◌ {A = Answer K V} (OfMaking said) (OfMaking progress) = sym answer ∙ told_is in cc both) leads
+            its_leads = subst (λ (p : Advance Setting). MakingLeads same hash i p s old new) (let both : ◌≡◌ {A = Answer K V} (OfMaking said) (OfMaking progress) = sym answer ∙ told_is in cc both) leads
 
             op : Operated old.memory new.memory new.changed
             op = operated old.memory new.memory new.changed (new_map_plan {K = K} {V = V} b.machine) ((its_leads b makes).0, progress) (may_make same hash old s at i b makes) (its_leads b makes).1

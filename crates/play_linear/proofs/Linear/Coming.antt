@@ -8,7 +8,7 @@ use Rattle.std.proofs.lemmas.List.Folds.{find-append}
 use Rattle.run_schedules.specs.Runs.Same.{is_same}
 use Rattle.play_lists.specs.Given.TablesDeclared.setting.Setting.{Setting}
 use Rattle.play_lists.specs.Given.FinishesMakings.{Beginning}
-use Rattle.run_schedules.specs.declared.effect.Table.{Table}
+use Rattle.run_schedules.specs.declared.effect.TableId.{TableId}
 use Rattle.run_schedules.specs.Schedules.Effects.{with_effects}
 use Rattle.run_schedules.specs.Schedules.Moment.{MapThere, Moment, Place, TableThere}
 use Rattle.run_schedules.specs.Schedules.Things.{same_table}
@@ -81,7 +81,7 @@ module _ {K V : Type 0} where
   }
 
 -- A map without tables has none that is noted.
-module _ (map : ℕ) (t : Table) (here : t.map ≡ map) where
+module _ (map : ℕ) (t : TableId) (here : t.map ≡ map) where
   none_so : (us : List TableThere) → filter (λ u. u.table.map == map) us ≡ [] → list_any (λ u. same_table u.table t && is_there u.stage) us ≡ true → ⊥
   none_so [] none any = cc any
   none_so (u ∷ us) none any = by (u.table.map == map) refl none (none_so us)
@@ -94,17 +94,17 @@ module _ (map : ℕ) (t : Table) (here : t.map ≡ map) where
           later is (sym (ap (λ (q : Bool). ((q && (u.table.turn == t.turn)) && is_there u.stage) || list_any (λ v. same_table v.table t && is_there v.stage) us) other) ∙ any)
 
 module _ {K V : Type 0} (m : Moment K V) (known : Known) (held : ShowsUnreclaimed m known) (map : ℕ) (none : tables_of map m ≡ []) where
-  pub no_table_of : (b : ℕ) (t : Table) (len : ℕ) → known.roles b ≡ role.Table t len → t.map ≢ map
+  pub no_table_of : (b : ℕ) (t : TableId) (len : ℕ) → known.roles b ≡ role.Table t len → t.map ≢ map
   no_table_of b t len is here = none_so map t here m.tables none (held.tables b len t is)
 
   -- Who acts on another map leaves it,
   pub others_leave : (who : Acting) → map_of who ≢ map → (told : Changed) (caller : Option (List ℕ)) (acted : Option ℕ) → acted ≢ Some map → SameOf map m (with_effects caller acted (effects_of who known told) m)
   others_leave who other told caller acted elsewhere =
-      effects_elsewhere map caller acted elsewhere (effects_of who known told) m (acting_elsewhere map (λ (t : Table). t.map ≢ map) who other known no_table_of told)
+      effects_elsewhere map caller acted elsewhere (effects_of who known told) m (acting_elsewhere map (λ (t : TableId). t.map ≢ map) who other known no_table_of told)
 
   -- and so does a row.
   pub rows_leave : (told : Changed) → TellsRow told → SameOf map m (with_effects None None (effects_of acts.Row known told) m)
-  rows_leave told tells = effects_elsewhere map None None (λ e. cc e) (effects_of acts.Row known told) m (rows_elsewhere map (λ (t : Table). t.map ≢ map) known told tells)
+  rows_leave told tells = effects_elsewhere map None None (λ e. cc e) (effects_of acts.Row known told) m (rows_elsewhere map (λ (t : TableId). t.map ≢ map) known told tells)
 
 -- among those that are kept none is found either
 none_kept : (map : ℕ) (keep : MapThere → Bool) (fs : List MapThere) → find (λ f. f.number == map) fs ≡ None → find (λ f. f.number == map) (filter keep fs) ≡ None

@@ -4,7 +4,7 @@ use Rattle.std.proofs.Common.{ap, sym, subst, ◌∙◌}
 use Rattle.seize_acts.specs.Acts.Answers.{Grant}
 use Rattle.run_schedules.specs.Given.SeizeWordsMem.{Mem}
 use Rattle.play_stepping.specs.Given.SeizeWorld.{Row}
-use Rattle.play_stepping.specs.Given.SeizeDeclared.progress.Progress.{Progress}
+use Rattle.play_stepping.specs.Given.SeizeDeclared.advance.Advance.{Advance}
 use Rattle.play_lists.specs.Given.TablesDeclared.node.Node.{Node}
 use Rattle.play_lists.specs.Given.TablesDeclared.setting.Setting.{Setting}
 use Rattle.play_stepping.specs.Given.ResizeDeclared.new_map.NewMap.{NewMap}
@@ -68,13 +68,13 @@ module _ {K V S : Type 0} (same : K → K → Bool) (by_hasher : S → K → ℕ
   gone : (act : Act K V S) → ((map : ℕ) → BeginsOther map act) → Led same by_hasher batch_size roots slot_of act s told n → (map : ℕ) → IsGone map s → IsGone map n
   gone act begins led map was = acts_leave_gone same by_hasher hash batch_size roots map s n was at.hashes act (begins map) told led
 
-  pub making_so : (i : ℕ) (g : Grant) → LeadsAs same by_hasher hash (StepsMaking i g) s told n old (then_held (StepsMaking i g)) → (b : Beginning K) (m2 : Mem (Node K V)) (machine : NewMap) (said : Progress Setting)
+  pub making_so : (i : ℕ) (g : Grant) → LeadsAs same by_hasher hash (StepsMaking i g) s told n old (then_held (StepsMaking i g)) → (b : Beginning K) (m2 : Mem (Node K V)) (machine : NewMap) (said : Advance Setting)
       → MakingDid same by_hasher hash batch_size roots aborts x y s n s.world.row is NoChange at holds noted_then told i g b m2 machine said
       → MakesSo same by_hasher hash batch_size roots aborts x y s n s.world.row is NoChange at holds noted_then told i g said b machine
   making_so i g (progress, answer, leads, goes) b m2 machine said (makes, computed, told_is, (did, came)) =
       let new = then_held (StepsMaking i g) in
       let its : MakingLeads same hash i said s old new =
-      subst (λ (p : Progress Setting). MakingLeads same hash i p s old new) (let both : ◌≡◌ {A = Answer K V} (OfMaking progress) (OfMaking said) = sym answer ∙ told_is in cc both) leads in
+      subst (λ (p : Advance Setting). MakingLeads same hash i p s old new) (let both : ◌≡◌ {A = Answer K V} (OfMaking progress) (OfMaking said) = sym answer ∙ told_is in cc both) leads in
       record {
         was_new = was_new same by_hasher hash batch_size roots m x.known x.now.enders s n NoChange new at holds.shows.whole maps i g b m2 machine said makes computed did came its;
         unknown = λ none has. (

@@ -6,8 +6,8 @@ use Rattle.seize_acts.specs.Acts.Answers.{Grant}
 use Rattle.seize_acts.proofs.Acts.Answers.{same_some}
 use Rattle.run_schedules.specs.Given.SeizeWordsMem.{Mem}
 use Rattle.play_stepping.specs.Given.SeizeWorld.{World, with_at}
-use Rattle.play_stepping.specs.Given.SeizeDeclared.progress.Progress.{Progress}
-use Rattle.play_stepping.specs.Given.SeizeDeclared.progress.Progress.TheVariants as progress
+use Rattle.play_stepping.specs.Given.SeizeDeclared.advance.Advance.{Advance}
+use Rattle.play_stepping.specs.Given.SeizeDeclared.advance.Advance.TheVariants as progress
 use Rattle.play_lists.specs.Given.EffectsDeclared.changed.Changed.{Changed}
 use Rattle.play_lists.specs.Given.TablesDeclared.node.Node.{Node}
 use Rattle.play_lists.specs.Given.TablesDeclared.setting.Setting.{Setting}
@@ -65,7 +65,7 @@ has_taken w roots i n (opens.Refused fault) facts has = absurd facts
 
 -- The step of a making has led on so.
 module _ {K V S : Type 0} (same : K → K → Bool) (by_hasher : S → K → ℕ) (hash : ℕ → K → ℕ) (batch_size roots : ℕ) (m : Moment K V) (known : Known) (enders : ℕ → Option Ending) (s n : Scene K V) (before : Changed) (new : Held K V)
-    (at : IsAt same hash (held_in batch_size roots before s) s) (whole : ShowsWhole same named m known s) (so : MapsComeAndGo m known enders s) (i : ℕ) (g : Grant) (b : Beginning K) (m2 : Mem (Node K V)) (machine : NewMap) (said : Progress Setting)
+    (at : IsAt same hash (held_in batch_size roots before s) s) (whole : ShowsWhole same named m known s) (so : MapsComeAndGo m known enders s) (i : ℕ) (g : Grant) (b : Beginning K) (m2 : Mem (Node K V)) (machine : NewMap) (said : Advance Setting)
     (makes : s.makers i ≡ Some b) (computed : making_steps {S = S} same by_hasher batch_size roots slot_of s g b ≡ Some (m2, (machine, said)))
     (did : MakingStepsAmong V same same batch_size roots slot_of s.world s.maps s.calls s.makers s.enders i b m2 (machine, said))
     (came : MakingCame {S = S} same by_hasher batch_size roots slot_of s i b did.step.w2 machine n said) (leads : MakingLeads same hash i said s (held_in batch_size roots before s) new) where
@@ -87,7 +87,7 @@ module _ {K V S : Type 0} (same : K → K → Bool) (by_hasher : S → K → ℕ
   abbrev change : Changed
   change = changed_of s.world.memory g (new_map_plan {K = K} {V = V} b.machine)
 
-  told : StepsTold K V (NewMap × Progress Setting) s.world.memory changed.Nothing (new_map_plan b.machine) m2 change (machine, said)
+  told : StepsTold K V (NewMap × Advance Setting) s.world.memory changed.Nothing (new_map_plan b.machine) m2 change (machine, said)
   told = was_told s.world.memory g (new_map_plan {K = K} {V = V} b.machine) (m2, (machine, said)) computed
 
   -- it had its root if its map stands then, and has it still unless it is refused
@@ -127,7 +127,7 @@ module _ {K V S : Type 0} (same : K → K → Bool) (by_hasher : S → K → ℕ
   worked_other k other bare = others_leave m known whole.blocks k bare (acts.Making b.map) other new.changed None (Some b.map) (λ e. other (cc e))
 
   -- What is asked of it: a map that stands then was there as a new one,
-  new_by : (p : Progress Setting) → said ≡ p → KeepsIts V same same batch_size roots slot_of s.world did.step.w2 b.machine (machine, p)
+  new_by : (p : Advance Setting) → said ≡ p → KeepsIts V same same batch_size roots slot_of s.world did.step.w2 b.machine (machine, p)
       → MakingCame {S = S} same by_hasher batch_size roots slot_of s i b did.step.w2 machine n p → WasNew b.map p m
   new_by (progress.Done setting) done keeps (standing, is_made, led) =
       let was = done_had setting done in
@@ -149,7 +149,7 @@ module _ {K V S : Type 0} (same : K → K → Bool) (by_hasher : S → K → ℕ
   was_new = new_by said refl did.step.keeps came
 
   -- one that had no root does not stand then,
-  never : (p : Progress Setting) → said ≡ p → had ≡ false → (v : Moment K V) → WasNew b.map p v
+  never : (p : Advance Setting) → said ≡ p → had ≡ false → (v : Moment K V) → WasNew b.map p v
   never (progress.Done setting) done none v = absurd (let was = done_had setting done in cc (was, none))
   never progress.Goes is none v = tt
   never progress.Waits is none v = tt
@@ -162,7 +162,7 @@ module _ {K V S : Type 0} (same : K → K → Bool) (by_hasher : S → K → ℕ
   unknown_yet none = itself false none
 
   -- and one that has left its root was refused.
-  fails_by : (p : Progress Setting) → IsRefused p → MakingCame {S = S} same by_hasher batch_size roots slot_of s i b did.step.w2 machine n p → n.maps b.map ≡ None
+  fails_by : (p : Advance Setting) → IsRefused p → MakingCame {S = S} same by_hasher batch_size roots slot_of s i b did.step.w2 machine n p → n.maps b.map ≡ None
   fails_by (progress.Refused fault) refused came = ap (λ (z : Scene K V). z.maps b.map) came ∙ at.together.makings.coming i b makes
   fails_by progress.Goes refused came = absurd refused
   fails_by progress.Waits refused came = absurd refused
@@ -228,13 +228,13 @@ module _ {K V S : Type 0} (same : K → K → Bool) (by_hasher : S → K → ℕ
 
       taken_on : had ≡ true → HasTaken machine.stands × (machine.setting.root ≡ b.machine.setting.root)
       taken_on was =
-          (subst (λ (p : Progress Setting). KeepsIts V same same batch_size roots slot_of s.world did.step.w2 b.machine (machine, p)) goes did.step.keeps).0 (had_taken was)
+          (subst (λ (p : Advance Setting). KeepsIts V same same batch_size roots slot_of s.world did.step.w2 b.machine (machine, p)) goes did.step.keeps).0 (had_taken was)
 
       itself_by : (p q : Bool) → had ≡ p → has ≡ q → ComesBy q b2 (then_at p q effects)
       itself_by true true was is =
           subst (λ (r : ℕ). IsNew b.map (at_root b.given r) (then_at true true effects)) (sym (taken_on was).1)
           (new_on b.map (at_root b.given b.machine.setting.root) w (then_at true true effects) (same_of b.map w (then_at true true effects) refl refl refl)
-          (new_maps_stay K V same hash named m known s old new at whole.all.shown i (subst (λ (p : Progress Setting). MakingLeads same hash i p s old new) goes leads) b makes (Some b.map)
+          (new_maps_stay K V same hash named m known s old new at whole.all.shown i (subst (λ (p : Advance Setting). MakingLeads same hash i p s old new) goes leads) b makes (Some b.map)
           (at_root b.given b.machine.setting.root) (itself true was)))
       itself_by true false was is = absurd (subst IsRefused goes (kept was is))
       itself_by false true was is =
@@ -264,7 +264,7 @@ module _ {K V S : Type 0} (same : K → K → Bool) (by_hasher : S → K → ℕ
             let was : s.makers j ≡ Some c = sym (at_other s.makers i next j ne) ∙ there in
             comes_on c m v (others_same c.map (at.together.makings.numbers i j b c (λ e. ne (sym e)) makes was) (comes_bare c m (so.coming j c was))) (so.coming j c was)
 
-    coming_said : (p : Progress Setting) → said ≡ p → MakingCame {S = S} same by_hasher batch_size roots slot_of s i b did.step.w2 machine n p → (j : ℕ) (c : Beginning K) → n.makers j ≡ Some c → Comes c v
+    coming_said : (p : Advance Setting) → said ≡ p → MakingCame {S = S} same by_hasher batch_size roots slot_of s i b did.step.w2 machine n p → (j : ℕ) (c : Beginning K) → n.makers j ≡ Some c → Comes c v
     coming_said progress.Goes is led =
         coming_by (Some (record b { machine = machine })) (ap (λ (z : Scene K V). z.makers) led)
         (λ c it. subst (λ (z : Beginning K). Comes z v) (same_some (record b { machine = machine }) c it) (itself_by is led had has refl refl))

@@ -4,8 +4,8 @@ use Rattle.std.proofs.Common.{refl, ap, sym, subst, ◌∙◌}
 use Rattle.seize_acts.specs.Acts.Answers.{Grant}
 use Rattle.run_schedules.specs.Given.SeizeWordsMem.{Mem}
 use Rattle.play_stepping.specs.Given.SeizeWorld.{Row}
-use Rattle.play_stepping.specs.Given.SeizeDeclared.progress.Progress.{Progress}
-use Rattle.play_stepping.specs.Given.SeizeDeclared.progress.Progress.TheVariants as progress
+use Rattle.play_stepping.specs.Given.SeizeDeclared.advance.Advance.{Advance}
+use Rattle.play_stepping.specs.Given.SeizeDeclared.advance.Advance.TheVariants as progress
 use Rattle.play_stepping.specs.Given.SeizeDeclared.rows.settle.Settled.{Settled}
 use Rattle.play_stepping.specs.Given.SeizeDeclared.rows.settle.Settled.TheVariants as settled
 use Rattle.play_lists.specs.Given.TablesDeclared.node.Node.{Node}
@@ -98,7 +98,7 @@ module _ {K V S : Type 0} (same : K → K → Bool) (by_hasher : S → K → ℕ
       })
 
   -- this step of a making was taken
-  abbrev pub MakingDid : (i : ℕ) (g : Grant) (b : Beginning K) (m2 : Mem (Node K V)) (machine : NewMap) (progress : Progress Setting) → Type 0
+  abbrev pub MakingDid : (i : ℕ) (g : Grant) (b : Beginning K) (m2 : Mem (Node K V)) (machine : NewMap) (progress : Advance Setting) → Type 0
   MakingDid i g b m2 machine progress =
       (s.makers i ≡ Some b) × (making_steps {S = S} same by_hasher batch_size roots slot_of s g b ≡ Some (m2, (machine, progress))) × (told ≡ OfMaking progress)
       × ((did : MakingStepsAmong V same same batch_size roots slot_of s.world s.maps s.calls s.makers s.enders i b m2 (machine, progress))
@@ -110,21 +110,21 @@ module _ {K V S : Type 0} (same : K → K → Bool) (by_hasher : S → K → ℕ
     new = then_held (StepsMaking i g)
 
     -- what is asked of it
-    pub record MakesSo (said : Progress Setting) (b : Beginning K) (after : NewMap) : Type 0 where
+    pub record MakesSo (said : Advance Setting) (b : Beginning K) (after : NewMap) : Type 0 where
       pub was_new : WasNew b.map said m
       pub unknown : has_root b.machine.stands ≡ false → has_root after.stands ≡ true → (tables_of b.map m ≡ [])
           × WasNew b.map said (come (record { name = named b.map; number = b.map; root = after.setting.root; mode = after.setting.mode; capacity = pairs_for after.len; first = 0 }) m)
       pub fails : has_root b.machine.stands ≡ true → has_root after.stands ≡ false → (let v = with_effects None (Some b.map) (effects_of (acts.Making b.map) x.known new.changed) m in AreFound v × IsApart b.map v n)
 
     -- the scene to which it leads
-    pub made_is : (said : Progress Setting) (leads : MakingLeads same hash i said s old new) (b : Beginning K) (here : s.makers i ≡ Some b)
+    pub made_is : (said : Advance Setting) (leads : MakingLeads same hash i said s old new) (b : Beginning K) (here : s.makers i ≡ Some b)
         → (let to = leads b here in MadeTo same hash s old new i b to.0 to.2.step.w2 said to.3 n) → n ≡ made same hash x s old new at holds.shows i said leads b here (making_outcome said)
     made_is progress.Goes leads b here is_it = is_it
     made_is progress.Waits leads b here is_it = absurd is_it
     made_is (progress.Done setting) leads b here is_it = is_it
     made_is (progress.Refused fault) leads b here is_it = is_it
 
-    module _ (said : Progress Setting) (leads : MakingLeads same hash i said s old new) (b : Beginning K) (here : s.makers i ≡ Some b) (n_is : n ≡ made same hash x s old new at holds.shows i said leads b here (making_outcome said))
+    module _ (said : Advance Setting) (leads : MakingLeads same hash i said s old new) (b : Beginning K) (here : s.makers i ≡ Some b) (n_is : n ≡ made same hash x s old new at holds.shows i said leads b here (making_outcome said))
         (at2 : IsAt same hash new n) (after : NewMap) (so : MakesSo said b after) where
       abbrev entry : Deed K V → Entry K V
       entry d = record { deed = d; outcome = making_outcome said; effects = effects_of (acts.Making b.map) x.known new.changed; refused = is_refusal new.changed }
@@ -159,7 +159,7 @@ module _ {K V S : Type 0} (same : K → K → Bool) (by_hasher : S → K → ℕ
 
     pub making_steps_hold : PlayedAs same by_hasher batch_size roots aborts x y (StepsMaking i g) → Led same by_hasher batch_size roots slot_of (StepsMaking i g) s told n
         → LeadsAs same by_hasher hash (StepsMaking i g) s told n old new → IsAt same hash new n
-        → ((b : Beginning K) (m2 : Mem (Node K V)) (machine : NewMap) (progress : Progress Setting) → MakingDid i g b m2 machine progress → MakesSo progress b machine) → Holds same y n
+        → ((b : Beginning K) (m2 : Mem (Node K V)) (machine : NewMap) (progress : Advance Setting) → MakingDid i g b m2 machine progress → MakesSo progress b machine) → Holds same y n
     making_steps_hold played (b, makes, m2, machine, progress, computed, told_is, did, came) (said, answer, leads, goes) at2 so =
         onto same z (made same hash x s old new at holds.shows i said leads b makes (making_outcome said)) y n z_is n_is
         (record {
@@ -178,13 +178,13 @@ module _ {K V S : Type 0} (same : K → K → Bool) (by_hasher : S → K → ℕ
         said_is = let both : ◌≡◌ {A = Answer K V} (OfMaking progress) (OfMaking said) = sym told_is ∙ answer in cc both
 
         its : MakesSo said b machine
-        its = subst (λ (p : Progress Setting). MakesSo p b machine) said_is (so b m2 machine progress (makes, computed, told_is, (did, came)))
+        its = subst (λ (p : Advance Setting). MakesSo p b machine) said_is (so b m2 machine progress (makes, computed, told_is, (did, came)))
 
         z : State K V S
         z = making_stepped i tied.it new.changed x (m2, (machine, said))
 
         z_is : y ≡ z
-        z_is = tied.comes ∙ ap (λ (p : Progress Setting). making_stepped i tied.it new.changed x (m2, (machine, p))) said_is
+        z_is = tied.comes ∙ ap (λ (p : Advance Setting). making_stepped i tied.it new.changed x (m2, (machine, p))) said_is
 
         n_is : n ≡ made same hash x s old new at holds.shows i said leads b makes (making_outcome said)
         n_is = made_is said leads b makes (goes b makes)

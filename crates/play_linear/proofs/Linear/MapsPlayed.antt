@@ -1,7 +1,7 @@
 -- A step of the making of a map, and of its end, as it is played: the entry is linearizable, and what the moment shows of calls it shows then, while the map comes as it must and goes as it was noted.
 use Rattle.std.specs.Prelude.{◌≡◌, ℕ, Bool, false, List, [], ◌∷◌, flat_map, Some, None}
 use Rattle.std.proofs.Common.{refl, sym, subst}
-use Rattle.play_stepping.specs.Given.SeizeDeclared.progress.Progress.{Progress as Making}
+use Rattle.play_stepping.specs.Given.SeizeDeclared.advance.Advance.{Advance as Making}
 use Rattle.play_stepping.specs.Given.SeizeDeclared.rows.settle.Settled.{Settled}
 use Rattle.play_lists.specs.Given.TablesDeclared.node.Node.{Node}
 use Rattle.play_lists.specs.Given.TablesDeclared.setting.Setting.{Setting}

@@ -3,8 +3,8 @@ use Rattle.std.specs.Prelude.{◌≡◌, ◌⊎◌, ℕ, Bool, false, [], ◌∷
 use Rattle.std.proofs.Common.{refl, ap, sym, subst, ◌∙◌, inl, inr}
 use Rattle.seize_acts.proofs.Acts.Answers.{same_some}
 use Rattle.play_stepping.specs.Given.RawMachine.{machine_replied}
-use Rattle.play_stepping.specs.Given.RawDeclared.machines.asking.Reply.{Reply as MachineReply}
-use Rattle.play_stepping.specs.Given.RawDeclared.machines.asking.Reply.TheVariants as told
+use Rattle.play_stepping.specs.Given.RawDeclared.machines.asking.MachineReply.{MachineReply}
+use Rattle.play_stepping.specs.Given.RawDeclared.machines.asking.MachineReply.TheVariants as told
 use Rattle.play_stepping.specs.Given.RawDeclared.machines.machine.Machine.{Machine}
 use Rattle.play_stepping.specs.Given.CallersTogether.{UnderWay, OnKey, ForRoom, Counting, OverAll}
 use Rattle.play_lists.specs.Given.FinishesMachines.{ToldOfKind, machine_of}

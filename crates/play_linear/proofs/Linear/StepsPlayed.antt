@@ -26,7 +26,7 @@ use Rattle.play_lists.proofs.Given.ScenesGoes.{goes_as}
 use Rattle.play_lists.specs.Given.ScenesStepping.{StepLeads, has_ended, scene_after}
 use Rattle.play_stepping.specs.Given.NamedSeen.{kind_of}
 use Rattle.play_stepping.specs.Given.NamedTelling.{number_by}
-use Rattle.play_stepping.specs.Given.ExecutorDeclared.kind.Kind.{Kind}
+use Rattle.play_stepping.specs.Given.ExecutorDeclared.kind.CallKind.{CallKind}
 use Rattle.play_lists.specs.Given.HistoriesInEvent.{ComesSo}
 use Rattle.play_lists.specs.Given.ValuesValues.{KeepsValue, kept_after}
 use Rattle.play_lists.proofs.Given.ValuesValues.{values_go_on}
@@ -49,7 +49,7 @@ there_alike f g o (Some b) is a here = (b, refl, same_some (f a) (g b) (sym (ap 
 
 module _ {K V : Type 0} where
   -- a step by which the call ends says so
-  over_so : (known : Known) (kind : Kind) (value : Option V) (said : Progress (Node K V)) → ends_call (outcome_of known kind value said) ≡ true → has_ended said ≡ true
+  over_so : (known : Known) (kind : CallKind) (value : Option V) (said : Progress (Node K V)) → ends_call (outcome_of known kind value said) ≡ true → has_ended said ≡ true
   over_so known kind value (progress.Done answer) e = refl
   over_so known kind value (progress.Refused fault) e = refl
   over_so known kind value progress.Goes e = absurd (cc e)
@@ -61,7 +61,7 @@ module _ {K V : Type 0} where
   over_so known kind value (progress.Pair word) e = absurd (cc e)
 
   -- what its caller keeps is what it keeps as it is played
-  kept_alike : (kind : Kind) (said : Progress (Node K V)) (value : Option V) → kept_after kind said value ≡ keeps kind said value
+  kept_alike : (kind : CallKind) (said : Progress (Node K V)) (value : Option V) → kept_after kind said value ≡ keeps kind said value
   kept_alike kind (progress.Unstored node) value = refl
   kept_alike kind progress.Goes value = refl
   kept_alike kind progress.Waits value = refl
@@ -73,7 +73,7 @@ module _ {K V : Type 0} where
   kept_alike kind (progress.Refused fault) value = refl
 
   -- it takes no reply, or asks
-  asks_or_not : (known : Known) (kind : Kind) (value : Option V) (said t : Progress (Node K V)) → said ≡ t → (e : CallThere K V) (machine : Machine K V K)
+  asks_or_not : (known : Known) (kind : CallKind) (value : Option V) (said t : Progress (Node K V)) → said ≡ t → (e : CallThere K V) (machine : Machine K V K)
       → (((about : Option ℕ) → said ≡ progress.Asks about → ⊥) → TakesNone machine) → TakesNone machine ⊎ ((question : Option ℕ) × ((comes_to (outcome_of known kind value t) e).stands ≡ Asking question))
   asks_or_not known kind value said (progress.Asks about) is e machine none = inr (come_asks (option_map (number_by known) about) e)
   asks_or_not known kind value said _ is e machine none = inl (none (λ about asks. absurd (cc (is, asks))))

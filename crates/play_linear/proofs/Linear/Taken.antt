@@ -5,8 +5,8 @@ use Rattle.play_stepping.specs.Given.RawCallAsks.{absent_told, present_told, tol
 use Rattle.play_stepping.specs.Given.RawMachine.{machine_replied}
 use Rattle.play_stepping.specs.Given.RawDeclared.machines.asking.Asking.TheVariants as asking
 use Rattle.play_stepping.specs.Given.RawDeclared.machines.asking.Gap.{Gap}
-use Rattle.play_stepping.specs.Given.RawDeclared.machines.asking.Reply.{Reply as MachineReply}
-use Rattle.play_stepping.specs.Given.RawDeclared.machines.asking.Reply.TheVariants as reply
+use Rattle.play_stepping.specs.Given.RawDeclared.machines.asking.MachineReply.{MachineReply}
+use Rattle.play_stepping.specs.Given.RawDeclared.machines.asking.MachineReply.TheVariants as reply
 use Rattle.play_stepping.specs.Given.RawDeclared.machines.asking.Takes.{Takes}
 use Rattle.play_stepping.specs.Given.RawDeclared.machines.asking.Takes.TheVariants as takes
 use Rattle.play_stepping.specs.Given.RawDeclared.machines.call.Calling.{Calling}

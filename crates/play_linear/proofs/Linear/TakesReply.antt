@@ -27,8 +27,8 @@ use Rattle.play_stepping.specs.Given.RawDeclared.machines.answer.KeyAnswer.TheVa
 use Rattle.play_stepping.specs.Given.RawDeclared.machines.asking.Asking.TheVariants as asking
 use Rattle.play_stepping.specs.Given.RawDeclared.machines.asking.Gap.{Gap}
 use Rattle.play_stepping.specs.Given.RawDeclared.machines.asking.Gap.TheVariants as gaps
-use Rattle.play_stepping.specs.Given.RawDeclared.machines.asking.Reply.{Reply}
-use Rattle.play_stepping.specs.Given.RawDeclared.machines.asking.Reply.TheVariants as reply
+use Rattle.play_stepping.specs.Given.RawDeclared.machines.asking.MachineReply.{MachineReply}
+use Rattle.play_stepping.specs.Given.RawDeclared.machines.asking.MachineReply.TheVariants as reply
 use Rattle.play_stepping.specs.Given.RawDeclared.machines.asking.Takes.{Takes}
 use Rattle.play_stepping.specs.Given.RawDeclared.machines.asking.Takes.TheVariants as takes
 use Rattle.play_stepping.specs.Given.RawDeclared.machines.asking.Told.TheVariants as tells
@@ -87,7 +87,7 @@ module _ {K V : Type 0} where
   as_sweep p (q, swept_as.Refused fault) so = so
 
 -- of sweeps
-sweep_refuses : {V : Type 0} (stands : Sweeping) (c : Sweep) (said : Reply V) → sweeps.TakesNone stands → (sweep_told stands c said).1 ≡ Ok tt → ⊥
+sweep_refuses : {V : Type 0} (stands : Sweeping) (c : Sweep) (said : MachineReply V) → sweeps.TakesNone stands → (sweep_told stands c said).1 ≡ Ok tt → ⊥
 sweep_refuses (sweeping.Asks word) c said none takes = none
 sweep_refuses _ c said none takes = cc takes
 
@@ -99,7 +99,7 @@ further_none c = by (nat_lt (past c).place c.table.len) (removes c.purpose && c.
     by false true = tt
     by false false = tt
 
-sweep_none : {V : Type 0} (stands : Sweeping) (c : Sweep) → c.stands ≡ stands → (said : Reply V) → (sweep_told stands c said).1 ≡ Ok tt → sweeps.TakesNone (sweep_told stands c said).0.stands
+sweep_none : {V : Type 0} (stands : Sweeping) (c : Sweep) → c.stands ≡ stands → (said : MachineReply V) → (sweep_told stands c said).1 ≡ Ok tt → sweeps.TakesNone (sweep_told stands c said).0.stands
 sweep_none (sweeping.Asks word) c is reply.Yes e = subst (λ (x : Sweeping). sweeps.TakesNone (reply_at x c true).stands) (sym is) (further_none c)
 sweep_none (sweeping.Asks word) c is reply.No e = subst (λ (x : Sweeping). sweeps.TakesNone (reply_at x c false).stands) (sym is) tt
 sweep_none (sweeping.Asks word) c is _ e = absurd (cc e)
@@ -140,12 +140,12 @@ module _ {K V : Type 0} (same : K → K → Bool) (hash : K → ℕ) (old new : 
 
 module _ {K V : Type 0} where
   -- One that takes none takes none;
-  key_refuses : (stands : Calling) (c : KeyCall K V K) (said : Reply V) → keys.TakesNone stands → (told_at stands c said).1 ≡ Ok tt → ⊥
+  key_refuses : (stands : Calling) (c : KeyCall K V K) (said : MachineReply V) → keys.TakesNone stands → (told_at stands c said).1 ≡ Ok tt → ⊥
   key_refuses (at.Asks (asking.Absent gap)) c said none takes = none
   key_refuses (at.Asks (asking.Present word)) c said none takes = none
   key_refuses _ c said none takes = cc takes
 
-  pub refuses : (machine : Machine K V K) (said : Reply V) → TakesNone machine → (machine_replied machine said).1 ≡ Ok tt → ⊥
+  pub refuses : (machine : Machine K V K) (said : MachineReply V) → TakesNone machine → (machine_replied machine said).1 ≡ Ok tt → ⊥
   refuses (kinds.Key c) said none takes = key_refuses c.stands c said none takes
   refuses (kinds.Sweep c) said none takes = sweep_refuses c.stands c said none takes
   refuses (kinds.Reserve c) said none takes = cc takes
@@ -173,7 +173,7 @@ module _ {K V : Type 0} where
   gap_none gaps.Past c value = tt
   gap_none gaps.Last c value = tt
 
-  absent_none : (its : Takes) (c : KeyCall K V K) (gap : Gap) (said : Reply V) → (absent_told its c gap said).1 ≡ Ok tt → keys.TakesNone (absent_told its c gap said).0.stands
+  absent_none : (its : Takes) (c : KeyCall K V K) (gap : Gap) (said : MachineReply V) → (absent_told its c gap said).1 ≡ Ok tt → keys.TakesNone (absent_told its c gap said).0.stands
   absent_none takes.Values c gap (reply.Insert value) e = gap_none gap c value
   absent_none takes.Changes c gap (reply.Insert value) e = gap_none gap c value
   absent_none takes.Changes c gap reply.Remove e = ending_none (ends.Refused RemoveNothing) c
@@ -183,7 +183,7 @@ module _ {K V : Type 0} where
   absent_none takes.Choices c gap said e = absurd (cc e)
   absent_none takes.Nothing c gap said e = absurd (cc e)
 
-  present_none : (its : Takes) (c : KeyCall K V K) (word : ℕ) (said : Reply V) → (present_told its c word said).1 ≡ Ok tt → keys.TakesNone (present_told its c word said).0.stands
+  present_none : (its : Takes) (c : KeyCall K V K) (word : ℕ) (said : MachineReply V) → (present_told its c word said).1 ≡ Ok tt → keys.TakesNone (present_told its c word said).0.stands
   present_none takes.Values c word (reply.Insert value) e = tt
   present_none takes.Changes c word (reply.Insert value) e = tt
   present_none takes.Changes c word reply.Remove e = burying_none (with_present c word tells.Removes) word
@@ -195,12 +195,12 @@ module _ {K V : Type 0} where
   present_none takes.Choices c word _ e = absurd (cc e)
   present_none takes.Nothing c word said e = absurd (cc e)
 
-  key_none : (stands : Calling) (c : KeyCall K V K) (said : Reply V) → (told_at stands c said).1 ≡ Ok tt → keys.TakesNone (told_at stands c said).0.stands
+  key_none : (stands : Calling) (c : KeyCall K V K) (said : MachineReply V) → (told_at stands c said).1 ≡ Ok tt → keys.TakesNone (told_at stands c said).0.stands
   key_none (at.Asks (asking.Absent gap)) c said e = absent_none c.replies.takes c gap said e
   key_none (at.Asks (asking.Present word)) c said e = present_none c.replies.takes c word said e
   key_none _ c said e = absurd (cc e)
 
-  pub took_none : (machine : Machine K V K) (said : Reply V) → (machine_replied machine said).1 ≡ Ok tt → TakesNone (machine_replied machine said).0
+  pub took_none : (machine : Machine K V K) (said : MachineReply V) → (machine_replied machine said).1 ≡ Ok tt → TakesNone (machine_replied machine said).0
   took_none (kinds.Key c) said e = key_none c.stands c said e
   took_none (kinds.Sweep c) said e = sweep_none c.stands c refl said e
   took_none (kinds.Reserve c) said e = tt

@@ -8,7 +8,7 @@ use Rattle.play_stepping.specs.Given.SeizeWorld.{World}
 use Rattle.play_lists.specs.Given.TablesDeclared.node.Node.{Node}
 use Rattle.run_schedules.specs.Runs.Present.{Present, drops, enters_slot, guard_of}
 use Rattle.run_schedules.specs.Runs.Same.{is_same}
-use Rattle.run_schedules.specs.declared.holders.Guard.{Guard}
+use Rattle.run_schedules.specs.declared.holders.NamedGuard.{NamedGuard}
 use Rattle.run_schedules.specs.Schedules.After.{unsheltered}
 use Rattle.run_schedules.specs.Schedules.Lists.{is_in}
 use Rattle.run_schedules.specs.Schedules.Model.{thing_back}
@@ -60,21 +60,21 @@ module _ {K V : Type 0} where
 
 -- Who comes, and who goes
 module _ {K V : Type 0} (On : ℕ → Type 0) (there : Present) (w : World (Node K V)) (known : Known) (t : ℕ) where
-  abbrev test : List ℕ → Guard → Bool
+  abbrev test : List ℕ → NamedGuard → Bool
   test own g = is_same g.name own
 
   -- a section begins
   pub opened_guards : On t → GuardsAreOn On there → GuardsAreOn On (enters_slot (named t) t there)
   opened_guards in_it guards own g found = by (guard_of own there.guards) refl (sym (find-append (test own) there.guards (guard_on t ∷ [])) ∙ found)
     where
-      by : (o : Option Guard) → guard_of own there.guards ≡ o → option_or (guard_of own there.guards) (find (test own) (guard_on t ∷ [])) ≡ Some g → On g.slot
+      by : (o : Option NamedGuard) → guard_of own there.guards ≡ o → option_or (guard_of own there.guards) (find (test own) (guard_on t ∷ [])) ≡ Some g → On g.slot
       by (Some h) e is =
-          let same : Some h ≡ Some g = sym (ap (λ (o : Option Guard). option_or o (find (test own) (guard_on t ∷ []))) e) ∙ is in
-          let it : h ≡ g = (cc same) in subst (λ (k : Guard). On k.slot) it (guards own h e)
-      by None e is = one (is_same (named t) own) (sym (ap (λ (o : Option Guard). option_or o (find (test own) (guard_on t ∷ []))) e) ∙ is)
+          let same : Some h ≡ Some g = sym (ap (λ (o : Option NamedGuard). option_or o (find (test own) (guard_on t ∷ []))) e) ∙ is in
+          let it : h ≡ g = (cc same) in subst (λ (k : NamedGuard). On k.slot) it (guards own h e)
+      by None e is = one (is_same (named t) own) (sym (ap (λ (o : Option NamedGuard). option_or o (find (test own) (guard_on t ∷ []))) e) ∙ is)
         where
           one : (q : Bool) → cond q (Some (guard_on t)) None ≡ Some g → On g.slot
-          one true k = subst (λ (h : Guard). On h.slot) (let it : guard_on t ≡ g = (cc k) in it) in_it
+          one true k = subst (λ (h : NamedGuard). On h.slot) (let it : guard_on t ≡ g = (cc k) in it) in_it
           one false k = absurd (cc k)
 
   pub opened_held : (xs : List Sheltered) → AreShelteredOn On there w known xs → AreShelteredOn On (enters_slot (named t) t there) w known xs
@@ -84,23 +84,23 @@ module _ {K V : Type 0} (On : ℕ → Type 0) (there : Present) (w : World (Node
       still x (come, g, found, on, each) = (
         come,
         g,
-        find-append (test x.guard) there.guards (guard_on t ∷ []) ∙ ap (λ (o : Option Guard). option_or o (find (test x.guard) (guard_on t ∷ []))) found,
+        find-append (test x.guard) there.guards (guard_on t ∷ []) ∙ ap (λ (o : Option NamedGuard). option_or o (find (test x.guard) (guard_on t ∷ []))) found,
         on,
         each,
       )
 
   -- or ends: the guards of the others are there still
-  abbrev keep : Guard → Bool
+  abbrev keep : NamedGuard → Bool
   keep g = not (is_same g.name (named t))
 
   -- a guard by another name than the slot's has another slot
-  other_slot : (own : List ℕ) (g : Guard) → AllByRecursion (λ (h : Guard). h ≡ guard_on h.slot) there.guards → guard_of own there.guards ≡ Some g → is_same own (named t) ≡ false → g.slot ≢ t
+  other_slot : (own : List ℕ) (g : NamedGuard) → AllByRecursion (λ (h : NamedGuard). h ≡ guard_on h.slot) there.guards → guard_of own there.guards ≡ Some g → is_same own (named t) ≡ false → g.slot ≢ t
   other_slot own g each found other e =
-      let its = found_so (λ (h : Guard). h ≡ guard_on h.slot) (test own) there.guards g each found in
-      let name : own ≡ named t = sym (is_same_is g.name own its.1) ∙ ap (λ (h : Guard). h.name) its.0 ∙ ap named e in
+      let its = found_so (λ (h : NamedGuard). h ≡ guard_on h.slot) (test own) there.guards g each found in
+      let name : own ≡ named t = sym (is_same_is g.name own its.1) ∙ ap (λ (h : NamedGuard). h.name) its.0 ∙ ap named e in
       cc (other, ap (λ (l : List ℕ). is_same l (named t)) name, is_same_refl (named t))
 
-  pub shut_held : AllByRecursion (λ (h : Guard). h ≡ guard_on h.slot) there.guards → (xs : List Sheltered) → AreShelteredOn On there w known xs
+  pub shut_held : AllByRecursion (λ (h : NamedGuard). h ≡ guard_on h.slot) there.guards → (xs : List Sheltered) → AreShelteredOn On there w known xs
       → AreShelteredOn (λ s. On s × (s ≢ t)) (drops (named t) there) w known (unsheltered (named t) xs)
   shut_held each xs all = all_kept (IsShelteredOn On there w known) (IsShelteredOn (λ s. On s × (s ≢ t)) (drops (named t) there) w known) (λ x. not (is_same x.guard (named t))) xs still all
     where
@@ -110,18 +110,18 @@ module _ {K V : Type 0} (On : ℕ → Type 0) (there : Present) (w : World (Node
 
       still : (x : Sheltered) → not (is_same x.guard (named t)) ≡ true → IsShelteredOn On there w known x → IsShelteredOn (λ s. On s × (s ≢ t)) (drops (named t) there) w known x
       still x kept (come, g, found, on, holds_them) =
-          let its = found_so (λ (h : Guard). h ≡ guard_on h.slot) (test x.guard) there.guards g each found in
+          let its = found_so (λ (h : NamedGuard). h ≡ guard_on h.slot) (test x.guard) there.guards g each found in
           let keeps : keep g ≡ true = ap (λ (l : List ℕ). not (is_same l (named t))) (is_same_is g.name x.guard its.1) ∙ kept in
           (come, g, found_kept (test x.guard) keep there.guards g found keeps, (on, other_slot x.guard g each found (not_it (is_same x.guard (named t)) kept)), holds_them)
 
-  pub shut_guards : AllByRecursion (λ (h : Guard). (h ≡ guard_on h.slot) × On h.slot) there.guards → GuardsAreOn (λ s. On s × (s ≢ t)) (drops (named t) there)
+  pub shut_guards : AllByRecursion (λ (h : NamedGuard). (h ≡ guard_on h.slot) × On h.slot) there.guards → GuardsAreOn (λ s. On s × (s ≢ t)) (drops (named t) there)
   shut_guards each own g found =
-      (found_so (λ (h : Guard). On h.slot × (h.slot ≢ t)) (test own) (filter keep there.guards) g
-      (all_kept (λ (h : Guard). (h ≡ guard_on h.slot) × On h.slot) (λ (h : Guard). On h.slot × (h.slot ≢ t)) keep there.guards (λ h kept was. (was.1, λ e. not_kept h was.0 e kept)) each) found).0
+      (found_so (λ (h : NamedGuard). On h.slot × (h.slot ≢ t)) (test own) (filter keep there.guards) g
+      (all_kept (λ (h : NamedGuard). (h ≡ guard_on h.slot) × On h.slot) (λ (h : NamedGuard). On h.slot × (h.slot ≢ t)) keep there.guards (λ h kept was. (was.1, λ e. not_kept h was.0 e kept)) each) found).0
     where
-      not_kept : (h : Guard) → h ≡ guard_on h.slot → h.slot ≡ t → keep h ≡ true → ⊥
+      not_kept : (h : NamedGuard) → h ≡ guard_on h.slot → h.slot ≡ t → keep h ≡ true → ⊥
       not_kept h is e kept =
-          let its : is_same h.name (named t) ≡ true = ap (λ (k : Guard). is_same k.name (named t)) is ∙ ap (λ (k : ℕ). is_same (named k) (named t)) e ∙ is_same_refl (named t) in
+          let its : is_same h.name (named t) ≡ true = ap (λ (k : NamedGuard). is_same k.name (named t)) is ∙ ap (λ (k : ℕ). is_same (named k) (named t)) e ∙ is_same_refl (named t) in
           cc (ap not its, kept)
 
 -- Where each guard that is found is on a slot of such a kind, each guard of the list is, as it has the name of its slot.
@@ -129,14 +129,14 @@ module _ (On : ℕ → Type 0) (there : Present) (guards : GuardsAreOn On there)
   one_slot : (s t : ℕ) → named s ≡ named t → s ≡ t
   one_slot s t e = cc e
 
-  pub all_on : (gs : List Guard) → AllByRecursion (λ (g : Guard). g ≡ guard_on g.slot) gs → AllByRecursion (IsFound there.guards) gs → AllByRecursion (λ (g : Guard). g ≡ guard_on g.slot) there.guards
-      → AllByRecursion (λ (g : Guard). On g.slot) gs
+  pub all_on : (gs : List NamedGuard) → AllByRecursion (λ (g : NamedGuard). g ≡ guard_on g.slot) gs → AllByRecursion (IsFound there.guards) gs → AllByRecursion (λ (g : NamedGuard). g ≡ guard_on g.slot) there.guards
+      → AllByRecursion (λ (g : NamedGuard). On g.slot) gs
   all_on [] each found all = tt
   all_on (g ∷ gs) each found all = (here, all_on gs each.1 found.1 all)
     where
       here : On g.slot
       here =
-          let its = found_so (λ (h : Guard). h ≡ guard_on h.slot) (λ h. is_same h.name g.name) there.guards found.0.0 all found.0.1 in
+          let its = found_so (λ (h : NamedGuard). h ≡ guard_on h.slot) (λ h. is_same h.name g.name) there.guards found.0.0 all found.0.1 in
           let same : found.0.0.slot ≡ g.slot = one_slot found.0.0.slot g.slot
-          (ap (λ (h : Guard). h.name) (sym its.0) ∙ is_same_is found.0.0.name g.name its.1 ∙ ap (λ (h : Guard). h.name) each.0) in
+          (ap (λ (h : NamedGuard). h.name) (sym its.0) ∙ is_same_is found.0.0.name g.name its.1 ∙ ap (λ (h : NamedGuard). h.name) each.0) in
           subst On same (guards g.name found.0.0 found.0.1)

@@ -3,7 +3,7 @@ use Rattle.std.specs.Prelude.{◌≡◌, ℕ, Bool, List, [], Some, None, Option
 use Rattle.std.proofs.Common.{ap, ◌∙◌}
 use Rattle.play_stepping.specs.Given.SeizeLaw.{is_open}
 use Rattle.play_stepping.specs.Given.SeizeWorld.{Runs, World}
-use Rattle.play_stepping.specs.Given.SeizeDeclared.progress.Progress.{Progress}
+use Rattle.play_stepping.specs.Given.SeizeDeclared.advance.Advance.{Advance}
 use Rattle.play_stepping.specs.Given.SeizeDeclared.rows.settle.Settled.{Settled}
 use Rattle.play_lists.specs.Given.TablesNodes.{deferred_word}
 use Rattle.play_lists.specs.Given.TablesDeclared.node.Node.{Node}
@@ -69,7 +69,7 @@ module _ {K V : Type 0} (same : K → K → Bool) (hash : ℕ → K → ℕ) (na
 
   module _ (shelter : SectionsShelter m known s.world) where
     -- of a making
-    pub making_step_shelters : (i : ℕ) (told : Progress Setting) (leads : MakingLeads same hash i told s old new) (b : Beginning K) (here : s.makers i ≡ Some b) (of : Option ℕ) → WasNew b.map told m
+    pub making_step_shelters : (i : ℕ) (told : Advance Setting) (leads : MakingLeads same hash i told s old new) (b : Beginning K) (here : s.makers i ≡ Some b) (of : Option ℕ) → WasNew b.map told m
         → (let to = leads b here in
         let effects = effects_of (acts.Making b.map) known new.changed in
         GuardsAreOn (IsOpen to.2.step.w2) m.there

@@ -3,7 +3,7 @@ use Rattle.std.specs.Prelude.{Bool, true, false, Option, Some, None, flat_map, i
 use Rattle.std.specs.Option.{is_none}
 use Rattle.std.proofs.Common.{◌≡◌, ℕ, List, [], refl, ap, sym, subst, ◌∙◌}
 use Rattle.play_stepping.specs.Given.SeizeWorld.{World}
-use Rattle.play_stepping.specs.Given.SeizeDeclared.progress.Progress.{Progress}
+use Rattle.play_stepping.specs.Given.SeizeDeclared.advance.Advance.{Advance}
 use Rattle.play_stepping.specs.Given.SeizeDeclared.rows.settle.Settled.{Settled}
 use Rattle.play_lists.specs.Given.TablesNodes.{deferred_word}
 use Rattle.play_lists.specs.Given.TablesDeclared.node.Node.{Node}
@@ -140,7 +140,7 @@ module _ {K V S : Type 0} (same : K → K → Bool) (by_hasher : S → K → ℕ
       calm_then e known2 w2 (call_calm K V i) by.0 (subst (λ (a : Option ℕ). AreShelteredOn (IsOpen w2) m.there w2 known2 (with_effects (Some (named i)) a effects m).sheltered) (sym acted) by.1) by.2
 
   -- of a making that has its root,
-  pub making_entry : (i : ℕ) (told : Progress Setting) (leads : MakingLeads same hash i told s old new) (b : Beginning K) (here : s.makers i ≡ Some b) → WasNew b.map told m → (before next : NewMap) → has_root before.stands ≡ true
+  pub making_entry : (i : ℕ) (told : Advance Setting) (leads : MakingLeads same hash i told s old new) (b : Beginning K) (here : s.makers i ≡ Some b) → WasNew b.map told m → (before next : NewMap) → has_root before.stands ≡ true
       → (o : Outcome V) (refused : Bool)
       → Then (record { deed = making_deed b.map before next; outcome = o; effects = effects_of (acts.Making b.map) x.known new.changed; refused = refused }) (known_after (acts.Making b.map) new.changed x.known)
       (leads b here).2.step.w2

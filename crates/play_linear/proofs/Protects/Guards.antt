@@ -7,7 +7,7 @@ use Rattle.play_lists.specs.Given.TablesNodes.{deferred_word}
 use Rattle.play_lists.specs.Given.TablesDeclared.node.Node.{Node}
 use Rattle.run_schedules.specs.Runs.Present.{Present, guard_of}
 use Rattle.run_schedules.specs.Runs.Same.{is_same}
-use Rattle.run_schedules.specs.declared.holders.Guard.{Guard}
+use Rattle.run_schedules.specs.declared.holders.NamedGuard.{NamedGuard}
 use Rattle.run_schedules.specs.Schedules.Moment.{Sheltered}
 use Rattle.play_lists.specs.Given.EffectsKnown.{Known}
 use Rattle.play_lists.specs.Given.PromisesSheltered.{AreShelteredOn, GuardsAreOn, IsShelteredOn}
@@ -28,8 +28,8 @@ module _ {K V : Type 0} (size : ℕ) (w : World (Node K V)) (r : Reached deferre
   open_spared t (inl inside) = inside_spares size w r t i inside
   open_spared t (inr (j, c, has, at, on)) = leaving_spares size w r t i j (λ e. let both : None ≡ Some (rows.Leaves c) = sym no_row ∙ ap rows_are e ∙ has in cc both) c (is_row j (rows.Leaves c) has) at on
 
-  guard_spared : (own : List ℕ) (g : Guard) → guard_of own there.guards ≡ Some g → Spares g.slot w (w.row i)
-  guard_spared own g found = open_spared g.slot (found_so (λ (h : Guard). (h ≡ guard_on h.slot) × IsOpenOn rows_are w.uses h.slot) (λ h. is_same h.name own) there.guards g guards.each found).0.1
+  guard_spared : (own : List ℕ) (g : NamedGuard) → guard_of own there.guards ≡ Some g → Spares g.slot w (w.row i)
+  guard_spared own g found = open_spared g.slot (found_so (λ (h : NamedGuard). (h ≡ guard_on h.slot) × IsOpenOn rows_are w.uses h.slot) (λ h. is_same h.name own) there.guards g guards.each found).0.1
 
   pub guards_spared : GuardsAreOn (IsOpen w) there → GuardsAreOn (IsSpared i w) there
   guards_spared open_are own g found = (open_are own g found, guard_spared own g found)

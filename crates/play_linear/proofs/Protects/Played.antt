@@ -5,8 +5,8 @@ use Rattle.seize_acts.specs.Acts.Acts.{row_steps}
 use Rattle.seize_acts.specs.Acts.Answers.{Grant}
 use Rattle.play_stepping.specs.Given.SeizeLaw.{Ended}
 use Rattle.play_stepping.specs.Given.SeizeWorld.{Row, World}
-use Rattle.play_stepping.specs.Given.SeizeDeclared.progress.Progress.{Progress}
-use Rattle.play_stepping.specs.Given.SeizeDeclared.progress.Progress.TheVariants as progress
+use Rattle.play_stepping.specs.Given.SeizeDeclared.advance.Advance.{Advance}
+use Rattle.play_stepping.specs.Given.SeizeDeclared.advance.Advance.TheVariants as progress
 use Rattle.play_stepping.specs.Given.SeizeDeclared.rows.settle.Settled.{Settled}
 use Rattle.play_stepping.specs.Given.SeizeDeclared.rows.settle.Settled.TheVariants as settled
 use Rattle.play_lists.specs.Given.TablesNodes.{deferred_word}
@@ -15,7 +15,7 @@ use Rattle.play_lists.specs.Given.TablesDeclared.setting.Setting.{Setting}
 use Rattle.play_stepping.specs.Given.ResizeDeclared.new_map.NewMap.{NewMap}
 use Rattle.play_stepping.specs.Given.RawMachine.{machine_asked, machine_replied}
 use Rattle.play_stepping.specs.Given.RawDeclared.machines.end_map.EndMap.{EndMap}
-use Rattle.run_schedules.specs.declared.holders.Guard.{Guard}
+use Rattle.run_schedules.specs.declared.holders.NamedGuard.{NamedGuard}
 use Rattle.run_schedules.specs.Schedules.Moment.{Moment}
 use Rattle.run_schedules.specs.declared.outcome.Outcome.{Outcome}
 use Rattle.run_schedules.specs.declared.outcome.Outcome.TheVariants as outcome
@@ -56,7 +56,7 @@ use Rattle.play_linear.proofs.Protects.Sections.{Keeps, keeps_by, keeps_same, us
 
 -- the world of the scene to which a step of a making, or of an end, has come
 module _ {K V : Type 0} (same : K → K → Bool) (hash : ℕ → K → ℕ) (s : Scene K V) (old new : Held K V) (i : ℕ) (n : Scene K V) where
-  made_world : (b : Beginning K) (opening : NewMap) (w2 : World (Node K V)) (told : Progress Setting) (comes : MakingComesTo same hash s old new i b opening w2 told) → MadeTo same hash s old new i b opening w2 told comes n
+  made_world : (b : Beginning K) (opening : NewMap) (w2 : World (Node K V)) (told : Advance Setting) (comes : MakingComesTo same hash s old new i b opening w2 told) → MadeTo same hash s old new i b opening w2 told comes n
       → n.world ≡ w2
   made_world b opening w2 progress.Goes comes is = ap (λ (v : Scene K V). v.world) is
   made_world b opening w2 progress.Waits comes never = absurd never
@@ -143,11 +143,11 @@ module _ {K V S : Type 0} (same : K → K → Bool) (by_hasher : S → K → ℕ
       world = made_world same hash s old new i n b (leads b makes).0 w2 told2 (leads b makes).3 (goes b makes)
 
       its : MakingLeads same hash i said s old new
-      its = subst (λ (p : Progress Setting). MakingLeads same hash i p s old new) one leads
+      its = subst (λ (p : Advance Setting). MakingLeads same hash i p s old new) one leads
 
       new_one : WasNew b.map told2 m
       new_one =
-          subst (λ (p : Progress Setting). WasNew b.map p m) (sym one)
+          subst (λ (p : Advance Setting). WasNew b.map p m) (sym one)
           (was_new same by_hasher hash batch_size roots m x.known x.now.enders s n NoChange new at all.holds.shows.whole all.maps i g b m2 machine said makes computed did came its)
 
       keeps : (t : ℕ) → Keeps t s.world w2
@@ -192,7 +192,7 @@ module _ {K V S : Type 0} (same : K → K → Bool) (by_hasher : S → K → ℕ
       let e : Entry K V = record { deed = row_deed row; outcome = row_outcome end.1.1; effects = effects_of acts.Row x.known new.changed; refused = is_refusal new.changed } in
       let w2 = (leads row here).2.0 in
       let one : led_to ≡ w2 = ap (λ (v : Scene K V). v.world) (sym n_is ∙ goes row here) in
-      let each = all_of (λ (k : Guard). (k ≡ guard_on k.slot) × IsOpenOn x.now.rows s.world.uses k.slot) (λ (k : Guard). k ≡ guard_on k.slot) m.there.guards (λ k both. both.0) guards.each in
+      let each = all_of (λ (k : NamedGuard). (k ≡ guard_on k.slot) × IsOpenOn x.now.rows s.world.uses k.slot) (λ (k : NamedGuard). k ≡ guard_on k.slot) m.there.guards (λ k both. both.0) guards.each in
       let inside = rows_by i s.world g w2 row
       (ap (λ (r : Row). row_steps deferred_word i r g s.world) (sym there) ∙ computed ∙ ap Some one) in
       let it = row_entry_shelters same hash m x.known s old new at i (row_told (s.world.row i) g s.world.memory) leads row here each

@@ -4,7 +4,7 @@ use Rattle.run_schedules.specs.Given.SeizeWordsMem.{Mem}
 use Rattle.run_schedules.specs.Given.SeizeWordsOp.{Out, Exchange, Exchanged}
 use Rattle.std.specs.Prelude.{Ok}
 use Rattle.run_schedules.specs.Given.SeizeWordsDeclared.at.At.TheVariants.{Used}
-use Rattle.play_stepping.specs.Given.SeizeDeclared.progress.Progress.{Progress}
+use Rattle.play_stepping.specs.Given.SeizeDeclared.advance.Advance.{Advance}
 use Rattle.play_lists.specs.Given.TablesDeclared.node.Node.{Node}
 use Rattle.play_lists.specs.Given.TablesDeclared.setting.Setting.{Setting}
 use Rattle.play_stepping.specs.Given.ResizeNewMap.{plan_at}
@@ -37,7 +37,7 @@ module _ {K V : Type 0} (w v : World (Node K V)) (keeps : (t : ℕ) → Keeps t 
   shelters_still m so = record { guards = λ own g found. (keeps g.slot).stays (so.guards own g found); held = held_still m.there m.sheltered so.held }
 
 -- Before a making has its root, nothing is known otherwise by its steps.
-module _ {K V : Type 0} (c : NewMap) (m n : Mem (Node K V)) (told : Changed) (end : NewMap × Progress Setting) where
+module _ {K V : Type 0} (c : NewMap) (m n : Mem (Node K V)) (told : Changed) (end : NewMap × Advance Setting) where
   abbrev LeavesKnown : Changed → Type 0
   LeavesKnown x = (who : Acting) (known : Known) → known_after who x known ≡ known
 
@@ -45,7 +45,7 @@ module _ {K V : Type 0} (c : NewMap) (m n : Mem (Node K V)) (told : Changed) (en
   exchange_leaves (Exchanged (Ok word)) who known = refl
   exchange_leaves _ who known = refl
 
-  pub rootless_leaves : (stands : Opening) → has_root stands ≡ false → StepsTold K V (NewMap × Progress Setting) m changed.Nothing (plan_at c stands) n told end → LeavesKnown told
+  pub rootless_leaves : (stands : Opening) → has_root stands ≡ false → StepsTold K V (NewMap × Advance Setting) m changed.Nothing (plan_at c stands) n told end → LeavesKnown told
   rootless_leaves openings.Takes none steps = subst LeavesKnown (sym steps.1.1) (exchange_leaves steps.0)
   rootless_leaves (openings.Refused fault) none steps = subst LeavesKnown (sym steps.2) (λ who known. refl)
   rootless_leaves openings.Shards none steps = absurd (cc none)

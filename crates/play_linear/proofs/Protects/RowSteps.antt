@@ -16,7 +16,7 @@ use Rattle.play_lists.specs.Given.TablesDeclared.node.Node.{Node}
 use Rattle.play_lists.specs.Given.EffectsDeclared.changed.Changed.{Changed}
 use Rattle.play_lists.specs.Given.EffectsDeclared.changed.Changed.TheVariants as changed
 use Rattle.run_schedules.specs.Runs.Present.{Present, drops, enters_slot}
-use Rattle.run_schedules.specs.declared.holders.Guard.{Guard}
+use Rattle.run_schedules.specs.declared.holders.NamedGuard.{NamedGuard}
 use Rattle.run_schedules.specs.Schedules.After.{unsheltered}
 use Rattle.run_schedules.specs.Schedules.Moment.{Moment, Sheltered}
 use Rattle.run_schedules.specs.declared.effect.Effect.{Effect}
@@ -138,13 +138,13 @@ module _ {K V : Type 0} where
   begun_sheltered _ m = refl
 
 -- of each guard that is so what is so of all
-both : (P Q R : Guard → Type 0) → ((g : Guard) → P g → Q g → R g) → (gs : List Guard) → AllByRecursion P gs → AllByRecursion Q gs → AllByRecursion R gs
+both : (P Q R : NamedGuard → Type 0) → ((g : NamedGuard) → P g → Q g → R g) → (gs : List NamedGuard) → AllByRecursion P gs → AllByRecursion Q gs → AllByRecursion R gs
 both P Q R so [] one two = tt
 both P Q R so (g ∷ gs) one two = (so g one.0 two.0, both P Q R so gs one.1 two.1)
 
 module _ {K V : Type 0} (same : K → K → Bool) (hash : ℕ → K → ℕ) (m : Moment K V) (known : Known) (s : Scene K V) (old new : Held K V) (at : IsAt same hash old s) (i : ℕ) (told : RowTold (Node K V))
-    (leads : RowLeads same hash i told s old new) (row : SlotRow) (here : IsOnSlot s i row) (each : AllByRecursion (λ (g : Guard). g ≡ guard_on g.slot) m.there.guards)
-    (opens : AllByRecursion (λ (g : Guard). IsOpen s.world g.slot) m.there.guards) (shelter : SectionsShelter m known s.world) (e : Entry K V) (deed_is : e.deed ≡ row_deed row)
+    (leads : RowLeads same hash i told s old new) (row : SlotRow) (here : IsOnSlot s i row) (each : AllByRecursion (λ (g : NamedGuard). g ≡ guard_on g.slot) m.there.guards)
+    (opens : AllByRecursion (λ (g : NamedGuard). IsOpen s.world g.slot) m.there.guards) (shelter : SectionsShelter m known s.world) (e : Entry K V) (deed_is : e.deed ≡ row_deed row)
     (effects_are : e.effects ≡ effects_of acts.Row known new.changed) where
   abbrev w : World (Node K V)
   w = s.world
@@ -205,8 +205,8 @@ module _ {K V : Type 0} (same : K → K → Bool) (hash : ℕ → K → ℕ) (m 
       then_by there (ap (λ (d : Deed K V). there_on d m.there) shuts) xs (ap (λ (d : Deed K V). sheltered_on d m.sheltered) shuts)
       (by.0 (λ own g found. spared g.slot (shut_guards (IsOpen w) m.there w known c.slot (both_open m.there.guards each opens) own g found))) by.1 by.2
     where
-      both_open : (gs : List Guard) → AllByRecursion (λ (g : Guard). g ≡ guard_on g.slot) gs → AllByRecursion (λ (g : Guard). IsOpen w g.slot) gs
-          → AllByRecursion (λ (g : Guard). (g ≡ guard_on g.slot) × IsOpen w g.slot) gs
+      both_open : (gs : List NamedGuard) → AllByRecursion (λ (g : NamedGuard). g ≡ guard_on g.slot) gs → AllByRecursion (λ (g : NamedGuard). IsOpen w g.slot) gs
+          → AllByRecursion (λ (g : NamedGuard). (g ≡ guard_on g.slot) × IsOpen w g.slot) gs
       both_open gs one two = both (λ g. g ≡ guard_on g.slot) (λ g. IsOpen w g.slot) (λ g. (g ≡ guard_on g.slot) × IsOpen w g.slot) (λ g a b. (a, b)) gs one two
 
       spared : (t : ℕ) → IsOpen w t × (t ≢ c.slot) → IsSpared i w t

@@ -6,8 +6,8 @@ use Rattle.run_schedules.specs.Given.SeizeWordsOp.{Out, Found, Stored, Exchanged
 use Rattle.play_stepping.specs.Given.SeizeLaw.{Deferred, Dropped, Effect, Ended, Entered, Left, LeftOver, Linked, Made as MadeBlock, Retired, Taken as TakenBlock, Unlinked, holds, is_open}
 use Rattle.play_stepping.specs.Given.SeizeWorld.{Begin, Chooses, Clears, Defers, Drops, Ends, Enters, Event, Frees, Hand, Happens, Leaves, LeavesOver, Links, Makes, Making, Operates, Parts, Registers, Relinks, Rests, Rewrites, Row, Runs, Settles, Step, Steps', Unlinks, World, leave_effects, leaves_on, defers_on, made_by, register_effects, registers_on, settle_effects, settles_on}
 use Rattle.play_stepping.specs.Given.SeizeSequence.{IsUsers}
-use Rattle.play_stepping.specs.Given.SeizeDeclared.progress.Progress.{Progress}
-use Rattle.play_stepping.specs.Given.SeizeDeclared.progress.Progress.TheVariants as progress
+use Rattle.play_stepping.specs.Given.SeizeDeclared.advance.Advance.{Advance}
+use Rattle.play_stepping.specs.Given.SeizeDeclared.advance.Advance.TheVariants as progress
 use Rattle.play_stepping.specs.Given.SeizeDeclared.rows.defer.Defer.{Defer}
 use Rattle.play_stepping.specs.Given.SeizeDeclared.rows.leave.Leave.{Leave}
 use Rattle.play_stepping.specs.Given.SeizeDeclared.rows.leave.Leaving.TheVariants as leaving
@@ -75,13 +75,13 @@ module _ {T : Type 0} (defers : T → Option ℕ) (i s : ℕ) (w w2 : World T) w
   settles_keep c d m (settled.Gave value) = keeps_by s w (settle_effects c c.stands) (settle_goes_on s c c.stands) (settles_on w i c m (d, settled.Gave value)) refl
   settles_keep c d m settled.Done = keeps_by s w [] tt (settles_on w i c m (d, settled.Done)) refl
 
-  registers_keep : (c d : Register) (m : Mem T) (p : Progress ℕ) → Keeps s w (registers_on w i c m (d, p))
+  registers_keep : (c d : Register) (m : Mem T) (p : Advance ℕ) → Keeps s w (registers_on w i c m (d, p))
   registers_keep c d m progress.Goes = keeps_by s w (register_effects c c.stands) (register_goes_on s c c.stands) (registers_on w i c m (d, progress.Goes)) refl
   registers_keep c d m progress.Waits = keeps_by s w (register_effects c c.stands) (register_goes_on s c c.stands) (registers_on w i c m (d, progress.Waits)) refl
   registers_keep c d m (progress.Done slot) = keeps_by s w (register_effects c c.stands) (register_goes_on s c c.stands) (registers_on w i c m (d, progress.Done slot)) refl
   registers_keep c d m (progress.Refused fault) = keeps_by s w [] tt (registers_on w i c m (d, progress.Refused fault)) refl
 
-  defers_keep : (slot : ℕ) (d : Defer) (m : Mem T) (p : Progress Unit) → Keeps s w (defers_on w i slot m (d, p))
+  defers_keep : (slot : ℕ) (d : Defer) (m : Mem T) (p : Advance Unit) → Keeps s w (defers_on w i slot m (d, p))
   defers_keep slot d m progress.Goes = keeps_by s w [] tt (defers_on w i slot m (d, progress.Goes)) refl
   defers_keep slot d m progress.Waits = keeps_by s w [] tt (defers_on w i slot m (d, progress.Waits)) refl
   defers_keep slot d m (progress.Done u) = keeps_by s w [] tt (defers_on w i slot m (d, progress.Done u)) refl

@@ -1,8 +1,8 @@
 -- What is so of a history, of what is known, and of the scene to which acts have led, and stays so by each kind of step, beside what else is so of them: its entry, if there is one, is on the history then.
 use Rattle.std.specs.Prelude.{◌≡◌, ℕ, Bool, true, false, List, [], ◌∷◌, Option, Some, None, Ok}
 use Rattle.play_stepping.specs.Given.SeizeWorld.{Begin, Rests, Step}
-use Rattle.play_stepping.specs.Given.SeizeDeclared.progress.Progress.{Progress as Making}
-use Rattle.play_stepping.specs.Given.SeizeDeclared.progress.Progress.TheVariants as progress
+use Rattle.play_stepping.specs.Given.SeizeDeclared.advance.Advance.{Advance as Making}
+use Rattle.play_stepping.specs.Given.SeizeDeclared.advance.Advance.TheVariants as progress
 use Rattle.play_stepping.specs.Given.SeizeDeclared.rows.reclaim_all.ReclaimAll.{ReclaimAll}
 use Rattle.play_stepping.specs.Given.SeizeDeclared.rows.settle.Settled.{Settled}
 use Rattle.play_stepping.specs.Given.SweepsSweepPoints.{after_next}

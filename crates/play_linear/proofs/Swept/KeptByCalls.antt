@@ -3,7 +3,7 @@ use Rattle.std.specs.Prelude.{◌≡◌, ◌⊎◌, ℕ, Bool, true, false, List
 use Rattle.std.proofs.Common.{refl, ap, sym, subst, ◌∙◌, inl, inr}
 use Rattle.seize_acts.specs.Acts.Answers.{Grant}
 use Rattle.play_stepping.specs.Given.RawMachine.{machine_asked, machine_replied}
-use Rattle.play_stepping.specs.Given.RawDeclared.machines.asking.Reply.{Reply as Told}
+use Rattle.play_stepping.specs.Given.RawDeclared.machines.asking.MachineReply.{MachineReply as Told}
 use Rattle.play_stepping.specs.Given.RawDeclared.machines.machine.Machine.{Machine}
 use Rattle.play_stepping.specs.Given.RawDeclared.machines.progress.Progress.{Progress}
 use Rattle.play_stepping.specs.Given.SeizeWorld.{Row}

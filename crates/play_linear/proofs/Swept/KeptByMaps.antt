@@ -4,8 +4,8 @@ use Rattle.std.proofs.Common.{refl, ap, sym, subst, ◌∙◌}
 use Rattle.seize_acts.specs.Acts.Answers.{Grant}
 use Rattle.run_schedules.specs.Given.SeizeWordsMem.{Mem}
 use Rattle.play_stepping.specs.Given.SeizeWorld.{Row}
-use Rattle.play_stepping.specs.Given.SeizeDeclared.progress.Progress.{Progress}
-use Rattle.play_stepping.specs.Given.SeizeDeclared.progress.Progress.TheVariants as making
+use Rattle.play_stepping.specs.Given.SeizeDeclared.advance.Advance.{Advance}
+use Rattle.play_stepping.specs.Given.SeizeDeclared.advance.Advance.TheVariants as making
 use Rattle.play_stepping.specs.Given.SeizeDeclared.rows.settle.Settled.{Settled}
 use Rattle.play_lists.specs.Given.TablesDeclared.node.Node.{Node}
 use Rattle.play_lists.specs.Given.TablesDeclared.setting.Setting.{Setting}
@@ -83,10 +83,10 @@ module _ {K V S : Type 0} (same : K → K → Bool) (by_hasher : S → K → ℕ
     abbrev new : Held K V
     new = then_held (StepsMaking i g)
 
-    abbrev Makes : Progress Setting → Beginning K → NewMap → Type 0
+    abbrev Makes : Advance Setting → Beginning K → NewMap → Type 0
     Makes said b after = MakesSo same by_hasher hash batch_size roots aborts x y s n rows is before at holds noted_then told i g said b after
 
-    module _ (said : Progress Setting) (leads : MakingLeads same hash i said s old new) (b : Beginning K) (here : s.makers i ≡ Some b) (n_is : n ≡ made same hash x s old new at holds.shows i said leads b here (making_outcome said))
+    module _ (said : Advance Setting) (leads : MakingLeads same hash i said s old new) (b : Beginning K) (here : s.makers i ≡ Some b) (n_is : n ≡ made same hash x s old new at holds.shows i said leads b here (making_outcome said))
         (at2 : IsAt same hash new n) (after : NewMap) (makes : Makes said b after)
         (on : has_root b.machine.stands ≡ false → has_root after.stands ≡ true → said ≡ making.Goes) where
       abbrev entry : Deed K V → Entry K V
@@ -112,7 +112,7 @@ module _ {K V S : Type 0} (same : K → K → Bool) (by_hasher : S → K → ℕ
 
     pub making_steps_kept : PlayedAs same by_hasher batch_size roots aborts x y (StepsMaking i g) → Led same by_hasher batch_size roots slot_of (StepsMaking i g) s told n
         → LeadsAs same by_hasher hash (StepsMaking i g) s told n old new → IsAt same hash new n
-        → ((b : Beginning K) (m2 : Mem (Node K V)) (machine : NewMap) (progress : Progress Setting)
+        → ((b : Beginning K) (m2 : Mem (Node K V)) (machine : NewMap) (progress : Advance Setting)
         → MakingDid same by_hasher hash batch_size roots aborts x y s n rows is before at holds noted_then told i g b m2 machine progress → Makes progress b machine) → Then
     making_steps_kept played (b, makes, m2, machine, progress, computed, told_is, did, came) (said, answer, leads, goes) at2 right =
         comes_so z (made same hash x s old new at holds.shows i said leads b makes (making_outcome said)) z_is n_is then_so
@@ -124,7 +124,7 @@ module _ {K V S : Type 0} (same : K → K → Bool) (by_hasher : S → K → ℕ
         said_is = let both : ◌≡◌ {A = Answer K V} (OfMaking progress) (OfMaking said) = sym told_is ∙ answer in cc both
 
         its : Makes said b machine
-        its = subst (λ (p : Progress Setting). Makes p b machine) said_is (right b m2 machine progress (makes, computed, told_is, (did, came)))
+        its = subst (λ (p : Advance Setting). Makes p b machine) said_is (right b m2 machine progress (makes, computed, told_is, (did, came)))
 
         on : has_root b.machine.stands ≡ false → has_root machine.stands ≡ true → said ≡ making.Goes
         on had has =
@@ -136,7 +136,7 @@ module _ {K V S : Type 0} (same : K → K → Bool) (by_hasher : S → K → ℕ
         z = making_stepped i tied.it new.changed x (m2, (machine, said))
 
         z_is : y ≡ z
-        z_is = tied.comes ∙ ap (λ (p : Progress Setting). making_stepped i tied.it new.changed x (m2, (machine, p))) said_is
+        z_is = tied.comes ∙ ap (λ (p : Advance Setting). making_stepped i tied.it new.changed x (m2, (machine, p))) said_is
 
         n_is : n ≡ made same hash x s old new at holds.shows i said leads b makes (making_outcome said)
         n_is = made_is same by_hasher hash batch_size roots aborts x y s n rows is before at holds noted_then told i g said leads b makes (goes b makes)

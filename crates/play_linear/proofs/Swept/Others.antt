@@ -5,8 +5,8 @@ use Rattle.run_schedules.specs.Given.SeizeWordsMem.{Mem, word_at}
 use Rattle.run_schedules.specs.Given.SeizeWordsDeclared.at.At.TheVariants.{Word}
 use Rattle.play_stepping.specs.Given.SeizeReclaimAll.{reclaim_all_plan}
 use Rattle.play_stepping.specs.Given.SeizeWorld.{Begin, Step}
-use Rattle.play_stepping.specs.Given.SeizeDeclared.progress.Progress.{Progress as Making}
-use Rattle.play_stepping.specs.Given.SeizeDeclared.progress.Progress.TheVariants as progress
+use Rattle.play_stepping.specs.Given.SeizeDeclared.advance.Advance.{Advance as Making}
+use Rattle.play_stepping.specs.Given.SeizeDeclared.advance.Advance.TheVariants as progress
 use Rattle.play_stepping.specs.Given.SeizeDeclared.rows.reclaim_all.ReclaimAll.{ReclaimAll}
 use Rattle.play_stepping.specs.Given.SeizeDeclared.rows.settle.Settled.{Settled}
 use Rattle.play_stepping.specs.Given.SeizeDeclared.rows.settle.Settled.TheVariants as settled

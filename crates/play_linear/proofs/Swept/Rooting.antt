@@ -5,8 +5,8 @@ use Rattle.run_schedules.specs.Given.SeizeWordsMem.{Mem, value_at}
 use Rattle.run_schedules.specs.Given.SeizeWordsOp.{Out, Exchanged}
 use Rattle.run_schedules.specs.Given.SeizeWordsPlan.{Ends as EndsSo}
 use Rattle.run_schedules.specs.Given.SeizeWordsDeclared.fault.Fault.TheVariants.{RootsUsedUp}
-use Rattle.play_stepping.specs.Given.SeizeDeclared.progress.Progress.{Progress}
-use Rattle.play_stepping.specs.Given.SeizeDeclared.progress.Progress.TheVariants as progress
+use Rattle.play_stepping.specs.Given.SeizeDeclared.advance.Advance.{Advance}
+use Rattle.play_stepping.specs.Given.SeizeDeclared.advance.Advance.TheVariants as progress
 use Rattle.play_lists.specs.Given.TablesDeclared.node.Node.{Node}
 use Rattle.play_lists.specs.Given.TablesDeclared.setting.Setting.{Setting}
 use Rattle.play_stepping.specs.Given.ResizeNewMap.{at_root, goes, plan_at, refused, taken}
@@ -18,12 +18,12 @@ use Rattle.play_lists.specs.Given.EffectsDeclared.changed.Changed.{Changed}
 use Rattle.play_lists.specs.Given.EffectsDeclared.changed.Changed.TheVariants as changed
 use Rattle.play_lists.specs.Played.Play.{has_root}
 
-module _ {K V : Type 0} (c : NewMap) (m n : Mem (Node K V)) (told : Changed) (end : NewMap × Progress Setting) where
+module _ {K V : Type 0} (c : NewMap) (m n : Mem (Node K V)) (told : Changed) (end : NewMap × Advance Setting) where
   -- if it has a root then it goes on
-  abbrev Goes : NewMap × Progress Setting → Type 0
+  abbrev Goes : NewMap × Advance Setting → Type 0
   Goes e = has_root e.0.stands ≡ true → e.1 ≡ progress.Goes
 
-  as_goes : (e : NewMap × Progress Setting) → end ≡ e → Goes e → Goes end
+  as_goes : (e : NewMap × Advance Setting) → end ≡ e → Goes e → Goes end
   as_goes e is so = subst Goes (sym is) so
 
   next_goes : Goes (if nat_lt c.setting.root (c.roots - 1) then (record c { setting = at_root c.setting (c.setting.root + 1) }, progress.Goes) else refused c RootsUsedUp)
@@ -38,7 +38,7 @@ module _ {K V : Type 0} (c : NewMap) (m n : Mem (Node K V)) (told : Changed) (en
   taken_goes (Exchanged (Err used)) ends = as_goes _ ends next_goes
   taken_goes _ ends = as_goes (c, progress.Goes) ends (λ rooted. refl)
 
-  pub comes_going : (stands : Opening) → c.stands ≡ stands → StepsTold K V (NewMap × Progress Setting) m changed.Nothing (plan_at c stands) n told end → has_root stands ≡ false → has_root end.0.stands ≡ true
+  pub comes_going : (stands : Opening) → c.stands ≡ stands → StepsTold K V (NewMap × Advance Setting) m changed.Nothing (plan_at c stands) n told end → has_root stands ≡ false → has_root end.0.stands ≡ true
       → end.1 ≡ progress.Goes
   comes_going openings.Takes is s none = taken_goes s.0 s.2
   comes_going openings.Shards is s none = absurd (cc none)

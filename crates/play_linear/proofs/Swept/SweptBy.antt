@@ -2,10 +2,10 @@
 use Rattle.std.specs.Prelude.{◌≡◌, ℕ, suc, Bool, true, List, [], Option, Some}
 use Rattle.std.proofs.Common.{refl, ap, sym, subst, ◌∙◌, inl, inr}
 use Rattle.play_lists.specs.Given.TablesDeclared.node.Node.{Node}
-use Rattle.play_stepping.specs.Given.SeizeDeclared.progress.Progress.{Progress as Counted}
-use Rattle.play_stepping.specs.Given.SeizeDeclared.progress.Progress.TheVariants as counted
-use Rattle.play_stepping.specs.Given.ResizeDeclared.outcome.Outcome.{Outcome as Room}
-use Rattle.play_stepping.specs.Given.ResizeDeclared.outcome.Outcome.TheVariants as room
+use Rattle.play_stepping.specs.Given.SeizeDeclared.advance.Advance.{Advance as Counted}
+use Rattle.play_stepping.specs.Given.SeizeDeclared.advance.Advance.TheVariants as counted
+use Rattle.play_stepping.specs.Given.ResizeDeclared.yielding.Yielding.{Yielding as Room}
+use Rattle.play_stepping.specs.Given.ResizeDeclared.yielding.Yielding.TheVariants as room
 use Rattle.play_stepping.specs.Given.ReservesDeclared.sweep.Purpose.{Purpose}
 use Rattle.play_stepping.specs.Given.ReservesDeclared.sweep.Purpose.TheVariants.{Clears, Retains, Walks}
 use Rattle.play_stepping.specs.Given.ReservesDeclared.sweep.Sweep.{Sweep}
@@ -24,7 +24,7 @@ use Rattle.play_stepping.specs.Given.CallersOverAll.{CallOverAll}
 use Rattle.play_stepping.specs.Given.CallersTogether.{UnderWay, OnKey, ForRoom, Counting, OverAll}
 use Rattle.play_lists.specs.Given.FinishesMachines.{GoesOnAs, machine_of}
 use Rattle.play_lists.specs.Given.FinishesMaps.{Standing}
-use Rattle.run_schedules.specs.declared.call.Answer.TheVariants as answer
+use Rattle.run_schedules.specs.declared.call.Response.TheVariants as answer
 use Rattle.run_schedules.specs.declared.call.Call.{Call}
 use Rattle.run_schedules.specs.declared.call.Call.TheVariants as call
 use Rattle.run_schedules.specs.declared.call.OneKey.{OneKey}

@@ -5,8 +5,8 @@ use Rattle.run_schedules.specs.Given.SeizeWordsMem.{Mem, value_at}
 use Rattle.run_schedules.specs.Given.SeizeWordsOp.{Op, Out, Found, Stored, Exchanged, Made, Taken, Roomed, Exchange, Make}
 use Rattle.run_schedules.specs.Given.SeizeWordsPlan.{Ends as EndsSo, plan_as}
 use Rattle.run_schedules.specs.Given.SeizeWordsDeclared.at.At.TheVariants.{Root, Used, Slot, Entry, Word}
-use Rattle.map_tables.specs.Given.SeizeDeclared.progress.Progress.{Progress}
-use Rattle.map_tables.specs.Given.SeizeDeclared.progress.Progress.TheVariants as progress
+use Rattle.map_tables.specs.Given.SeizeDeclared.advance.Advance.{Advance}
+use Rattle.map_tables.specs.Given.SeizeDeclared.advance.Advance.TheVariants as progress
 use Rattle.map_tables.specs.declared.node.Node.{Node}
 use Rattle.map_tables.specs.declared.node.Node.TheVariants as node
 use Rattle.map_tables.specs.declared.setting.Setting.{Setting}
@@ -121,14 +121,14 @@ module _ (n : ℕ) (acted : Option ℕ) (who : Acting) (known : Known) where
   spares (changed.Roomed bucket had) writes = rooms_spare _
 
 -- a table that is made goes on without one, or is refused
-abbrev IsBareTable : NewTable × Progress Planned → Type 0
+abbrev IsBareTable : NewTable × Advance Planned → Type 0
 IsBareTable (n, progress.Goes) = has_none n.stands ≡ true
 IsBareTable (n, progress.Waits) = has_none n.stands ≡ true
 IsBareTable (n, progress.Done table) = ⊥
 IsBareTable (n, progress.Refused fault) = Unit {0}
 
 -- so it is where the map has none
-bare_below : (c : NewMap) (x : NewTable × Progress Planned) → is_bare (new_map.opened c x).0.stands ≡ true → IsBareTable x
+bare_below : (c : NewMap) (x : NewTable × Advance Planned) → is_bare (new_map.opened c x).0.stands ≡ true → IsBareTable x
 bare_below c (n, progress.Goes) bare = bare
 bare_below c (n, progress.Waits) bare = bare
 bare_below c (n, progress.Done table) bare = absurd (cc bare)
@@ -166,12 +166,12 @@ module _ {K V : Type 0} (m m2 : Mem (Node K V)) (told : Changed) where
     abbrev AtTable : Making → Type 0
     AtTable stands = (has_none stands ≡ true) × WritesNone told
 
-    sums_write : (before : Planned) (reason : Reason) (sum : Sum) (at : Summing) (end : NewTable × Progress Planned)
-        → StepsTold K V (NewTable × Progress Planned) m changed.Nothing (plan_as (new_table.counted n before reason) (sums.plan_at sum at)) m2 told end → WritesNone told
+    sums_write : (before : Planned) (reason : Reason) (sum : Sum) (at : Summing) (end : NewTable × Advance Planned)
+        → StepsTold K V (NewTable × Advance Planned) m changed.Nothing (plan_as (new_table.counted n before reason) (sums.plan_at sum at)) m2 told end → WritesNone told
     sums_write before reason sum (summing.Adds shard total) end s = so_told _ s.1.1 tt
     sums_write before reason sum (summing.Over count) end s = so_told _ s.2 tt
 
-    links_has : (table : Planned) (out : Out (Node K V)) (end : NewTable × Progress Planned) → n.stands ≡ makes.Links table → EndsSo (value_at m2) (new_table.linked n table out) end → IsBareTable end → ⊥
+    links_has : (table : Planned) (out : Out (Node K V)) (end : NewTable × Advance Planned) → n.stands ≡ makes.Links table → EndsSo (value_at m2) (new_table.linked n table out) end → IsBareTable end → ⊥
     links_has table (Exchanged (Ok empty)) end is ends bare = subst IsBareTable ends bare
     links_has table (Exchanged (Err found)) end is ends bare = cc (subst IsBareTable ends bare)
     links_has table (Found word) end is ends bare = cc (subst IsBareTable ends bare, ap has_none is)
@@ -180,8 +180,8 @@ module _ {K V : Type 0} (m m2 : Mem (Node K V)) (told : Changed) where
     links_has table (Taken value) end is ends bare = cc (subst IsBareTable ends bare, ap has_none is)
     links_has table (Roomed roomed) end is ends bare = cc (subst IsBareTable ends bare, ap has_none is)
 
-    table_writes : (stands : Making) → n.stands ≡ stands → (end : NewTable × Progress Planned)
-        → StepsTold K V (NewTable × Progress Planned) m changed.Nothing (new_table.plan_at n stands) m2 told end → IsBareTable end → AtTable stands
+    table_writes : (stands : Making) → n.stands ≡ stands → (end : NewTable × Advance Planned)
+        → StepsTold K V (NewTable × Advance Planned) m changed.Nothing (new_table.plan_at n stands) m2 told end → IsBareTable end → AtTable stands
     table_writes (makes.Sums before reason sum) is end s bare = (refl, sums_write before reason sum sum.stands end s)
     table_writes (makes.Makes table) is end s bare = (refl, so_told _ s.1.1 (makes_one m (node.Table table.len table.limit table.turn) ((table.len + PLACES) % 2 ^ 64) s.0))
     table_writes (makes.Promotes table) is end s bare = absurd (cc (subst IsBareTable s.2 bare))
@@ -191,11 +191,11 @@ module _ {K V : Type 0} (m m2 : Mem (Node K V)) (told : Changed) where
     table_writes (makes.Refused fault) is end s bare = (refl, so_told _ s.2 tt)
 
   module _ (c : NewMap) where
-    abbrev BareAfter : NewMap × Progress Setting → Type 0
+    abbrev BareAfter : NewMap × Advance Setting → Type 0
     BareAfter end = is_bare end.0.stands ≡ true
 
-    map_writes : (stands : Opening) → c.stands ≡ stands → (end : NewMap × Progress Setting)
-        → StepsTold K V (NewMap × Progress Setting) m changed.Nothing (new_map.plan_at c stands) m2 told end → BareAfter end → (is_bare stands ≡ true) × WritesNone told
+    map_writes : (stands : Opening) → c.stands ≡ stands → (end : NewMap × Advance Setting)
+        → StepsTold K V (NewMap × Advance Setting) m changed.Nothing (new_map.plan_at c stands) m2 told end → BareAfter end → (is_bare stands ≡ true) × WritesNone told
     map_writes openings.Takes is end s bare = (refl, so_told _ s.1.1 (takes_root m c.setting.root 0 1 s.0))
     map_writes openings.Shards is end s bare = (refl, so_told _ s.1.1 (makes_one m node.Shards ((c.setting.mask + 1) % 2 ^ 64) s.0))
     map_writes (openings.Tables making) is end s bare =
@@ -206,6 +206,6 @@ module _ {K V : Type 0} (m m2 : Mem (Node K V)) (told : Changed) where
     map_writes openings.Over is end s bare = absurd (cc (subst BareAfter s.1 bare, ap is_bare is))
     map_writes (openings.Refused fault) is end s bare = (refl, so_told _ s.2 tt)
 
-    pub bare_writes : (end : NewMap × Progress Setting) → StepsTold K V (NewMap × Progress Setting) m changed.Nothing (new_map.new_map_plan c) m2 told end → is_bare end.0.stands ≡ true
+    pub bare_writes : (end : NewMap × Advance Setting) → StepsTold K V (NewMap × Advance Setting) m changed.Nothing (new_map.new_map_plan c) m2 told end → is_bare end.0.stands ≡ true
         → (is_bare c.stands ≡ true) × WritesNone told
     bare_writes end s bare = map_writes c.stands refl end s bare

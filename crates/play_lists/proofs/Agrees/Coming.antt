@@ -7,8 +7,8 @@ use Rattle.seize_acts.proofs.Acts.Answers.{same_some}
 use Rattle.run_schedules.specs.Given.SeizeWordsMem.{Mem}
 use Rattle.map_tables.specs.Given.SeizeReclaimAll.{clearing, reclaiming_all}
 use Rattle.map_tables.specs.Given.SeizeWorld.{with_at}
-use Rattle.map_tables.specs.Given.SeizeDeclared.progress.Progress.{Progress}
-use Rattle.map_tables.specs.Given.SeizeDeclared.progress.Progress.TheVariants as progress
+use Rattle.map_tables.specs.Given.SeizeDeclared.advance.Advance.{Advance}
+use Rattle.map_tables.specs.Given.SeizeDeclared.advance.Advance.TheVariants as progress
 use Rattle.map_tables.specs.declared.node.Node.{Node}
 use Rattle.map_tables.specs.declared.setting.Setting.{Setting}
 use Rattle.run_logged.specs.Given.ResizeNewMap.{new_map_plan, opening}
@@ -109,7 +109,7 @@ module _ {K V S : Type 0} (same : K → K → Bool) (hash : S → K → ℕ) (ba
   reclaiming_leaves g (c, has, end, came, is) = leaves _ is (record { come = λ n not. not; makers = λ j d has. has })
 
   -- what a making comes to, and that map that comes by it
-  module _ (i : ℕ) (g : Grant) (b : Making S) (end : Mem (Node K V) × (NewMap × Progress Setting))
+  module _ (i : ℕ) (g : Grant) (b : Making S) (end : Mem (Node K V) × (NewMap × Advance Setting))
       (is : y ≡ making_stepped i b (changed_of x.now.memory g (new_map_plan {K = K} {V = V} b.machine)) x end) where
     others_come_none : (n : ℕ) → b.map ≢ n → is_taken n x.history ≡ false → is_taken n y.history ≡ false
     others_come_none n other not =
@@ -138,7 +138,7 @@ module _ {K V S : Type 0} (same : K → K → Bool) (hash : S → K → ℕ) (ba
         goes : (IsRefused end.1.1 → ⊥) → (d : Making S) → Some (record b { machine = end.1.0 }) ≡ Some d → P i d
         goes not d it = subst (P i) (same_some (record b { machine = end.1.0 }) d it) (own not)
 
-        by : (t : Progress Setting) → end.1.1 ≡ t → (made_on i b end.1.0 t now).makers j ≡ Some d → P j d
+        by : (t : Advance Setting) → end.1.1 ≡ t → (made_on i b end.1.0 t now).makers j ≡ Some d → P j d
         by progress.Goes e there = at (Some (record b { machine = end.1.0 })) (goes (λ refused. subst IsRefused e refused)) there
         by progress.Waits e there = at (Some (record b { machine = end.1.0 })) (goes (λ refused. subst IsRefused e refused)) there
         by (progress.Done setting) e there = at None (λ d none. absurd (cc none)) there

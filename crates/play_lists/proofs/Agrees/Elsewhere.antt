@@ -5,7 +5,7 @@ use Rattle.std.proofs.lemmas.Bool.{eqb-true, ne_eqb}
 use Rattle.std.proofs.lemmas.List.Elements.{filter-append}
 use Rattle.run_schedules.specs.declared.effect.Effect.{Effect}
 use Rattle.run_schedules.specs.declared.effect.Effect.TheVariants as effect
-use Rattle.run_schedules.specs.declared.effect.Table.{Table}
+use Rattle.run_schedules.specs.declared.effect.TableId.{TableId}
 use Rattle.run_schedules.specs.declared.effect.Thing.TheVariants.{APair, ATable}
 use Rattle.run_schedules.specs.Schedules.Effects.{all_at, at_stage, in_map, place_by, promoted, with_effect, with_effects}
 use Rattle.run_schedules.specs.Schedules.Lists.{is_among, put}
@@ -26,7 +26,7 @@ use Rattle.many_acts.proofs.Given.FollowsOfEach.{OfEach, operation_so, taken_so}
 use Rattle.many_acts.proofs.Given.OthersRowPlans.{TellsRow}
 
 -- Tables that are linked are of other maps, and of those that become the root's this is so.
-module _ (n : ℕ) (Promotes : Table → Type 0) where
+module _ (n : ℕ) (Promotes : TableId → Type 0) where
   abbrev pub LinksElsewhere : Effect → Type 0
   LinksElsewhere (effect.Linked t shape) = t.map ≢ n
   LinksElsewhere (effect.Promoted t) = Promotes t
@@ -51,7 +51,7 @@ module _ (n : ℕ) where
     pub tables : tables_of n m ≡ [] → tables_of n v ≡ []
 
 -- A map whose root's table is another one has its number, and others are as they were.
-module _ (n : ℕ) (t : Table) where
+module _ (n : ℕ) (t : TableId) where
   pub number_same : (f : MapThere) → (promoted t f).number ≡ f.number
   number_same f = by (f.number == t.map)
     where
@@ -83,7 +83,7 @@ module _ (n : ℕ) (t : Table) where
       by false e later = ap (λ (o : Option MapThere). cond (f.number == n) (Some f) o) later
 
 -- a map without tables has none at another stage either
-module _ (n : ℕ) (t : Table) (stage : Stage) where
+module _ (n : ℕ) (t : TableId) (stage : Stage) where
   none_staged : (us : List TableThere) → filter (λ u. u.table.map == n) us ≡ [] → filter (λ u. u.table.map == n) (map (at_stage t stage) us) ≡ []
   none_staged [] none = refl
   none_staged (u ∷ us) none = by (same_table u.table t) ∙ at (u.table.map == n) (none_staged us) none
@@ -151,7 +151,7 @@ linked_other n us u other none =
 
 module _ {K V : Type 0} (n : ℕ) where
   -- A map without tables gets none by what links other tables.
-  pub no_tables_by : (Promotes : Table → Type 0) (caller : Option (List ℕ)) (acted : Option ℕ) (f : Effect) (m : Moment K V) → LinksElsewhere n Promotes f → tables_of n m ≡ [] → tables_of n (with_effect caller acted f m) ≡ []
+  pub no_tables_by : (Promotes : TableId → Type 0) (caller : Option (List ℕ)) (acted : Option ℕ) (f : Effect) (m : Moment K V) → LinksElsewhere n Promotes f → tables_of n m ≡ [] → tables_of n (with_effect caller acted f m) ≡ []
   no_tables_by Promotes caller acted (effect.Linked t shape) m other none = linked_other n m.tables (record { table = t; shape = shape; stage = IsLinked }) other none
   no_tables_by Promotes caller acted (effect.Retired (ATable t)) m other none = none_staged n t IsRetired m.tables none
   no_tables_by Promotes caller acted (effect.Retired (APair k)) m other none = none
@@ -182,7 +182,7 @@ EmptiesRoot (changed.Wrote (Used r) old new) = Unit {0}
 EmptiesRoot told = ⊥
 
 -- What who acts links is of the map on which it acts.
-module _ (n : ℕ) (Promotes : Table → Type 0) where
+module _ (n : ℕ) (Promotes : TableId → Type 0) where
   abbrev All : List Effect → Type 0
   All effects = AllLinkElsewhere n Promotes effects
 
@@ -190,7 +190,7 @@ module _ (n : ℕ) (Promotes : Table → Type 0) where
   pair_so (acting.Ending map) k = tt
   pair_so _ k = tt
 
-  table_so : (who : Acting) (t : Table) → LinksElsewhere n Promotes (table_taken who t)
+  table_so : (who : Acting) (t : TableId) → LinksElsewhere n Promotes (table_taken who t)
   table_so (acting.Ending map) t = tt
   table_so _ t = tt
 
@@ -212,12 +212,12 @@ module _ (n : ℕ) (Promotes : Table → Type 0) where
   }
 
   -- where each table that is known may become the root's
-  led_elsewhere : (who : Acting) → map_of who ≢ n → (was is : Role) → ((u : Table) (len : ℕ) → is ≡ role.Table u len → Promotes u) → All (led_to who was is)
+  led_elsewhere : (who : Acting) → map_of who ≢ n → (was is : Role) → ((u : TableId) (len : ℕ) → is ≡ role.Table u len → Promotes u) → All (led_to who was is)
   led_elsewhere who other _ (role.OwnTable turn shape) so = (other, tt)
   led_elsewhere who other (role.Table t len) (role.Table u more) so = (so u more refl, tt)
   led_elsewhere who other _ _ so = tt
 
-  pub acting_elsewhere : (who : Acting) → map_of who ≢ n → (known : Known) → ((b : ℕ) (u : Table) (len : ℕ) → known.roles b ≡ role.Table u len → Promotes u) → (told : Changed) → All (effects_of who known told)
+  pub acting_elsewhere : (who : Acting) → map_of who ≢ n → (known : Known) → ((b : ℕ) (u : TableId) (len : ℕ) → known.roles b ≡ role.Table u len → Promotes u) → (told : Changed) → All (effects_of who known told)
   acting_elsewhere who other known so told =
       operation_so who known All (each_so who known other) told (λ r old new e. led_elsewhere who other (named known old) (named known new) (λ u len is. so (block_in new) u len is))
       (λ b field old new map e is. (tt, tt)) (λ b e is. taken_so who known All (each_so who known other) (λ k. (pair_so who k, tt)) (λ t. (table_so who t, tt)) (known.roles b) is)

@@ -16,7 +16,7 @@ use Rattle.run_schedules.specs.Schedules.Moment.{MapThere, Moment, UnderWay}
 use Rattle.run_schedules.specs.Schedules.Views.{map_at}
 use Rattle.run_schedules.specs.declared.effect.Effect.{Effect}
 use Rattle.run_schedules.specs.declared.effect.Effect.TheVariants as effect
-use Rattle.run_schedules.specs.declared.effect.Table.{Table}
+use Rattle.run_schedules.specs.declared.effect.TableId.{TableId}
 use Rattle.run_schedules.specs.declared.outcome.Outcome.{Outcome}
 use Rattle.run_schedules.specs.declared.outcome.Outcome.TheVariants as outcome
 use Rattle.run_schedules.specs.Deeds.Deeds.{Deed, Begins, Steps, Replies, Stops, MapComes, MapFails, MapGoes, Entry, acted_on, after, at_work, begun, caller_of, calls_on, maps_on, moment, named, worked}
@@ -25,7 +25,7 @@ use Rattle.play_lists.proofs.Agrees.Elsewhere.{AllLinkElsewhere, LinksElsewhere,
 use Rattle.play_lists.proofs.Agrees.Lists.{all_kept, found_so}
 
 -- nothing is asked of tables that become the root's
-abbrev pub AnyTable : Table → Type 0
+abbrev pub AnyTable : TableId → Type 0
 AnyTable t = Unit {0}
 
 module _ (n : ℕ) where

@@ -6,8 +6,8 @@ use Rattle.seize_acts.proofs.Acts.Answers.{same_some}
 use Rattle.run_schedules.specs.Given.SeizeWordsMem.{Mem}
 use Rattle.map_tables.specs.Given.SeizeReclaimAll.{reclaim_all_plan}
 use Rattle.map_tables.specs.Given.SeizeWorld.{with_at}
-use Rattle.map_tables.specs.Given.SeizeDeclared.progress.Progress.{Progress}
-use Rattle.map_tables.specs.Given.SeizeDeclared.progress.Progress.TheVariants as progress
+use Rattle.map_tables.specs.Given.SeizeDeclared.advance.Advance.{Advance}
+use Rattle.map_tables.specs.Given.SeizeDeclared.advance.Advance.TheVariants as progress
 use Rattle.map_tables.specs.Nodes.{deferred_word, was_left}
 use Rattle.map_tables.specs.declared.node.Node.{Node}
 use Rattle.map_tables.specs.declared.setting.Setting.{Setting}
@@ -104,7 +104,7 @@ module _ {K V S : Type 0} (x : State K V S) (so : MakesBare x) where
       made i b has = sym (ap (λ (f : ℕ → Option (Making S)). f i) makers) ∙ has
 
   -- The step of a making.
-  module _ (coming : ComingHolds x) (i : ℕ) (b : Making S) (has : x.now.makers i ≡ Some b) (g : Grant) (end : Mem (Node K V) × (NewMap × Progress Setting))
+  module _ (coming : ComingHolds x) (i : ℕ) (b : Making S) (has : x.now.makers i ≡ Some b) (g : Grant) (end : Mem (Node K V) × (NewMap × Advance Setting))
       (came : stepped x.now.memory g (new_map_plan {K = K} {V = V} b.machine) ≡ Some end) where
     abbrev change : Changed
     change = changed_of x.now.memory g (new_map_plan {K = K} {V = V} b.machine)
@@ -115,7 +115,7 @@ module _ {K V S : Type 0} (x : State K V S) (so : MakesBare x) where
     abbrev log_then : List (Entry K V)
     log_then = e ∷ x.history
 
-    abbrev goes_to : Progress Setting → Now K V S
+    abbrev goes_to : Advance Setting → Now K V S
     goes_to told = made_on i b end.1.0 told (record x.now { memory = end.0 })
 
     abbrev MadeSo : ℕ → Making S → Type 0
@@ -165,7 +165,7 @@ module _ {K V S : Type 0} (x : State K V S) (so : MakesBare x) where
         made : (j : ℕ) (d : Making S) → z.now.makers j ≡ Some d → with_at x.now.makers i None j ≡ Some d
         made j d is = sym (ap (λ (f : ℕ → Option (Making S)). f j) makers) ∙ is
 
-    making_steps : (z : State K V S) → z.history ≡ log_then → (told : Progress Setting) → z.now ≡ goes_to told → MakesBare z
+    making_steps : (z : State K V S) → z.history ≡ log_then → (told : Advance Setting) → z.now ≡ goes_to told → MakesBare z
     making_steps z log progress.Goes now =
         goes_on z log (ap (λ (n : Now K V S). n.makers) now) (ap (λ (n : Now K V S). n.maps) now) (ap (λ (n : Now K V S). n.enders) now)
     making_steps z log progress.Waits now =

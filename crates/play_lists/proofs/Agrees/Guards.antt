@@ -6,8 +6,8 @@ use Rattle.seize_acts.specs.Acts.Answers.{Grant}
 use Rattle.seize_acts.proofs.Acts.Answers.{same_some}
 use Rattle.map_tables.specs.Given.SeizeWorld.{World, Row, Rests, Begins as BeginsSo, IsInside, Request, with_at}
 use Rattle.map_tables.specs.Given.SeizeReclaimAll.{reclaim_all_plan}
-use Rattle.map_tables.specs.Given.SeizeDeclared.progress.Progress.{Progress}
-use Rattle.map_tables.specs.Given.SeizeDeclared.progress.Progress.TheVariants as progress
+use Rattle.map_tables.specs.Given.SeizeDeclared.advance.Advance.{Advance}
+use Rattle.map_tables.specs.Given.SeizeDeclared.advance.Advance.TheVariants as progress
 use Rattle.map_tables.specs.Given.SeizeDeclared.rows.reclaim_all.ReclaimAll.{ReclaimAll}
 use Rattle.map_tables.specs.Given.SeizeDeclared.rows.settle.Settled.{Settled}
 use Rattle.map_tables.specs.Given.SeizeDeclared.rows.settle.Settled.TheVariants as settled
@@ -62,7 +62,7 @@ no_row (rows.Frees c) e = cc e
 
 module _ {K V S : Type 0} where
   -- a making that goes on leaves rows as they are
-  made_rows : (i : ℕ) (b : Making S) (machine : NewMap) (told : Progress Setting) (now : Now K V S) → (made_on i b machine told now).rows ≡ now.rows
+  made_rows : (i : ℕ) (b : Making S) (machine : NewMap) (told : Advance Setting) (now : Now K V S) → (made_on i b machine told now).rows ≡ now.rows
   made_rows i b machine progress.Goes now = refl
   made_rows i b machine progress.Waits now = refl
   made_rows i b machine (progress.Done setting) now = refl
@@ -77,7 +77,7 @@ module _ {K V : Type 0} where
 module _ {K V S : Type 0} (same : K → K → Bool) (by_hasher : S → K → ℕ) (hash : ℕ → K → ℕ) (batch_size roots : ℕ) (aborts : ℕ → V) (s n : Scene K V) (x y : State K V S)
     (is_of : IsOf by_hasher s s.world.row x.now) (came : CameAbout batch_size s.world) (here : GuardsAgree x s.world.uses) where
   -- the world then, by what it told
-  making_world : (i : ℕ) (b : Beginning K) (w2 : World (Node K V)) (machine : NewMap) (told : Progress Setting) → MakingCame {S = S} same by_hasher batch_size roots slot_of s i b w2 machine n told → n.world ≡ w2
+  making_world : (i : ℕ) (b : Beginning K) (w2 : World (Node K V)) (machine : NewMap) (told : Advance Setting) → MakingCame {S = S} same by_hasher batch_size roots slot_of s i b w2 machine n told → n.world ≡ w2
   making_world i b w2 machine progress.Goes is = ap (λ (v : Scene K V). v.world) is
   making_world i b w2 machine progress.Waits never = absurd never
   making_world i b w2 machine (progress.Done setting) (standing, is_made, is) = ap (λ (v : Scene K V). v.world) is

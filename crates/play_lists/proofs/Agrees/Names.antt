@@ -10,14 +10,14 @@ use Rattle.run_schedules.specs.Schedules.Effects.{maps_by, promoted, with_effect
 use Rattle.run_schedules.specs.Schedules.Moment.{MapThere, Moment}
 use Rattle.run_schedules.specs.declared.effect.Effect.{Effect}
 use Rattle.run_schedules.specs.declared.effect.Effect.TheVariants.{Promoted}
-use Rattle.run_schedules.specs.declared.effect.Table.{Table}
+use Rattle.run_schedules.specs.declared.effect.TableId.{TableId}
 use Rattle.run_logged.specs.Given.EffectsEffects.{effects_of}
 use Rattle.run_schedules.specs.Deeds.Deeds.{Deed, Entry, MapComes, MapFails, MapGoes, acted_on, after, at_work, begun, caller_of, come, maps_on, moment, named, without_map, worked}
 use Rattle.play_lists.specs.Played.Play.{is_refusal}
 use Rattle.play_lists.specs.Agrees.Fresh.{AreNamed, IsNamed}
 use Rattle.play_lists.proofs.Agrees.Entries.{Grows}
 
-promoted_named : (t : Table) (f : MapThere) → IsNamed f → IsNamed (promoted t f)
+promoted_named : (t : TableId) (f : MapThere) → IsNamed f → IsNamed (promoted t f)
 promoted_named t f is = by (f.number == t.map)
   where
     by : (q : Bool) → IsNamed (if q then record f { first = t.turn } else f)

@@ -9,8 +9,8 @@ use Rattle.run_schedules.specs.Given.SeizeWordsMem.{Mem}
 use Rattle.run_schedules.specs.Given.SeizeWordsPlan.{Plan}
 use Rattle.map_tables.specs.Given.SeizeReclaimAll.{reclaim_all_plan}
 use Rattle.map_tables.specs.Given.SeizeWorld.{with_at}
-use Rattle.map_tables.specs.Given.SeizeDeclared.progress.Progress.{Progress}
-use Rattle.map_tables.specs.Given.SeizeDeclared.progress.Progress.TheVariants as progress
+use Rattle.map_tables.specs.Given.SeizeDeclared.advance.Advance.{Advance}
+use Rattle.map_tables.specs.Given.SeizeDeclared.advance.Advance.TheVariants as progress
 use Rattle.map_tables.specs.Given.SeizeDeclared.rows.settle.Settled.{Settled}
 use Rattle.map_tables.specs.Nodes.{deferred_word, was_left}
 use Rattle.map_tables.specs.declared.node.Node.{Node}
@@ -203,7 +203,7 @@ module _ {K V S : Type 0} (again : Bool) (x : State K V S) (here : NumbersHold a
   worked_so who told d o a now makes fresh maps made ended = record { none = none_then who x.known here.none told makes; fresh = fresh; maps = maps; made = made; ended = ended }
 
   -- The step of a making.
-  module _ (i : ℕ) (b : Making S) (has : x.now.makers i ≡ Some b) (may : again ≡ true → MayFail x i b) (g : Grant) (end : Mem (Node K V) × (NewMap × Progress Setting))
+  module _ (i : ℕ) (b : Making S) (has : x.now.makers i ≡ Some b) (may : again ≡ true → MayFail x i b) (g : Grant) (end : Mem (Node K V) × (NewMap × Advance Setting))
       (came : stepped x.now.memory g (new_map_plan {K = K} {V = V} b.machine) ≡ Some end) where
     abbrev change : Changed
     change = changed_of x.now.memory g (new_map_plan {K = K} {V = V} b.machine)
@@ -262,7 +262,7 @@ module _ {K V S : Type 0} (again : Bool) (x : State K V S) (here : NumbersHold a
     done_then : (setting : Setting) → end.1.1 ≡ progress.Done setting → in_use again b.map log_then ≡ true
     done_then setting done = by (has_root end.1.0.stands) refl
       where
-        told_so : StepsTold K V (NewMap × Progress Setting) x.now.memory NoChange (new_map_plan {K = K} {V = V} b.machine) end.0 change end.1
+        told_so : StepsTold K V (NewMap × Advance Setting) x.now.memory NoChange (new_map_plan {K = K} {V = V} b.machine) end.0 change end.1
         told_so = was_told x.now.memory g (new_map_plan {K = K} {V = V} b.machine) end came
 
         had : has_root b.machine.stands ≡ true
@@ -272,14 +272,14 @@ module _ {K V S : Type 0} (again : Bool) (x : State K V S) (here : NumbersHold a
         by true rooted = rooted_then rooted
         by false none = absurd (subst IsRefused done (root_kept b.machine x.now.memory end.0 change end.1 b.machine.stands refl had told_so none))
 
-    abbrev goes_to : Progress Setting → Now K V S
+    abbrev goes_to : Advance Setting → Now K V S
     goes_to told = made_on i b end.1.0 told (record x.now { memory = end.0 })
 
     -- maps of other numbers are as they were
     maps_stay : (m : ℕ) (at : Setting × S) → x.now.maps m ≡ Some at → in_use again m log_then ≡ true
     maps_stay m at stands = still_in_use again m made_entry x.history (keeps m (λ comes. (may comes).no_map m at stands)) (here.maps m at stands)
 
-    maps_then : (told : Progress Setting) → end.1.1 ≡ told → MapsHaveCome again (goes_to told) log_then
+    maps_then : (told : Advance Setting) → end.1.1 ≡ told → MapsHaveCome again (goes_to told) log_then
     maps_then progress.Goes e = maps_stay
     maps_then progress.Waits e = maps_stay
     maps_then (progress.Refused fault) e = maps_stay
@@ -299,7 +299,7 @@ module _ {K V S : Type 0} (again : Bool) (x : State K V S) (here : NumbersHold a
     gone : (j : ℕ) (d : Making S) → with_at x.now.makers i None j ≡ Some d → IfRooted d
     gone = with_each x.now.makers i None (λ j d. IfRooted d) (λ d is. absurd (cc is)) others_stay
 
-    made_then : (told : Progress Setting) → MadeHaveCome again (goes_to told) log_then
+    made_then : (told : Advance Setting) → MadeHaveCome again (goes_to told) log_then
     made_then progress.Goes = goes_on
     made_then progress.Waits = goes_on
     made_then (progress.Refused fault) = gone
@@ -308,7 +308,7 @@ module _ {K V S : Type 0} (again : Bool) (x : State K V S) (here : NumbersHold a
     ends_stay : EndedHaveCome again x.now log_then
     ends_stay j f ends = still_in_use again f.map made_entry x.history (keeps f.map (λ comes. (may comes).no_end j f ends)) (here.ended j f ends)
 
-    ended_then : (told : Progress Setting) → EndedHaveCome again (goes_to told) log_then
+    ended_then : (told : Advance Setting) → EndedHaveCome again (goes_to told) log_then
     ended_then progress.Goes = ends_stay
     ended_then progress.Waits = ends_stay
     ended_then (progress.Refused fault) = ends_stay

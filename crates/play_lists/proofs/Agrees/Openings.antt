@@ -7,8 +7,8 @@ use Rattle.run_schedules.specs.Given.SeizeWordsOp.{Out, Exchange, Exchanged, Mad
 use Rattle.run_schedules.specs.Given.SeizeWordsPlan.{Ends as EndsSo}
 use Rattle.run_schedules.specs.Given.SeizeWordsDeclared.at.At.TheVariants.{Used}
 use Rattle.run_schedules.specs.Given.SeizeWordsDeclared.fault.Fault.TheVariants.{RootsUsedUp}
-use Rattle.map_tables.specs.Given.SeizeDeclared.progress.Progress.{Progress}
-use Rattle.map_tables.specs.Given.SeizeDeclared.progress.Progress.TheVariants as progress
+use Rattle.map_tables.specs.Given.SeizeDeclared.advance.Advance.{Advance}
+use Rattle.map_tables.specs.Given.SeizeDeclared.advance.Advance.TheVariants as progress
 use Rattle.map_tables.specs.Given.SeizeDeclared.rows.settle.Settled.{Settled}
 use Rattle.map_tables.specs.declared.node.Node.{Node}
 use Rattle.map_tables.specs.declared.setting.Setting.{Setting}
@@ -38,13 +38,13 @@ abbrev IsQuiet : Changed → Type 0
 IsQuiet told = (who : Acting) (known : Known) → effects_of who known told ≡ []
 
 -- a root is given up by a refusal
-abbrev pub IsRefused : Progress Setting → Type 0
+abbrev pub IsRefused : Advance Setting → Type 0
 IsRefused (progress.Refused fault) = Unit {0}
 IsRefused told = ⊥
 
-module _ {K V : Type 0} (c : NewMap) (m n : Mem (Node K V)) (told : Changed) (end : NewMap × Progress Setting) where
+module _ {K V : Type 0} (c : NewMap) (m n : Mem (Node K V)) (told : Changed) (end : NewMap × Advance Setting) where
   abbrev Steps : Opening → Type 0
-  Steps stands = StepsTold K V (NewMap × Progress Setting) m changed.Nothing (plan_at c stands) n told end
+  Steps stands = StepsTold K V (NewMap × Advance Setting) m changed.Nothing (plan_at c stands) n told end
 
   exchange_quiet : (out : Out (Node K V)) → IsQuiet (told_of (Exchange (Used c.setting.root) 0 1) out (seen_of m (Exchange (Used c.setting.root) 0 1) out))
   exchange_quiet (Exchanged (Ok word)) who known = refl
@@ -61,20 +61,20 @@ module _ {K V : Type 0} (c : NewMap) (m n : Mem (Node K V)) (told : Changed) (en
 
   -- it is not over before
   not_done : (out : Out (Node K V)) (setting : Setting) → EndsSo (value_at n) (taken c out) end → end.1 ≡ progress.Done setting → ⊥
-  not_done (Exchanged (Ok free)) setting ends done = cc (ap (λ (z : NewMap × Progress Setting). z.1) ends, done)
-  not_done (Exchanged (Err used)) setting ends done = by (nat_lt c.setting.root (c.roots - 1)) (sym (ap (λ (z : NewMap × Progress Setting). z.1) ends) ∙ done)
+  not_done (Exchanged (Ok free)) setting ends done = cc (ap (λ (z : NewMap × Advance Setting). z.1) ends, done)
+  not_done (Exchanged (Err used)) setting ends done = by (nat_lt c.setting.root (c.roots - 1)) (sym (ap (λ (z : NewMap × Advance Setting). z.1) ends) ∙ done)
     where
-      next : Bool → NewMap × Progress Setting
+      next : Bool → NewMap × Advance Setting
       next q = if q then (record c { setting = at_root c.setting (c.setting.root + 1) }, progress.Goes) else refused c RootsUsedUp
 
       by : (q : Bool) → (next q).1 ≡ progress.Done setting → ⊥
       by true e = cc e
       by false e = cc e
-  not_done _ setting ends done = cc (ap (λ (z : NewMap × Progress Setting). z.1) ends, done)
+  not_done _ setting ends done = cc (ap (λ (z : NewMap × Advance Setting). z.1) ends, done)
 
   pub done_rooted : (stands : Opening) (setting : Setting) → Steps stands → end.1 ≡ progress.Done setting → has_root stands ≡ true
   done_rooted openings.Takes setting steps done = absurd (not_done steps.0 setting steps.2 done)
-  done_rooted (openings.Refused fault) setting steps done = absurd (cc (ap (λ (z : NewMap × Progress Setting). z.1) steps.1, done))
+  done_rooted (openings.Refused fault) setting steps done = absurd (cc (ap (λ (z : NewMap × Advance Setting). z.1) steps.1, done))
   done_rooted openings.Shards setting steps done = refl
   done_rooted (openings.Tables making) setting steps done = refl
   done_rooted (openings.Unmakes fault) setting steps done = refl
@@ -82,17 +82,17 @@ module _ {K V : Type 0} (c : NewMap) (m n : Mem (Node K V)) (told : Changed) (en
   done_rooted openings.Over setting steps done = refl
 
 -- It has its root still, or is refused.
-abbrev pub KeepsRoot : NewMap × Progress Setting → Type 0
+abbrev pub KeepsRoot : NewMap × Advance Setting → Type 0
 KeepsRoot end = has_root end.0.stands ≡ false → IsRefused end.1
 
-opened_keeps : (c : NewMap) (x : NewTable × Progress Table) → KeepsRoot (opened c x)
+opened_keeps : (c : NewMap) (x : NewTable × Advance Table) → KeepsRoot (opened c x)
 opened_keeps c (making, progress.Goes) none = absurd (cc none)
 opened_keeps c (making, progress.Waits) none = absurd (cc none)
 opened_keeps c (making, progress.Done table) none = absurd (cc none)
 opened_keeps c (making, progress.Refused fault) none = absurd (cc none)
 
-module _ {K V : Type 0} (c : NewMap) (m n : Mem (Node K V)) (told : Changed) (end : NewMap × Progress Setting) where
-  by_end : (e : NewMap × Progress Setting) → end ≡ e → KeepsRoot e → KeepsRoot end
+module _ {K V : Type 0} (c : NewMap) (m n : Mem (Node K V)) (told : Changed) (end : NewMap × Advance Setting) where
+  by_end : (e : NewMap × Advance Setting) → end ≡ e → KeepsRoot e → KeepsRoot end
   by_end e is keeps = subst KeepsRoot (sym is) keeps
 
   sharded : (d : NewMap) → (q : Bool) → KeepsRoot (if q then done d else goes d (openings.Tables (first_table d.setting d.len)))

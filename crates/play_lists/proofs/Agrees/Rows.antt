@@ -13,8 +13,8 @@ use Rattle.map_tables.specs.Given.SeizeLeave.{leave_plan}
 use Rattle.map_tables.specs.Given.SeizeRegister.{plan_at, register_plan, registered}
 use Rattle.map_tables.specs.Given.SeizeSettle.{settle_plan}
 use Rattle.map_tables.specs.Given.SeizeWorld.{World, Rests, Use, Vacant, Outside, Inside, Changing, IsInside, after_step, left_as, leaves_on, one_less, one_more, registered_as, registered_use, registers_on, settles_on, with_at, with_use}
-use Rattle.map_tables.specs.Given.SeizeDeclared.progress.Progress.{Progress}
-use Rattle.map_tables.specs.Given.SeizeDeclared.progress.Progress.TheVariants as progress
+use Rattle.map_tables.specs.Given.SeizeDeclared.advance.Advance.{Advance}
+use Rattle.map_tables.specs.Given.SeizeDeclared.advance.Advance.TheVariants as progress
 use Rattle.map_tables.specs.Given.SeizeDeclared.rows.leave.Leave.{Leave}
 use Rattle.map_tables.specs.Given.SeizeDeclared.rows.leave.Leaving.{Leaving}
 use Rattle.map_tables.specs.Given.SeizeDeclared.rows.leave.Leaving.TheVariants as leaves
@@ -80,7 +80,7 @@ module _ {K V : Type 0} (i : ℕ) (w : World (Node K V)) where
   settles_stay c c2 m (settled.Gave value) = λ s in_it. in_it
   settles_stay c c2 m settled.Done = outside_at w.uses c.slot (one_less (w.uses c.slot)) (less_inside (w.uses c.slot))
 
-  registers_stay : (c c2 : Register) (m : Mem (Node K V)) (p : Progress ℕ) → (IsInside (registered_as c) → ⊥) → StaysInside w.uses (registers_on w i c m (c2, p)).uses
+  registers_stay : (c c2 : Register) (m : Mem (Node K V)) (p : Advance ℕ) → (IsInside (registered_as c) → ⊥) → StaysInside w.uses (registers_on w i c m (c2, p)).uses
   registers_stay c c2 m progress.Goes none = λ s in_it. in_it
   registers_stay c c2 m progress.Waits none = λ s in_it. in_it
   registers_stay c c2 m (progress.Done t) none = outside_at w.uses t (registered_as c) (λ in_it. absurd (none in_it))
@@ -90,10 +90,10 @@ module _ {K V : Type 0} (i : ℕ) (w : World (Node K V)) where
   By row w2 = InsideBy w.uses w2.uses (row_deed {K = K} {V = V} row)
 
   -- a registering has not entered its slot, or enters it
-  registers_by : (c : Register) (stands : Registering) → c.stands ≡ stands → (m : Mem (Node K V)) (end : Register × Progress ℕ) → (stands ≡ registers.Enter → end ≡ registered c)
+  registers_by : (c : Register) (stands : Registering) → c.stands ≡ stands → (m : Mem (Node K V)) (end : Register × Advance ℕ) → (stands ≡ registers.Enter → end ≡ registered c)
       → InsideBy w.uses (registers_on w i c m end).uses (registers_as {K = K} {V = V} stands c.slot)
   registers_by c registers.Enter is m end enters =
-      subst (λ (p : Register × Progress ℕ). InsideBy w.uses (registers_on w i c m p).uses (registers_as {K = K} {V = V} registers.Enter c.slot)) (sym (enters refl))
+      subst (λ (p : Register × Advance ℕ). InsideBy w.uses (registers_on w i c m p).uses (registers_as {K = K} {V = V} registers.Enter c.slot)) (sym (enters refl))
       (inside_at w.uses c.slot (registered_as c) (subst (λ (stands : Registering). IsInside (registered_use stands)) (sym is) tt))
   registers_by c registers.Begin is m end enters = registers_stay c end.0 m end.1 (λ in_it. subst (λ (stands : Registering). IsInside (registered_use stands)) is in_it)
   registers_by c registers.Look is m end enters = registers_stay c end.0 m end.1 (λ in_it. subst (λ (stands : Registering). IsInside (registered_use stands)) is in_it)
@@ -129,7 +129,7 @@ module _ {K V : Type 0} (i : ℕ) (w : World (Node K V)) where
         by_plan (register_plan c) (λ p. registers_on w i c p.0 p.1) (By (rows.Registers c)) e
         (λ p so. registers_by c c.stands refl p.0 p.1 (enters p so))
       where
-        enters : (p : Mem (Node K V) × (Register × Progress ℕ)) → stepped w.memory g (register_plan c) ≡ Some p → c.stands ≡ registers.Enter → p.1 ≡ registered c
+        enters : (p : Mem (Node K V) × (Register × Advance ℕ)) → stepped w.memory g (register_plan c) ≡ Some p → c.stands ≡ registers.Enter → p.1 ≡ registered c
         enters p so is =
             (subst (λ (stands : Registering). Steps Took value_at w.memory (plan_at c stands) p.0 p.1) is (was_stepped w.memory g (register_plan c) p so)).2
     rows_by (rows.Enters c) e =

@@ -4,8 +4,8 @@ use Rattle.std.proofs.Common.{◌≡◌, ℕ, Bool, inl, inr, refl, ap, sym, sub
 use Rattle.std.proofs.lemmas.Bool.{cases_eq}
 use Rattle.seize_acts.proofs.Acts.Answers.{same_some}
 use Rattle.map_tables.specs.Given.SeizeWorld.{World, with_at}
-use Rattle.map_tables.specs.Given.SeizeDeclared.progress.Progress.{Progress}
-use Rattle.map_tables.specs.Given.SeizeDeclared.progress.Progress.TheVariants as progress
+use Rattle.map_tables.specs.Given.SeizeDeclared.advance.Advance.{Advance}
+use Rattle.map_tables.specs.Given.SeizeDeclared.advance.Advance.TheVariants as progress
 use Rattle.map_tables.specs.Given.SeizeDeclared.rows.settle.Settled.{Settled}
 use Rattle.map_tables.specs.Given.SeizeDeclared.rows.settle.Settled.TheVariants as settled
 use Rattle.map_tables.specs.declared.node.Node.{Node}
@@ -75,7 +75,7 @@ module _ {K S : Type 0} (V : Type 0) (same : K → K → Bool) (by_hasher : S �
       (maps_so shards s here w2 maps2 (record s { world = w2; maps = maps2 }) (λ m. (same_map_keeps (hash m) (s.maps m) (maps2 m) (hashes m) (as_they_were m)).setting) refl refl)
 
   -- a making has taken a step
-  made_on : (i : ℕ) (b : Beginning K) (makes : s.makers i ≡ Some b) (w2 : World (Node K V)) (machine : NewMap) (told : Progress Setting)
+  made_on : (i : ℕ) (b : Beginning K) (makes : s.makers i ≡ Some b) (w2 : World (Node K V)) (machine : NewMap) (told : Advance Setting)
       → MakingCame {S = S} same by_hasher batch_size roots slot_of s i b w2 machine n told → ShardsAre shards n
   made_on i b makes w2 machine progress.Goes is =
       is_so (record s { world = w2; makers = with_at s.makers i (Some (record b { machine = machine })) }) is

@@ -26,7 +26,7 @@ use Rattle.many_acts.specs.Given.ScenesDeclared.row.SlotCall.TheVariants as call
 use Rattle.many_acts.specs.Given.ScenesDeclared.row.SlotRow.{SlotRow}
 use Rattle.many_acts.specs.Given.ScenesDeclared.row.SlotRow.TheVariants as rows
 use Rattle.run_schedules.specs.Runs.Present.{Present}
-use Rattle.run_schedules.specs.declared.holders.Guard.{Guard}
+use Rattle.run_schedules.specs.declared.holders.NamedGuard.{NamedGuard}
 use Rattle.run_schedules.specs.Deeds.Deeds.{Leaves, Opens, moment, there_on}
 use Rattle.play_lists.specs.Played.Play.{State, leaves_as, registers_as, row_deed}
 use Rattle.play_lists.specs.Agrees.Guards.{GuardsAgree, GuardsAre, IsLeaving, IsOpen, guard_on}
@@ -86,7 +86,7 @@ module _ {K V S : Type 0} (x : State K V S) (uses : ℕ → Use) (here : GuardsA
     abbrev rows2 : ℕ → Option SlotRow
     rows2 = with_at x.now.rows i next
 
-    abbrev guards : List Guard
+    abbrev guards : List NamedGuard
     guards = (moment x.history).there.guards
 
     kept : (t : ℕ) → IsInside (uses t) → IsInside (w2.uses t)

@@ -15,8 +15,8 @@ use Rattle.map_tables.specs.Given.SeizeWorld as world
 use Rattle.map_tables.specs.Given.SeizeDeclared.rows.leave.Leave.{Leave}
 use Rattle.map_tables.specs.Given.SeizeDeclared.rows.register.Register.{Register}
 use Rattle.map_tables.specs.Given.SeizeDeclared.rows.settle.Settle.{Settle}
-use Rattle.map_tables.specs.Given.SeizeDeclared.progress.Progress.{Progress}
-use Rattle.map_tables.specs.Given.SeizeDeclared.progress.Progress.TheVariants as progress
+use Rattle.map_tables.specs.Given.SeizeDeclared.advance.Advance.{Advance}
+use Rattle.map_tables.specs.Given.SeizeDeclared.advance.Advance.TheVariants as progress
 use Rattle.map_tables.specs.Given.SeizeDeclared.rows.settle.Settled.{Settled}
 use Rattle.map_tables.specs.Given.SeizeDeclared.rows.settle.Settled.TheVariants as settled
 use Rattle.seize_acts.specs.Acts.Acts.{row_steps}
@@ -30,7 +30,7 @@ use Rattle.run_logged.specs.Given.ResizeNewMap.{new_map_plan}
 use Rattle.run_logged.specs.Given.ResizeDeclared.new_map.NewMap.{NewMap}
 use Rattle.run_logged.specs.Given.RawEndMap.{end_map_plan}
 use Rattle.run_logged.specs.Given.RawMachine.{machine_asked, machine_plan, machine_replied}
-use Rattle.run_logged.specs.Given.RawDeclared.machines.asking.Reply.{Reply}
+use Rattle.run_logged.specs.Given.RawDeclared.machines.asking.MachineReply.{MachineReply}
 use Rattle.run_logged.specs.Given.RawDeclared.machines.end_map.EndMap.{EndMap}
 use Rattle.run_logged.specs.Given.RawDeclared.machines.machine.Machine.{Machine}
 use Rattle.run_logged.specs.Given.RawDeclared.machines.progress.Progress.{Progress as CallProgress}
@@ -77,7 +77,7 @@ use Rattle.many_acts.specs.Given.ScenesDeclared.row.SlotRow.TheVariants as rows
 use Rattle.many_acts.specs.Given.ScenesScene.{Scene, row_of, slot_of}
 
 -- the memory after a step of a row
-registers_memory : {T : Type 0} (w : World T) (i : ℕ) (c : Register) (m : Mem T) (end : Register × Progress ℕ) → (world.registers_on w i c m end).memory ≡ m
+registers_memory : {T : Type 0} (w : World T) (i : ℕ) (c : Register) (m : Mem T) (end : Register × Advance ℕ) → (world.registers_on w i c m end).memory ≡ m
 registers_memory w i c m (c2, progress.Goes) = refl
 registers_memory w i c m (c2, progress.Waits) = refl
 registers_memory w i c m (c2, progress.Done slot) = refl
@@ -246,7 +246,7 @@ module _ {K V S : Type 0} (same : K → K → Bool) (hash : S → K → ℕ) (e 
       there_as m (asked_on u) next (asked_stands same hash e.batch_size e.roots slot_of s at.held.together i m standing.0 standing.1 u here) (asked_machine u ∙ sym machine_is) there
 
   -- one that was told something: if it does not take that, it is as it was
-  replied_so : (reply : Reply V) (result : Result Unit (Reply V)) → RepliesThere same (hash e.hasher) i reply result s e e2 → (m : ℕ) (u : UnderWay K V K) → s.calls m i ≡ Some u
+  replied_so : (reply : MachineReply V) (result : Result Unit (MachineReply V)) → RepliesThere same (hash e.hasher) i reply result s e e2 → (m : ℕ) (u : UnderWay K V K) → s.calls m i ≡ Some u
       → IsAct same hash e e2 s (TellsCall i m reply) (OfReply result)
   replied_so reply result leads m u here = by (is_err (machine_replied (machine_of u) reply).1) refl
     where
@@ -290,7 +290,7 @@ module _ {K V S : Type 0} (same : K → K → Bool) (hash : S → K → ℕ) (e 
         acts (StopsCall i m) tt (there_call m u here) (OfAsking stopped) _ (u, here, ap OfAsking to.0, ap (λ (x : Bool). record s { calls = with_call s.calls m i (unless_stopped x u) }) to.0) to.2);
   }
 
-  making_comes : (b : Beginning K) (machine : NewMap) (told : Progress Setting) (did : MakingStepsAmong V same same e.batch_size e.roots slot_of s.world s.maps s.calls s.makers s.enders i b e2.memory.memory (machine, told))
+  making_comes : (b : Beginning K) (machine : NewMap) (told : Advance Setting) (did : MakingStepsAmong V same same e.batch_size e.roots slot_of s.world s.maps s.calls s.makers s.enders i b e2.memory.memory (machine, told))
       → MakingComesToThere same (IsThere same (hash e.hasher) e2) s (held_by e) i b machine did.step.w2 told
       → (n : Scene K V) × MakingCame same hash e.batch_size e.roots slot_of s i b did.step.w2 machine n told × IsThere same (hash e.hasher) e2 n
   making_comes b machine progress.Goes did is = (_, refl, is)
@@ -298,7 +298,7 @@ module _ {K V S : Type 0} (same : K → K → Bool) (hash : S → K → ℕ) (e 
   making_comes b machine (progress.Done setting) did (standing, made, is) = (_, (standing, made, refl), is)
   making_comes b machine (progress.Refused fault) did is = (_, refl, is)
 
-  making : (told : Progress Setting) → MakesThere same (hash e.hasher) i told s e e2 → (b : Beginning K) → s.makers i ≡ Some b
+  making : (told : Advance Setting) → MakesThere same (hash e.hasher) i told s e e2 → (b : Beginning K) → s.makers i ≡ Some b
       → AreSteps same hash e e2 s (Computes e e2 (new_map_plan {K = K} {V = V} b.machine) told) (StepsMaking i) (OfMaking told)
   making told leads b makes =
       let to = leads b makes in

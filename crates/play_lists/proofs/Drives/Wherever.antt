@@ -5,8 +5,8 @@ use Rattle.std.proofs.Common.{◌≡◌, ℕ, Bool, refl, sym, ap, subst, ◌∙
 use Rattle.map_tables.specs.Given.SeizeWorld.{Request, Register', Enter', Leave', LeaveOwned, Refresh, Unregister', Retire, Flush, Defer', Begins, Use, Vacant, Outside, Inside, Changing, World}
 use Rattle.seize_acts.proofs.Acts.Answers.{same_some}
 use Rattle.run_schedules.specs.Given.SeizeWordsMem.{Mem}
-use Rattle.map_tables.specs.Given.SeizeDeclared.progress.Progress.{Progress}
-use Rattle.map_tables.specs.Given.SeizeDeclared.progress.Progress.TheVariants as progress
+use Rattle.map_tables.specs.Given.SeizeDeclared.advance.Advance.{Advance}
+use Rattle.map_tables.specs.Given.SeizeDeclared.advance.Advance.TheVariants as progress
 use Rattle.map_tables.specs.Given.SeizeDeclared.rows.settle.Settled.{Settled}
 use Rattle.map_tables.specs.Given.SeizeDeclared.rows.settle.Settled.TheVariants as settled
 use Rattle.map_tables.specs.Nodes.{deferred_word}
@@ -80,7 +80,7 @@ module _ {K V S : Type 0} (same : K → K → Bool) (hash : S → K → ℕ) (ba
       subst So (sym n_is) (subst (λ (f : ℕ → Use). IsUsedAs v (f t)) (sym there) (subst (λ (f : ℕ → Use). IsUsedAs v (f t)) here (subst So to_is so)))
 
   -- by a making, or an end, as it tells
-  made_uses : (i : ℕ) (b : Beginning K) (w w2 : World (Node K V)) (machine machine2 : NewMap) → w.uses ≡ s.world.uses → w2.uses ≡ s.world.uses → (end : Progress Setting)
+  made_uses : (i : ℕ) (b : Beginning K) (w w2 : World (Node K V)) (machine machine2 : NewMap) → w.uses ≡ s.world.uses → w2.uses ≡ s.world.uses → (end : Advance Setting)
       → MakingCame same hash batch_size roots slot_of s i b w machine to end → MakingCame same hash batch_size roots slot_of s i b w2 machine2 n end → So to → So n
   made_uses i b w w2 machine machine2 here there progress.Goes is also so = as_they_were _ _ is also here there so
   made_uses i b w w2 machine machine2 here there progress.Waits never also so = absurd never
@@ -106,11 +106,11 @@ module _ {K V S : Type 0} (same : K → K → Bool) (hash : S → K → ℕ) (ba
   uses_both (BeginsMaking i map hasher given places) may told said led also so = as_they_were _ _ led.1 also.1 refl refl so
   uses_both (StepsMaking i g) may told said (b, makes, m2, machine, end, computed, told_is, did, came) (b2, makes2, m3, machine2, end2, computed2, told_is2, did2, came2) so =
       let one : b ≡ b2 = same_some b b2 (sym makes ∙ makes2) in
-      let step : ◌≡◌ {A = Mem (Node K V) × (NewMap × Progress Setting)} (m2, (machine, end)) (m3, (machine2, end2)) = same_some (m2, (machine, end)) (m3, (machine2, end2))
+      let step : ◌≡◌ {A = Mem (Node K V) × (NewMap × Advance Setting)} (m2, (machine, end)) (m3, (machine2, end2)) = same_some (m2, (machine, end)) (m3, (machine2, end2))
       (sym computed ∙ ap (λ (x : Beginning K). making_steps same hash batch_size roots slot_of s g x) one ∙ computed2) in
       made_uses i b did.step.w2 did2.step.w2 machine machine2 (events_uses batch_size did.step.events s.world did.step.w2 did.step.users did.step.runs)
       (events_uses batch_size did2.step.events s.world did2.step.w2 did2.step.users did2.step.runs) end came
-      (subst (λ (x : Mem (Node K V) × (NewMap × Progress Setting)). MakingCame same hash batch_size roots slot_of s i b did2.step.w2 machine2 n x.1.1) (sym step)
+      (subst (λ (x : Mem (Node K V) × (NewMap × Advance Setting)). MakingCame same hash batch_size roots slot_of s i b did2.step.w2 machine2 n x.1.1) (sym step)
       (subst (λ (x : Beginning K). MakingCame same hash batch_size roots slot_of s i x did2.step.w2 machine2 n end2) (sym one) came2)) so
   uses_both (BeginsEnding i m) may told said led also so = as_they_were _ _ led.3 also.3 refl refl so
   uses_both (StepsEnding i g) may told said (f, ends, m2, machine, end, computed, told_is, did, came) (f2, ends2, m3, machine2, end2, computed2, told_is2, did2, came2) so =

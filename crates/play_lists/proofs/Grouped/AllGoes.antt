@@ -42,7 +42,7 @@ use Rattle.run_finds.specs.Given.ExecutorIsThere.{HasRow, IsThere, IsUsedAs, Sta
 use Rattle.run_finds.specs.Given.ExecutorDeclared.executor.Executor.{Executor}
 use Rattle.run_finds.specs.Given.ExecutorDeclared.worker.Work.{Work}
 use Rattle.run_finds.specs.Given.ReclaimingReclaiming.{IsReclaimingThere, NobodyHas, ReclaimsThere}
-use Rattle.run_finds.specs.Given.ExecutorDeclared.caller.Caller.{Caller}
+use Rattle.run_finds.specs.Given.ExecutorDeclared.caller.NamedCaller.{NamedCaller}
 use Rattle.many_acts.specs.Acts.Acts.{Answer, OfReclaiming}
 use Rattle.many_acts.specs.Acts.AsSteps.{changed_of}
 use Rattle.many_acts.specs.Acts.Doings.{AllAreFree, BeginsClearing, BeginsReclaiming, HasStepped, MayDo, SlotsAreFree, Stage, StepsReclaiming, behind, is_vacant, reclaiming, still}
@@ -100,7 +100,7 @@ module _ {K V S : Type 0} (same : K → K → Bool) (by_hasher : S → K → ℕ
     pub maps : (m : ℕ) → option_map (λ standing. standing.setting) (p.0.maps m) ≡ slice_index_or e.maps.items m None
     pub hashes : (m : ℕ) (standing : Standing K) → p.0.maps m ≡ Some standing → standing.hash ≡ by_hasher h
 
-module _ {K V S : Type 0} (same : K → K → Bool) (by_hasher : S → K → ℕ) (shards : ℕ) (log : List (Entry K V)) (event : Event K V) (calls : List (Caller V))
+module _ {K V S : Type 0} (same : K → K → Bool) (by_hasher : S → K → ℕ) (shards : ℕ) (log : List (Entry K V)) (event : Event K V) (calls : List (NamedCaller V))
     (may_all : (names : Names) (last : Bool) → MayHave names (moment log) event (ReclaimsAll last)) (e : Executor K V S) (any : Course V same by_hasher e.batch_size e.roots slot_of) (i : ℕ) where
   abbrev St : Type 0
   St = Stage V same by_hasher e.batch_size e.roots slot_of

@@ -1,8 +1,8 @@
 -- What is done beside calls, in the midst of an event: the event goes on by its entry, or as it was where there is none, and callers are as they were played.
 use Rattle.std.specs.Prelude.{◌++◌, ◌==◌, ◌+◌, ◌≤◌, Option, if◌then◌else◌}
 use Rattle.std.proofs.Common.{◌≡◌, ℕ, Bool, true, false, List, refl, sym, ap, subst, ◌∙◌}
-use Rattle.map_tables.specs.Given.SeizeDeclared.progress.Progress.{Progress}
-use Rattle.map_tables.specs.Given.SeizeDeclared.progress.Progress.TheVariants as progress
+use Rattle.map_tables.specs.Given.SeizeDeclared.advance.Advance.{Advance}
+use Rattle.map_tables.specs.Given.SeizeDeclared.advance.Advance.TheVariants as progress
 use Rattle.map_tables.specs.Given.SeizeDeclared.rows.leave.Leave.{Leave}
 use Rattle.map_tables.specs.Given.SeizeDeclared.rows.leave.Leaving.{Leaving}
 use Rattle.map_tables.specs.Given.SeizeDeclared.rows.leave.Leaving.TheVariants as leaves
@@ -23,7 +23,7 @@ use Rattle.run_schedules.specs.Schedules.Entry.{Entry}
 use Rattle.run_logged.specs.Given.EffectsEffects.{effects_of, known_after}
 use Rattle.run_logged.specs.Given.EffectsKnown.{Known}
 use Rattle.run_logged.specs.Given.EffectsDeclared.acting.Acting.{Acting}
-use Rattle.run_finds.specs.Given.ExecutorDeclared.caller.Caller.{Caller}
+use Rattle.run_finds.specs.Given.ExecutorDeclared.caller.NamedCaller.{NamedCaller}
 use Rattle.many_acts.specs.Acts.Acts.{Answer}
 use Rattle.run_schedules.specs.Deeds.Deeds.{Deed, Registers, Opens, Shuts, Leaves, Tends, MapComes, Makes, MapFails, Ends, MapGoes, ReclaimsAll}
 use Rattle.play_lists.specs.Played.Play.{Calling, Ending, Making, Now, State, began, ending_deed, has_root, is_over, is_refusal, leaves_as, made_on, making_deed, pairs_for, registers_as, row_deed, worked}
@@ -101,7 +101,7 @@ module _ {K V : Type 0} where
 
 module _ {K V S : Type 0} where
   -- callers are as they were played while calls are
-  pub callers_same : (names : Names) (calls : List (Caller V)) (x y : State K V S) → y.now.calls ≡ x.now.calls → CallersAre names calls x → CallersAre names calls y
+  pub callers_same : (names : Names) (calls : List (NamedCaller V)) (x y : State K V S) → y.now.calls ≡ x.now.calls → CallersAre names calls x → CallersAre names calls y
   callers_same names calls x y same so = record {
     each = each_so (λ d. IsCalledAs names x d) (λ d. IsCalledAs names y d)
         (λ d is. record {
@@ -115,13 +115,13 @@ module _ {K V S : Type 0} where
   }
 
   -- by a step of a making no call goes on
-  pub made_calls : (i : ℕ) (b : Making S) (machine : NewMap) (told : Progress Setting) (now : Now K V S) → (made_on i b machine told now).calls ≡ now.calls
+  pub made_calls : (i : ℕ) (b : Making S) (machine : NewMap) (told : Advance Setting) (now : Now K V S) → (made_on i b machine told now).calls ≡ now.calls
   made_calls i b machine progress.Goes now = refl
   made_calls i b machine progress.Waits now = refl
   made_calls i b machine (progress.Done setting) now = refl
   made_calls i b machine (progress.Refused fault) now = refl
 
-module _ {K V S : Type 0} (log : List (Entry K V)) (event : Event K V) (did : List Effect) (steps : ℕ) (outcome : Outcome V) (calls : List (Caller V)) (x : State K V S)
+module _ {K V S : Type 0} (log : List (Entry K V)) (event : Event K V) (did : List Effect) (steps : ℕ) (outcome : Outcome V) (calls : List (NamedCaller V)) (x : State K V S)
     (so : InEvent log event did steps outcome calls x) (now : Now K V S) (same_calls : now.calls ≡ x.now.calls) where
   -- nothing is said of what has begun
   pub begun_aside : InEvent log event did steps outcome calls (began now x)

@@ -22,7 +22,7 @@ use Rattle.run_finds.specs.Given.ExecutorIsThere.{IsThere, StaysGiven, use_at, w
 use Rattle.run_finds.specs.Given.ExecutorDeclared.executor.Executor.{Executor}
 use Rattle.run_finds.specs.Given.NamedMachines.{machine_for}
 use Rattle.run_finds.specs.Given.NamedSeen.{kind_of}
-use Rattle.run_finds.specs.Given.ExecutorDeclared.caller.Caller.{Caller}
+use Rattle.run_finds.specs.Given.ExecutorDeclared.caller.NamedCaller.{NamedCaller}
 use Rattle.many_acts.specs.Acts.Acts.{BeginsCall, Nothing}
 use Rattle.many_acts.specs.Acts.Lists.{Course}
 use Rattle.run_schedules.specs.Deeds.Deeds.{Begins, Entry as Act}
@@ -79,12 +79,12 @@ abbrev entry : {K V : Type 0} → (i m : ℕ) → Call K V → Act K V
 entry i m call = record { deed = Begins i (slot_of i) m call; outcome = outcome.Goes; effects = []; refused = false }
 
 module _ {K V S : Type 0} (log : List (Entry K V)) (event : Event K V) (own : List ℕ) (beginner : beginner_of event ≡ own) (i m : ℕ) (call : Call K V)
-    (may : (names : Names) → number_called own names ≡ Some i → MayHave names (moment log) event (Begins i (slot_of i) m call)) (calls : List (Caller V))
-    (free : list_any (λ d. is_same d.name own) calls ≡ false) (apart : AllByRecursion (λ d. (d.number == i) ≡ false) calls) (caller : Caller V) (named : caller.name ≡ own) (numbered : caller.number ≡ i)
+    (may : (names : Names) → number_called own names ≡ Some i → MayHave names (moment log) event (Begins i (slot_of i) m call)) (calls : List (NamedCaller V))
+    (free : list_any (λ d. is_same d.name own) calls ≡ false) (apart : AllByRecursion (λ d. (d.number == i) ≡ false) calls) (caller : NamedCaller V) (named : caller.name ≡ own) (numbered : caller.number ≡ i)
     (on : caller.map ≡ m) (kind : caller.kind ≡ kind_of call) (keeps_none : caller.value ≡ None) where
   module _ (x y : State K V S) (it : Calling K V) (its : kind_of it.call ≡ kind_of call) (none : it.value ≡ None) (history : y.history ≡ entry i m call ∷ x.history)
       (here : y.now.calls m i ≡ Some it) (beside : (n j : ℕ) → (j == i) ≡ false → y.now.calls n j ≡ x.now.calls n j) where
-    others : (names : Names) (xs : List (Caller V)) → list_any (λ d. is_same d.name own) xs ≡ false → AllByRecursion (λ d. (d.number == i) ≡ false) xs → AllByRecursion (λ d. IsCalledAs names x d) xs
+    others : (names : Names) (xs : List (NamedCaller V)) → list_any (λ d. is_same d.name own) xs ≡ false → AllByRecursion (λ d. (d.number == i) ≡ false) xs → AllByRecursion (λ d. IsCalledAs names x d) xs
         → AllByRecursion (λ d. IsCalledAs ((own, i) ∷ without_number i names) y d) xs
     others names [] f a all = tt
     others names (d ∷ xs) f a all =
@@ -109,22 +109,22 @@ module _ {K V S : Type 0} (log : List (Entry K V)) (event : Event K V) (own : Li
     }
 
     -- none of those before has its number
-    none_so : (xs : List (Caller V)) → AllByRecursion (λ d. (d.number == i) ≡ false) xs → length (filter (λ d. d.number == i) xs) ≤ 0
+    none_so : (xs : List (NamedCaller V)) → AllByRecursion (λ d. (d.number == i) ≡ false) xs → length (filter (λ d. d.number == i) xs) ≤ 0
     none_so [] a = omega arith
     none_so (d ∷ xs) a = one (d.number == i) a.0 (none_so xs a.1)
       where
-        one : (b : Bool) → b ≡ false → length (filter (λ (c : Caller V). c.number == i) xs) ≤ 0
-            → length (cond b (d ∷ filter (λ (c : Caller V). c.number == i) xs) (filter (λ (c : Caller V). c.number == i) xs)) ≤ 0
+        one : (b : Bool) → b ≡ false → length (filter (λ (c : NamedCaller V). c.number == i) xs) ≤ 0
+            → length (cond b (d ∷ filter (λ (c : NamedCaller V). c.number == i) xs) (filter (λ (c : NamedCaller V). c.number == i) xs)) ≤ 0
         one true e l = absurd (cc e)
         one false e l = l
 
     once : (n : ℕ) → length (filter (λ d. d.number == n) calls) ≤ 1 → length (filter (λ d. d.number == n) (caller ∷ calls)) ≤ 1
     once n was = one (caller.number == n) refl
       where
-        one : (b : Bool) → (caller.number == n) ≡ b → length (cond b (caller ∷ filter (λ (d : Caller V). d.number == n) calls) (filter (λ (d : Caller V). d.number == n) calls)) ≤ 1
+        one : (b : Bool) → (caller.number == n) ≡ b → length (cond b (caller ∷ filter (λ (d : NamedCaller V). d.number == n) calls) (filter (λ (d : NamedCaller V). d.number == n) calls)) ≤ 1
         one true e =
             let n_is : n ≡ i = sym (eqb-true caller.number n e) ∙ numbered in
-            let l = subst (λ (k : ℕ). length (filter (λ (d : Caller V). d.number == k) calls) ≤ 0) (sym n_is) (none_so calls apart) in omega (arith, l)
+            let l = subst (λ (k : ℕ). length (filter (λ (d : NamedCaller V). d.number == k) calls) ≤ 0) (sym n_is) (none_so calls apart) in omega (arith, l)
         one false e = was
 
     pub begins_so : PlaysSo log calls x → InEvent log event [] 0 outcome.Goes (caller ∷ calls) y

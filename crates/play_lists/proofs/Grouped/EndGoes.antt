@@ -23,7 +23,7 @@ use Rattle.run_logged.specs.Given.EffectsDeclared.acting.Acting.TheVariants as a
 use Rattle.run_finds.specs.Given.ExecutorEnding.{EndingBegins, EndsThere, NoCallOn}
 use Rattle.run_finds.specs.Given.ExecutorIsThere.{IsThere, StaysGiven, ending_in, work_of}
 use Rattle.run_finds.specs.Given.ExecutorDeclared.executor.Executor.{Executor}
-use Rattle.run_finds.specs.Given.ExecutorDeclared.caller.Caller.{Caller}
+use Rattle.run_finds.specs.Given.ExecutorDeclared.caller.NamedCaller.{NamedCaller}
 use Rattle.many_acts.specs.Acts.Acts.{BeginsEnding, Nothing, OfEnding, StepsEnding}
 use Rattle.many_acts.specs.Acts.Doings.{Stage, reclaiming}
 use Rattle.many_acts.specs.Acts.Leads.{Led}
@@ -55,7 +55,7 @@ ending_comes K V n f told = by (is_over told)
 abbrev pub EndsMap : {K V S : Type 0} → (i map : ℕ) → State K V S → Type 0
 EndsMap i map x = option_map (λ f. f.map) (x.now.enders i) ≡ Some map
 
-module _ {K V S : Type 0} (same : K → K → Bool) (by_hasher : S → K → ℕ) (shards : ℕ) (log : List (Entry K V)) (event : Event K V) (calls : List (Caller V)) (e e2 : Executor K V S) (given : StaysGiven e e2)
+module _ {K V S : Type 0} (same : K → K → Bool) (by_hasher : S → K → ℕ) (shards : ℕ) (log : List (Entry K V)) (event : Event K V) (calls : List (NamedCaller V)) (e e2 : Executor K V S) (given : StaysGiven e e2)
     (any : Course V same by_hasher e.batch_size e.roots slot_of) (i map : ℕ) where
   abbrev At : (State K V S → Type 0) → Executor K V S → Known → Type 0
   At P x known = Reach same by_hasher e.hasher e.batch_size e.roots shards P x known

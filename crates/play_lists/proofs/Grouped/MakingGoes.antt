@@ -9,8 +9,8 @@ use Rattle.run_schedules.specs.Given.SeizeWordsMem.{Mem, Took, value_at}
 use Rattle.run_schedules.specs.Given.SeizeWordsOp.{Out, Exchanged, Made}
 use Rattle.run_schedules.specs.Given.SeizeWordsPlan.{Steps}
 use Rattle.run_schedules.specs.Given.SeizeWordsDeclared.fault.Fault.TheVariants.{RootsUsedUp}
-use Rattle.map_tables.specs.Given.SeizeDeclared.progress.Progress.{Progress}
-use Rattle.map_tables.specs.Given.SeizeDeclared.progress.Progress.TheVariants as progress
+use Rattle.map_tables.specs.Given.SeizeDeclared.advance.Advance.{Advance}
+use Rattle.map_tables.specs.Given.SeizeDeclared.advance.Advance.TheVariants as progress
 use Rattle.seize_acts.proofs.Given.SeizeEndsBatches.Free.{Outcomes, plan_outcome}
 use Rattle.seize_acts.proofs.Given.SeizeRuleRows.Leaving.{steps_back}
 use Rattle.map_tables.specs.Lengths.{IsTableLen}
@@ -41,7 +41,7 @@ use Rattle.run_finds.specs.Given.ExecutorIsThere.{IsThere, StaysGiven, making_in
 use Rattle.run_finds.specs.Given.ExecutorMaking.{MakesThere}
 use Rattle.run_finds.specs.Given.ExecutorMakingBegins.{MakingBegins}
 use Rattle.run_finds.specs.Given.ExecutorDeclared.executor.Executor.{Executor}
-use Rattle.run_finds.specs.Given.ExecutorDeclared.caller.Caller.{Caller}
+use Rattle.run_finds.specs.Given.ExecutorDeclared.caller.NamedCaller.{NamedCaller}
 use Rattle.many_acts.specs.Acts.Acts.{Answer, BeginsMaking, Nothing, OfMaking, StepsMaking}
 use Rattle.many_acts.specs.Acts.Doings.{Stage, reclaiming}
 use Rattle.many_acts.specs.Acts.Leads.{Led}
@@ -64,18 +64,18 @@ use Rattle.play_lists.proofs.Grouped.Midst.{InEvent, event_begins, maps_of}
 use Rattle.play_lists.proofs.Grouped.OneMore.{one_act}
 
 -- by what a step tells, a making goes on, or was refused
-abbrev pub is_on : {T : Type 0} → Progress T → Bool
+abbrev pub is_on : {T : Type 0} → Advance T → Bool
 is_on progress.Goes = true
 is_on progress.Waits = true
 is_on _ = false
 
-abbrev pub is_refused : {T : Type 0} → Progress T → Bool
+abbrev pub is_refused : {T : Type 0} → Advance T → Bool
 is_refused (progress.Refused fault) = true
 is_refused _ = false
 
 -- A making keeps the mode of its map, and with how many places that begins; and once it is refused it has no root.
 module _ (K V : Type 0) (c : NewMap) where
-  abbrev pub KeepsIts : NewMap × Progress Setting → Type 0
+  abbrev pub KeepsIts : NewMap × Advance Setting → Type 0
   KeepsIts (n, said) = (n.setting.mode ≡ c.setting.mode) × (n.len ≡ c.len) × (is_refused said ≡ true → has_root n.stands ≡ false)
 
   next_keeps : (t : Bool) → KeepsIts (if t then (record c { setting = new_map.at_root c.setting (c.setting.root + 1) }, progress.Goes) else new_map.refused c RootsUsedUp)
@@ -99,13 +99,13 @@ module _ (K V : Type 0) (c : NewMap) where
   made_keeps (Made (Err value)) = (refl, refl, λ r. absurd (cc r))
   made_keeps _ = (refl, refl, λ r. absurd (cc r))
 
-  opened_keeps : (making : NewTable) (said : Progress Table) → KeepsIts (new_map.opened c (making, said))
+  opened_keeps : (making : NewTable) (said : Advance Table) → KeepsIts (new_map.opened c (making, said))
   opened_keeps making progress.Goes = (refl, refl, λ r. absurd (cc r))
   opened_keeps making progress.Waits = (refl, refl, λ r. absurd (cc r))
   opened_keeps making (progress.Done table) = (refl, refl, λ r. absurd (cc r))
   opened_keeps making (progress.Refused fault) = (refl, refl, λ r. absurd (cc r))
 
-  steps_keep : (mem mem2 : Mem (Node K V)) (p : Opening) → c.stands ≡ p → (end : NewMap × Progress Setting) → Steps Took value_at mem (new_map.plan_at {K = K} {V = V} c p) mem2 end → KeepsIts end
+  steps_keep : (mem mem2 : Mem (Node K V)) (p : Opening) → c.stands ≡ p → (end : NewMap × Advance Setting) → Steps Took value_at mem (new_map.plan_at {K = K} {V = V} c p) mem2 end → KeepsIts end
   steps_keep mem mem2 at.Takes e end st = plan_outcome KeepsIts mem mem2 (new_map.takes c) end taken_keeps st
   steps_keep mem mem2 at.Shards e end st = plan_outcome KeepsIts mem mem2 (new_map.shards c) end made_keeps st
   steps_keep mem mem2 (at.Tables making) e end st =
@@ -116,7 +116,7 @@ module _ (K V : Type 0) (c : NewMap) where
   steps_keep mem mem2 (at.Refused fault) e end st =
       plan_outcome KeepsIts mem mem2 (new_map.plan_at {K = K} {V = V} c (at.Refused fault)) end (refl, refl, λ r. ap has_root e) st
 
-  pub making_keeps : (g : Grant) (mem mem2 : Mem (Node K V)) (end : NewMap × Progress Setting) → stepped mem g (new_map.new_map_plan {K = K} {V = V} c) ≡ Some (mem2, end) → KeepsIts end
+  pub making_keeps : (g : Grant) (mem mem2 : Mem (Node K V)) (end : NewMap × Advance Setting) → stepped mem g (new_map.new_map_plan {K = K} {V = V} c) ≡ Some (mem2, end) → KeepsIts end
   making_keeps g mem mem2 end is = steps_keep mem mem2 c.stands refl end (was_stepped mem g (new_map.new_map_plan {K = K} {V = V} c) (mem2, end) is)
 
 module _ (K V : Type 0) where
@@ -156,17 +156,17 @@ module _ {K V S : Type 0} (i made : ℕ) (mode : ResizeMode) (places : ℕ) wher
     pub places_are : it.machine.len ≡ places
 
   -- so it is after a step that told this, if it goes on; and if it was refused its number is not taken
-  abbrev pub MakesThen : Progress Setting → State K V S → Type 0
+  abbrev pub MakesThen : Advance Setting → State K V S → Type 0
   MakesThen said x = (is_on said ≡ true → MakesSo x) × (is_refused said ≡ true → is_taken made x.history ≡ false)
 
   -- what is so of a making that goes on
-  made_then : (it : Making S) (next : NewMap) (said : Progress Setting) (now : Now K V S) → is_on said ≡ true → (made_on i it next said now).makers i ≡ Some (record it { machine = next })
+  made_then : (it : Making S) (next : NewMap) (said : Advance Setting) (now : Now K V S) → is_on said ≡ true → (made_on i it next said now).makers i ≡ Some (record it { machine = next })
   made_then it next progress.Goes now on = at_same now.makers i (Some (record it { machine = next })) i refl
   made_then it next progress.Waits now on = at_same now.makers i (Some (record it { machine = next })) i refl
   made_then it next (progress.Done setting) now on = absurd (cc on)
   made_then it next (progress.Refused fault) now on = absurd (cc on)
 
-module _ {K V S : Type 0} (same : K → K → Bool) (by_hasher : S → K → ℕ) (shards : ℕ) (log : List (Entry K V)) (event : Event K V) (one : maps_of event ≡ 1) (calls : List (Caller V)) (e e2 : Executor K V S) (given : StaysGiven e e2)
+module _ {K V S : Type 0} (same : K → K → Bool) (by_hasher : S → K → ℕ) (shards : ℕ) (log : List (Entry K V)) (event : Event K V) (one : maps_of event ≡ 1) (calls : List (NamedCaller V)) (e e2 : Executor K V S) (given : StaysGiven e e2)
     (i : ℕ) (mode : ResizeMode) (places : ℕ) where
   abbrev At : (State K V S → Type 0) → Executor K V S → Known → Type 0
   At P x known = Reach same by_hasher e.hasher e.batch_size e.roots shards P x known
@@ -193,7 +193,7 @@ module _ {K V S : Type 0} (same : K → K → Bool) (by_hasher : S → K → ℕ
       ))) at
 
   -- Its step, which said this: its entry is one of the event; and the executor is there then as it is in the end.
-  module _ (map : ℕ) (map_is : map ≡ (moment log).made) (opening : NewMap) (has : making_in (work_of e i) ≡ Some (map, opening)) (said : Progress Setting)
+  module _ (map : ℕ) (map_is : map ≡ (moment log).made) (opening : NewMap) (has : making_in (work_of e i) ≡ Some (map, opening)) (said : Advance Setting)
       (leads : (s : Scene K V) → IsThere same (by_hasher e.hasher) e s → MakesThere same (by_hasher e.hasher) i said s e e2) (e3 : Executor K V S) (given3 : StaysGiven e e3)
       (lasts : (s n : Scene K V) → IsThere same (by_hasher e.hasher) e s → (g : Grant) → Led same by_hasher e.batch_size e.roots slot_of (StepsMaking i g) s (OfMaking said) n → IsThere same (by_hasher e.hasher) e2 n
       → IsThere same (by_hasher e.hasher) e3 n) (did did2 : List Effect) (noted noted2 : Known)
@@ -275,13 +275,13 @@ module _ {K V S : Type 0} (same : K → K → Bool) (by_hasher : S → K → ℕ
           same_some (led.0.map, led.0.machine) (map, opening) (sym (ap (option_map (λ (b : Beginning K). (b.map, b.machine))) led.1) ∙ there.makers i ∙ has) in
           let tied = making_tied same by_hasher e.batch_size e.roots aborts p.0 act.0.to (rows_beside (reclaiming V same by_hasher e.batch_size e.roots slot_of p) p.0.world.row) x y stage.scene i g led.0 led.1
           (led.2, (led.3, led.4)) led.5 (played_as same by_hasher e.batch_size e.roots aborts x y (StepsMaking i g) played) in
-          let end : ◌≡◌ {A = Mem (Node K V) × (NewMap × Progress Setting)} (led.2, (led.3, led.4)) (e2.memory.memory, (next_machine, said)) =
+          let end : ◌≡◌ {A = Mem (Node K V) × (NewMap × Advance Setting)} (led.2, (led.3, led.4)) (e2.memory.memory, (next_machine, said)) =
           same_some (led.2, (led.3, led.4)) (e2.memory.memory, (next_machine, said))
           (sym led.5 ∙ ap (λ (q : ℕ × NewMap). stepped p.0.world.memory g (new_map.new_map_plan {K = K} {V = V} q.1)) its
           ∙ ap (λ (m : Mem (Node K V)). stepped m g (new_map.new_map_plan {K = K} {V = V} opening)) there.held.memory ∙ computed.1.0) in
           let comes : y ≡ making_stepped i tied.it e2.memory.changed x (e2.memory.memory, (next_machine, said)) =
           tied.comes ∙ ap (λ (k : Changed). making_stepped i tied.it k x (led.2, (led.3, led.4))) act.1
-          ∙ ap (λ (q : Mem (Node K V) × (NewMap × Progress Setting)). making_stepped i tied.it e2.memory.changed x q) end in
+          ∙ ap (λ (q : Mem (Node K V) × (NewMap × Advance Setting)). making_stepped i tied.it e2.memory.changed x q) end in
           by_it x y so tied.it tied.here (ap (λ (q : ℕ × ((K → ℕ) × NewMap)). q.0) tied.its ∙ ap (λ (q : ℕ × NewMap). q.0) its)
           (ap (λ (q : ℕ × ((K → ℕ) × NewMap)). q.1.1) tied.its ∙ ap (λ (q : ℕ × NewMap). q.1) its) comes knows
 

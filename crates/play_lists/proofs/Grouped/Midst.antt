@@ -10,7 +10,7 @@ use Rattle.run_schedules.specs.declared.outcome.Outcome.{Outcome}
 use Rattle.run_schedules.specs.declared.outcome.Outcome.TheVariants.{Refused}
 use Rattle.run_schedules.specs.Schedules.After.{moment}
 use Rattle.run_schedules.specs.Schedules.Entry.{Entry}
-use Rattle.run_finds.specs.Given.ExecutorDeclared.caller.Caller.{Caller}
+use Rattle.run_finds.specs.Given.ExecutorDeclared.caller.NamedCaller.{NamedCaller}
 use Rattle.run_schedules.specs.Deeds.Deeds.{Deed, Begins, Steps, Replies, Stops, Registers, Opens, Shuts, Leaves, Tends, MapComes, Makes, MapFails, Ends, MapGoes, ReclaimsAll, Entry as Act}
 use Rattle.play_lists.specs.Agrees.Fresh.{comes_with, gives_back, is_taken}
 use Rattle.play_lists.specs.Played.Play.{State}
@@ -27,7 +27,7 @@ maps_of (event.MakeMap name mode capacity) = 1
 maps_of _ = 0
 
 -- The event has done this so far, by so many steps of a call, and the last one came to this; callers are as they were played.
-pub record InEvent {K V S : Type 0} (log : List (Entry K V)) (event : Event K V) (did : List Effect) (steps : ℕ) (outcome : Outcome V) (calls : List (Caller V)) (x : State K V S) : Type 0 where
+pub record InEvent {K V S : Type 0} (log : List (Entry K V)) (event : Event K V) (did : List Effect) (steps : ℕ) (outcome : Outcome V) (calls : List (NamedCaller V)) (x : State K V S) : Type 0 where
   pub known : Names
   pub before : List (Act K V)
   pub grouping : IsGroupingOf log before known
@@ -68,12 +68,12 @@ step_comes n (ReclaimsAll last) is = refl
 
 module _ {K V S : Type 0} (log : List (Entry K V)) (event : Event K V) where
   -- it begins with nothing done, as if it were to be refused
-  abbrev pub event_begins : (outcome : Outcome V) → refuses outcome ≡ true → (calls : List (Caller V)) (x : State K V S) → PlaysSo log calls x → InEvent log event [] 0 outcome calls x
+  abbrev pub event_begins : (outcome : Outcome V) → refuses outcome ≡ true → (calls : List (NamedCaller V)) (x : State K V S) → PlaysSo log calls x → InEvent log event [] 0 outcome calls x
   event_begins outcome refused calls x so =
       record { known = so.names; before = x.history; grouping = so.grouping; piece = []; history = refl; effects = refl; counts = refl; comes = inl refused; deeds = tt; callers = so.callers; fresh = λ n l. so.fresh n (omega (arith, l)) }
 
   -- and ends as an entry of the log, where the numbers that are to come then are not taken,
-  pub event_ends_so : (did : List Effect) (steps : ℕ) (outcome : Outcome V) (calls : List (Caller V)) (x : State K V S)
+  pub event_ends_so : (did : List Effect) (steps : ℕ) (outcome : Outcome V) (calls : List (NamedCaller V)) (x : State K V S)
       → ((n : ℕ) → (moment (record { event = event; outcome = outcome; steps = steps; effects = did } ∷ log)).made ≤ n → is_taken n x.history ≡ false) → InEvent log event did steps outcome calls x
       → PlaysSo (record { event = event; outcome = outcome; steps = steps; effects = did } ∷ log) calls x
   event_ends_so did steps outcome calls x fresh so = record {
@@ -84,12 +84,12 @@ module _ {K V S : Type 0} (log : List (Entry K V)) (event : Event K V) where
   }
 
   -- as they are not where as many more maps have come as it may make
-  pub event_ends : (did : List Effect) (steps : ℕ) (outcome : Outcome V) (calls : List (Caller V)) (x : State K V S)
+  pub event_ends : (did : List Effect) (steps : ℕ) (outcome : Outcome V) (calls : List (NamedCaller V)) (x : State K V S)
       → (moment log).made + maps_of event ≤ (moment (record { event = event; outcome = outcome; steps = steps; effects = did } ∷ log)).made → InEvent log event did steps outcome calls x
       → PlaysSo (record { event = event; outcome = outcome; steps = steps; effects = did } ∷ log) calls x
   event_ends did steps outcome calls x later so = event_ends_so did steps outcome calls x (λ n l. so.fresh n (omega (arith, l, later))) so
 
-  module _ (did : List Effect) (steps : ℕ) (outcome : Outcome V) (calls calls2 : List (Caller V)) (x y : State K V S) (so : InEvent log event did steps outcome calls x) (entry : Act K V)
+  module _ (did : List Effect) (steps : ℕ) (outcome : Outcome V) (calls calls2 : List (NamedCaller V)) (x y : State K V S) (so : InEvent log event did steps outcome calls x) (entry : Act K V)
       (history : y.history ≡ entry ∷ x.history) where
     abbrev names : Names
     names = names_after event so.piece so.known

@@ -6,7 +6,7 @@ use Rattle.seize_acts.specs.Acts.Answers.{Grant}
 use Rattle.seize_acts.proofs.Acts.Answers.{same_some}
 use Rattle.run_schedules.specs.Given.SeizeWordsMem.{Mem}
 use Rattle.map_tables.specs.Given.SeizeWorld.{Row}
-use Rattle.map_tables.specs.Given.SeizeDeclared.progress.Progress.{Progress}
+use Rattle.map_tables.specs.Given.SeizeDeclared.advance.Advance.{Advance}
 use Rattle.map_tables.specs.Given.SeizeDeclared.rows.enter.Enter.{Enter}
 use Rattle.map_tables.specs.Given.SeizeDeclared.rows.enter.Unregister.{Unregister}
 use Rattle.map_tables.specs.Given.SeizeDeclared.rows.leave.Leave.{Leave}
@@ -38,7 +38,7 @@ use Rattle.run_finds.specs.Given.ExecutorOnSlots.{MayBegin, RowBeginsThere, RowS
 use Rattle.run_finds.specs.Given.ExecutorDeclared.executor.Executor.{Executor}
 use Rattle.run_finds.specs.Given.ExecutorDeclared.worker.Work.{Work}
 use Rattle.run_finds.specs.Given.ExecutorDeclared.worker.Work.TheVariants as work
-use Rattle.run_finds.specs.Given.ExecutorDeclared.caller.Caller.{Caller}
+use Rattle.run_finds.specs.Given.ExecutorDeclared.caller.NamedCaller.{NamedCaller}
 use Rattle.many_acts.specs.Acts.Acts.{BeginsRow, Nothing, StepsRow}
 use Rattle.many_acts.specs.Acts.AsSteps.{row_changed}
 use Rattle.many_acts.specs.Acts.Doings.{Stage, reclaiming}
@@ -70,13 +70,13 @@ module _ {K V S : Type 0} (e e2 : Executor K V S) where
       → (after : SlotRow) × (slot_row_steps row g e.memory.memory ≡ Some (e2.memory.memory, (after, said))) × (row_changed (row_of row) g e.memory.memory ≡ e2.memory.changed)
   row_computed (rows.Registers c) said g (end, is, tells) = (
     rows.Registers end.0,
-    ap (option_map (λ (p : Mem (Node K V) × (Register × Progress ℕ)). (p.0, (rows.Registers p.1.0, of_registering p.1.1)))) is.0
+    ap (option_map (λ (p : Mem (Node K V) × (Register × Advance ℕ)). (p.0, (rows.Registers p.1.0, of_registering p.1.1)))) is.0
         ∙ ap (λ (t : RowTold (Node K V)). Some (e2.memory.memory, (rows.Registers end.0, t))) (sym tells),
     is.1,
   )
   row_computed (rows.Enters c) said g (end, is, tells) = (
     rows.Enters end.0,
-    ap (option_map (λ (p : Mem (Node K V) × (Enter × Progress Unit)). (p.0, (rows.Enters p.1.0, of_storing p.1.1)))) is.0
+    ap (option_map (λ (p : Mem (Node K V) × (Enter × Advance Unit)). (p.0, (rows.Enters p.1.0, of_storing p.1.1)))) is.0
         ∙ ap (λ (t : RowTold (Node K V)). Some (e2.memory.memory, (rows.Enters end.0, t))) (sym tells),
     is.1,
   )
@@ -94,12 +94,12 @@ module _ {K V S : Type 0} (e e2 : Executor K V S) where
   )
   row_computed (rows.Frees c) said g (end, is, tells) = (
     rows.Frees end.0,
-    ap (option_map (λ (p : Mem (Node K V) × (Unregister × Progress Unit)). (p.0, (rows.Frees p.1.0, of_storing p.1.1)))) is.0
+    ap (option_map (λ (p : Mem (Node K V) × (Unregister × Advance Unit)). (p.0, (rows.Frees p.1.0, of_storing p.1.1)))) is.0
         ∙ ap (λ (t : RowTold (Node K V)). Some (e2.memory.memory, (rows.Frees end.0, t))) (sym tells),
     is.1,
   )
 
-module _ {K V S : Type 0} (same : K → K → Bool) (by_hasher : S → K → ℕ) (shards : ℕ) (log : List (Entry K V)) (event : Event K V) (calls : List (Caller V)) (e e2 : Executor K V S) (given : StaysGiven e e2)
+module _ {K V S : Type 0} (same : K → K → Bool) (by_hasher : S → K → ℕ) (shards : ℕ) (log : List (Entry K V)) (event : Event K V) (calls : List (NamedCaller V)) (e e2 : Executor K V S) (given : StaysGiven e e2)
     (any : Course V same by_hasher e.batch_size e.roots slot_of) (i : ℕ) where
   abbrev At : (did : List Effect) → Outcome V → Executor K V S → Known → Type 0
   At did outcome x known = Reach same by_hasher e.hasher e.batch_size e.roots shards (λ (s : State K V S). InEvent log event did 0 outcome calls s) x known

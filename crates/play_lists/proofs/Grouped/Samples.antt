@@ -2,7 +2,7 @@
 use Rattle.std.proofs.Common.{◌≡◌, ℕ, Bool, true, false, inl, inr, List, [], ◌∷◌, refl, Some, None}
 use Rattle.std.specs.Prelude.{◌⊎◌, Option}
 use Rattle.map_tables.specs.declared.resize_mode.ResizeMode.TheVariants.{Incremental}
-use Rattle.run_schedules.specs.declared.call.Answer.TheVariants.{Absent}
+use Rattle.run_schedules.specs.declared.call.Response.TheVariants.{Absent}
 use Rattle.run_schedules.specs.declared.call.Call.TheVariants.{On}
 use Rattle.run_schedules.specs.declared.call.OneKey.TheVariants.{Get}
 use Rattle.run_schedules.specs.declared.effect.Effect.{Effect}

@@ -5,7 +5,7 @@ use Rattle.std.proofs.lemmas.Bool.{eq-eqb}
 use Rattle.run_schedules.specs.declared.effect.Effect.{Effect}
 use Rattle.run_schedules.specs.declared.effect.Effect.TheVariants as effect
 use Rattle.run_schedules.specs.declared.effect.Spot.{Spot}
-use Rattle.run_schedules.specs.declared.effect.Table.{Table}
+use Rattle.run_schedules.specs.declared.effect.TableId.{TableId}
 use Rattle.run_schedules.specs.Schedules.Effects.{with_effect}
 use Rattle.run_schedules.specs.Schedules.Lists.{is_among}
 use Rattle.run_schedules.specs.Schedules.Moment.{GivenBack, InMap, IsTaken, Left, MapThere, Moment, Place, TableThere}
@@ -68,7 +68,7 @@ module _ {K V : Type 0} (map : ℕ) where
         spots k false e = alike.spots k e
 
     -- and so is a table, with no pair in the map
-    table_alike : (t : Table) → ((k : ℕ) → is_in_map map (m.place k) ≡ false) → AlikeOf map (ended (effect.Taken t) m) (ended (effect.Taken t) v)
+    table_alike : (t : TableId) → ((k : ℕ) → is_in_map map (m.place k) ≡ false) → AlikeOf map (ended (effect.Taken t) m) (ended (effect.Taken t) v)
     table_alike t none = record {
       pairs = λ k. out v k (alike.pairs k ∙ none k) (is_among k (behind t v.deferred)) ∙ sym (out m k (none k) (is_among k (behind t m.deferred)));
       spots = λ k e. absurd (let gone = out m k (none k) (is_among k (behind t m.deferred)) in cc (gone, e));

@@ -12,7 +12,7 @@ use Rattle.many_acts.specs.Given.FinishesOrders.{pairs_of}
 use Rattle.many_acts.proofs.Given.FinishesEnds.CountedBlocks.{some_here, some_last, some_of_first, times-append}
 use Rattle.run_schedules.specs.declared.effect.Effect.{Effect}
 use Rattle.run_schedules.specs.declared.effect.Effect.TheVariants.{Ended, Taken}
-use Rattle.run_schedules.specs.declared.effect.Table.{Table}
+use Rattle.run_schedules.specs.declared.effect.TableId.{TableId}
 use Rattle.run_schedules.specs.Schedules.After.{tables_taken}
 use Rattle.run_schedules.specs.Schedules.Handing.{in_order}
 use Rattle.run_schedules.specs.Schedules.Moment.{GivenBack, InMap, IsLinked, IsTaken, Left, MapThere, Moment, Stage, TableThere}
@@ -135,21 +135,21 @@ module _ {K V : Type 0} (of : ℕ) (number : ℕ → ℕ) where
 
 -- tables, from this one on
 module _ (of : ℕ) where
-  abbrev turns : ℕ → ℕ → List Table
+  abbrev turns : ℕ → ℕ → List TableId
   turns t more = flat_map tables_taken (tables_ended of t more)
 
-  abbrev tables : List TableThere → List Table
+  abbrev tables : List TableThere → List TableId
   tables us = map (λ (u : TableThere). u.table) us
 
   none_of : (us : List TableThere) → tables us ≡ [] → us ≡ []
   none_of [] e = refl
   none_of (u ∷ us) e = absurd (cc e)
 
-  first_is : (us : List TableThere) (t : Table) (rest : List Table) → tables us ≡ t ∷ rest → is_first_of t us ≡ true
+  first_is : (us : List TableThere) (t : TableId) (rest : List TableId) → tables us ≡ t ∷ rest → is_first_of t us ≡ true
   first_is [] t rest e = absurd (cc e)
-  first_is (u ∷ us) t rest e = let its : u.table ≡ t = (cc e) in ap (λ (x : Table). same_table x t) its ∙ same_itself t
+  first_is (u ∷ us) t rest e = let its : u.table ≡ t = (cc e) in ap (λ (x : TableId). same_table x t) its ∙ same_itself t
 
-  kept_tables : (t : Table) (us : List TableThere) → tables (filter (λ u. not (same_table u.table t)) us) ≡ filter (λ x. not (same_table x t)) (tables us)
+  kept_tables : (t : TableId) (us : List TableThere) → tables (filter (λ u. not (same_table u.table t)) us) ≡ filter (λ x. not (same_table x t)) (tables us)
   kept_tables t [] = refl
   kept_tables t (u ∷ us) = by (same_table u.table t) (kept_tables t us)
     where
@@ -157,7 +157,7 @@ module _ (of : ℕ) where
           → tables (cond (not q) (u ∷ filter (λ v. not (same_table v.table t)) us) (filter (λ v. not (same_table v.table t)) us))
           ≡ cond (not q) (u.table ∷ filter (λ x. not (same_table x t)) (tables us)) (filter (λ x. not (same_table x t)) (tables us))
       by true rest = rest
-      by false rest = ap (λ (l : List Table). u.table ∷ l) rest
+      by false rest = ap (λ (l : List TableId). u.table ∷ l) rest
 
   not_same : (t u : ℕ) → t < u → same_table (table_of of u) (table_of of t) ≡ false
   not_same t u less = by (same_table (table_of of u) (table_of of t)) refl
@@ -170,7 +170,7 @@ module _ (of : ℕ) where
   later_kept t u zero less = refl
   later_kept t u (suc more) less =
       ap (λ (q : Bool). cond (not q) (table_of of u ∷ filter (λ x. not (same_table x (table_of of t))) (turns (suc u) more)) (filter (λ x. not (same_table x (table_of of t))) (turns (suc u) more))) (not_same t u less)
-      ∙ ap (λ (l : List Table). table_of of u ∷ l) (later_kept t (suc u) more (omega (arith, less)))
+      ∙ ap (λ (l : List TableId). table_of of u ∷ l) (later_kept t (suc u) more (omega (arith, less)))
 
   without_first : (t more : ℕ) → filter (λ x. not (same_table x (table_of of t))) (turns t (suc more)) ≡ turns (suc t) more
   without_first t more =

@@ -9,7 +9,7 @@ use Rattle.map_tables.specs.declared.node.Node.{Node}
 use Rattle.many_acts.specs.Given.CallersTogether.{UnderWay}
 use Rattle.run_schedules.specs.declared.effect.Effect.{Effect}
 use Rattle.run_schedules.specs.declared.effect.Effect.TheVariants as effect
-use Rattle.run_schedules.specs.declared.effect.Table.{Table}
+use Rattle.run_schedules.specs.declared.effect.TableId.{TableId}
 use Rattle.run_schedules.specs.declared.effect.Thing.TheVariants.{APair, ATable}
 use Rattle.run_schedules.specs.Schedules.Effects.{AtEachEffect, is_chunked, with_effect}
 use Rattle.run_schedules.specs.Schedules.Entry.{ByCall, acting}
@@ -60,7 +60,7 @@ module _ {K V : Type 0} (map : ℕ) where
       (recursion_from_All (λ u. stands map (first_of map m) u ≡ true) (filter (stands map (first_of map m)) m.tables) (filter_passes (stands map (first_of map m)) m.tables))
 
   -- so one that the root has passed is none of them
-  passed_apart : (m : Moment K V) (g : MapThere) → map_at map m ≡ Some g → (t : Table) → ((there : MapThere) → map_at t.map m ≡ Some there → t.turn < there.first)
+  passed_apart : (m : Moment K V) (g : MapThere) → map_at map m ≡ Some g → (t : TableId) → ((there : MapThere) → map_at t.map m ≡ Some there → t.turn < there.first)
       → AllByRecursion (λ u. same_table u.table t ≡ false) (left_tables map m)
   passed_apart m g there t passed = each (left_tables map m) (left_its m)
     where

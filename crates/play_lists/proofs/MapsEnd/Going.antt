@@ -6,7 +6,7 @@ use Rattle.map_tables.specs.Given.SeizeWorld.{times}
 use Rattle.many_acts.proofs.Given.FinishesEnds.CountedBlocks.{some_here, some_last}
 use Rattle.many_acts.specs.Given.FinishesEndings.{Finishing}
 use Rattle.run_schedules.specs.declared.effect.Effect.{Effect}
-use Rattle.run_schedules.specs.declared.effect.Table.{Table}
+use Rattle.run_schedules.specs.declared.effect.TableId.{TableId}
 use Rattle.run_schedules.specs.Schedules.Effects.{AtEachEffect, with_effects}
 use Rattle.run_schedules.specs.Schedules.Moment.{Moment, TableThere}
 use Rattle.run_schedules.specs.Schedules.Things.{same_table}
@@ -54,7 +54,7 @@ module _ {K V : Type 0} (map : ℕ) (f : Finishing K V) (known : Known) (m : Mom
 
   -- Whoever takes a block away that is none of these spares the map.
   module _ (blocks_once : (b d n : ℕ) → known.roles b ≡ role.Pair n → known.roles d ≡ role.Pair n → b ≡ d)
-      (tables_once : (b d len len2 : ℕ) (t : Table) → known.roles b ≡ role.Table t len → known.roles d ≡ role.Table t len2 → b ≡ d) (outside : WaitOutside m)
+      (tables_once : (b d len len2 : ℕ) (t : TableId) → known.roles b ≡ role.Table t len → known.roles d ≡ role.Table t len2 → b ≡ d) (outside : WaitOutside m)
       (b : ℕ) (apart : 0 < times b so.rest → ⊥) where
     -- a pair that it held is not in the map
     pub pair_out : (k : ℕ) → known.roles b ≡ role.Pair k → IsOut map m k
@@ -67,7 +67,7 @@ module _ {K V : Type 0} (map : ℕ) (f : Finishing K V) (known : Known) (m : Mom
             apart (subst (λ (x : ℕ). 0 < times x so.rest) (blocks_once it.0 b k it.2 is) it.1))
 
     -- nor is a table that it was one of those from its root on
-    pub table_other : (t : Table) (len : ℕ) → known.roles b ≡ role.Table t len → IsOther map m t
+    pub table_other : (t : TableId) (len : ℕ) → known.roles b ≡ role.Table t len → IsOther map m t
     table_other t len is = record {
       apart = each (left_tables map m) (table_ends map (ended_as map known so.rest) m so.well);
       behind_it = λ k among. not_in map (m.place k) (each_waits_outside K V m outside t k among);
@@ -80,7 +80,7 @@ module _ {K V : Type 0} (map : ℕ) (f : Finishing K V) (known : Known) (m : Mom
             by false e = e
             by true e =
                 absurd (let it = table_noted map known u.table so.rest takes in
-                let its : known.roles it.0 ≡ role.Table t it.2.0 = it.2.1 ∙ ap (λ (x : Table). role.Table x it.2.0) (table_is u.table t e) in
+                let its : known.roles it.0 ≡ role.Table t it.2.0 = it.2.1 ∙ ap (λ (x : TableId). role.Table x it.2.0) (table_is u.table t e) in
                 apart (subst (λ (x : ℕ). 0 < times x so.rest) (tables_once it.0 b it.2.0 len t its is) it.1))
 
         each : (us : List TableThere) → AllByRecursion (λ u. Takes map u.table (ended_as map known so.rest)) us → AllByRecursion (λ u. same_table u.table t ≡ false) us

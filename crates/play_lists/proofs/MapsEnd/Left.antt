@@ -4,7 +4,7 @@ use Rattle.std.specs.List.{AllByRecursion}
 use Rattle.std.proofs.Common.{refl, ap, sym, ◌∙◌}
 use Rattle.std.proofs.lemmas.List.{append-nil}
 use Rattle.std.proofs.lemmas.List.Elements.{filter-append}
-use Rattle.run_schedules.specs.declared.effect.Table.{Table}
+use Rattle.run_schedules.specs.declared.effect.TableId.{TableId}
 use Rattle.run_schedules.specs.Schedules.Effects.{at_stage}
 use Rattle.run_schedules.specs.Schedules.Moment.{Stage, TableThere}
 use Rattle.run_schedules.specs.Schedules.Things.{same_table}
@@ -38,7 +38,7 @@ module _ (of first : ℕ) where
       ∙ both_kept (λ u. nat_le first u.table.turn && is_linked u.stage) (λ u. u.table.map == of) us
 
   -- of a table that comes to a stage at which it is not linked
-  module _ (t : Table) (stage : Stage) (gone : is_linked stage ≡ false) where
+  module _ (t : TableId) (stage : Stage) (gone : is_linked stage ≡ false) where
     abbrev staged : TableThere → TableThere
     staged = at_stage t stage
 

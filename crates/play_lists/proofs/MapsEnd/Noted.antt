@@ -6,7 +6,7 @@ use Rattle.map_tables.specs.Given.SeizeWorld.{times}
 use Rattle.many_acts.proofs.Given.FinishesEnds.CountedBlocks.{some_here, some_last}
 use Rattle.run_schedules.specs.declared.effect.Effect.{Effect}
 use Rattle.run_schedules.specs.declared.effect.Effect.TheVariants.{Ended, Taken}
-use Rattle.run_schedules.specs.declared.effect.Table.{Table}
+use Rattle.run_schedules.specs.declared.effect.TableId.{TableId}
 use Rattle.run_schedules.specs.Schedules.Lists.{OneOf}
 use Rattle.run_schedules.specs.Schedules.Moment.{GivenBack, IsTaken, Moment}
 use Rattle.run_schedules.specs.Schedules.Things.{same_table}
@@ -51,7 +51,7 @@ module _ (map : ℕ) where
   abbrev pub Ends : ℕ → List Effect → Type 0
   Ends k effects = OneOf (λ f. f ≡ Ended k) effects
 
-  abbrev pub Takes : Table → List Effect → Type 0
+  abbrev pub Takes : TableId → List Effect → Type 0
   Takes t effects = OneOf (λ f. f ≡ Taken t) effects
 
   module _ {K V : Type 0} where
@@ -103,8 +103,8 @@ module _ (map : ℕ) where
     pair_taken role.Free k none = absurd none
     pair_taken (role.Counter of) k none = absurd none
 
-    table_taken : (r : Role) (t : Table) → Takes t (its r) → (len : ℕ) × (r ≡ role.Table t len)
-    table_taken (role.Table u len) t (inl e) = let same : u ≡ t = (cc e) in (len, ap (λ (x : Table). role.Table x len) same)
+    table_taken : (r : Role) (t : TableId) → Takes t (its r) → (len : ℕ) × (r ≡ role.Table t len)
+    table_taken (role.Table u len) t (inl e) = let same : u ≡ t = (cc e) in (len, ap (λ (x : TableId). role.Table x len) same)
     table_taken (role.Table u len) t (inr none) = absurd none
     table_taken (role.Pair n) t (inl e) = absurd (cc e)
     table_taken (role.Pair n) t (inr none) = absurd none
@@ -124,7 +124,7 @@ module _ (map : ℕ) where
         by (inl here) rest = (b, some_here b blocks, pair_taken (known.roles b) k here)
         by (inr later) rest = let it = rest later in (it.0, some_last it.0 (b ∷ []) blocks it.1, it.2)
 
-    pub table_noted : (t : Table) (blocks : List ℕ) → Takes t (ended_as map known blocks) → (x : ℕ) × (0 < times x blocks) × ((len : ℕ) × (known.roles x ≡ role.Table t len))
+    pub table_noted : (t : TableId) (blocks : List ℕ) → Takes t (ended_as map known blocks) → (x : ℕ) × (0 < times x blocks) × ((len : ℕ) × (known.roles x ≡ role.Table t len))
     table_noted t [] none = absurd none
     table_noted t (b ∷ blocks) one = by (one_of_two (λ f. f ≡ Taken t) (its (known.roles b)) (ended_as map known blocks) one) (table_noted t blocks)
       where

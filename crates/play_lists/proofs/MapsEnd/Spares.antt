@@ -5,7 +5,7 @@ use Rattle.std.proofs.lemmas.Bool.{ne_eqb}
 use Rattle.run_schedules.specs.declared.effect.Effect.{Effect}
 use Rattle.run_schedules.specs.declared.effect.Effect.TheVariants as effect
 use Rattle.run_schedules.specs.declared.effect.Spot.{Spot}
-use Rattle.run_schedules.specs.declared.effect.Table.{Table}
+use Rattle.run_schedules.specs.declared.effect.TableId.{TableId}
 use Rattle.run_schedules.specs.declared.effect.Thing.TheVariants.{APair, ATable}
 use Rattle.run_schedules.specs.Schedules.Effects.{AtEachEffect, all_at, in_map, is_chunked, new_pair, spot_by, stored_by, with_effect, with_effects}
 use Rattle.run_schedules.specs.Schedules.Entry.{acting}
@@ -34,7 +34,7 @@ module _ {K V : Type 0} (map : ℕ) (m : Moment K V) (stored : AreStored map m) 
       by true e = none ∙ sym (ap (λ (x : ℕ). is_in_map map (m.place x)) (eqb-true k n e) ∙ out)
       by false e = refl
 
-  all_out : (t : Table) (p : Place) → ((k : ℕ) → is_among k (behind t m.deferred) ≡ true → IsOut map m k) → is_in_map map p ≡ false → (k : ℕ)
+  all_out : (t : TableId) (p : Place) → ((k : ℕ) → is_among k (behind t m.deferred) ≡ true → IsOut map m k) → is_in_map map p ≡ false → (k : ℕ)
       → is_in_map map (all_at p (behind t m.deferred) m.place k) ≡ is_in_map map (m.place k)
   all_out t p out none k = by (is_among k (behind t m.deferred)) refl
     where
@@ -53,7 +53,7 @@ module _ {K V : Type 0} (map : ℕ) (m : Moment K V) (stored : AreStored map m) 
   copied_spots true n s out k is = put_elsewhere n _ m.spot k (other_pair n k (out refl) is)
   copied_spots false n s out k is = refl
 
-  promoted_spots : (q : Bool) (t : Table) → t.map ≢ map → (k : ℕ) → is_in_map map (m.place k) ≡ true → spot_by q m.place m.copy (effect.Promoted t) m.spot k ≡ m.spot k
+  promoted_spots : (q : Bool) (t : TableId) → t.map ≢ map → (k : ℕ) → is_in_map map (m.place k) ≡ true → spot_by q m.place m.copy (effect.Promoted t) m.spot k ≡ m.spot k
   promoted_spots true t other k is = refl
   promoted_spots false t other k is =
       let not : is_in_map t.map (m.place k) ≡ false = ap (is_in_map t.map) (in_map_of map (m.place k) is) ∙ ne_eqb t.map map other in

@@ -12,7 +12,7 @@ use Rattle.map_tables.specs.declared.node.Node.{Node}
 use Rattle.map_tables.specs.declared.setting.Setting.{Setting}
 use Rattle.run_logged.specs.Given.ReservesDeclared.sweep.Purpose.TheVariants as purpose
 use Rattle.run_logged.specs.Given.RawMachine.{machine_plan, machine_replied, machine_asked}
-use Rattle.run_logged.specs.Given.RawDeclared.machines.asking.Reply.{Reply}
+use Rattle.run_logged.specs.Given.RawDeclared.machines.asking.MachineReply.{MachineReply}
 use Rattle.run_logged.specs.Given.RawDeclared.machines.machine.Machine.{Machine}
 use Rattle.run_logged.specs.Given.RawDeclared.machines.progress.Progress.{Progress}
 use Rattle.many_acts.specs.Given.CallersTogether.{UnderWay, in_slot}
@@ -183,7 +183,7 @@ module _ {K V S : Type 0} (same : K → K → Bool) (hash : S → K → ℕ) (ba
             )
 
       -- what it is told, and asked for, and that it is given up
-      pub tells : (reply : Reply V) (told : Answer K V) → Led same hash batch_size roots slot_of (TellsCall i m reply) s told n → Plays (TellsCall i m reply) told
+      pub tells : (reply : MachineReply V) (told : Answer K V) → Led same hash batch_size roots slot_of (TellsCall i m reply) s told n → Plays (TellsCall i m reply) told
       tells reply told (standing, stands, u, next, here, machine_is, told_is, kind, comes) =
           let it = there_too machine_at machine_of (x.now.calls m i) (s.calls m i) (is.calls m i) u here in
           let y = call_told i m aborts reply x it.0 in (

@@ -4,8 +4,8 @@ use Rattle.std.proofs.Common.{◌≡◌, ℕ, Bool, false, [], ◌∷◌, refl, 
 use Rattle.run_schedules.specs.Given.SeizeWordsMem.{Mem}
 use Rattle.run_schedules.specs.Given.SeizeWordsPlan.{Plan}
 use Rattle.map_tables.specs.Given.SeizeWorld.{World, Row, with_at}
-use Rattle.map_tables.specs.Given.SeizeDeclared.progress.Progress.{Progress}
-use Rattle.map_tables.specs.Given.SeizeDeclared.progress.Progress.TheVariants as progress
+use Rattle.map_tables.specs.Given.SeizeDeclared.advance.Advance.{Advance}
+use Rattle.map_tables.specs.Given.SeizeDeclared.advance.Advance.TheVariants as progress
 use Rattle.map_tables.specs.Given.SeizeDeclared.rows.settle.Settled.{Settled}
 use Rattle.map_tables.specs.Given.SeizeDeclared.rows.settle.Settled.TheVariants as settled
 use Rattle.seize_acts.specs.Acts.Answers.{Grant, stepped, then_on}
@@ -81,7 +81,7 @@ module _ {K V S : Type 0} (same : K → K → Bool) (hash : S → K → ℕ) (ba
     abbrev Made : Type 0
     Made = ℕ × ((K → ℕ) × NewMap)
 
-    abbrev making : Plan (Node K V) (NewMap × Progress Setting)
+    abbrev making : Plan (Node K V) (NewMap × Advance Setting)
     making = new_map_plan it.0.machine
 
     -- it goes on as that, or not
@@ -96,7 +96,7 @@ module _ {K V S : Type 0} (same : K → K → Bool) (hash : S → K → ℕ) (ba
         ∙ both_at (option_map (stands_so hash)) (option_map set_up) x.now.maps s.maps b.map (Some (setting, it.0.hasher)) (Some standing)
         (ap (λ (p : Made). Some (setting, p.1.0)) it.2 ∙ ap (λ (h : K → ℕ). Some (setting, h)) (sym hash_is) ∙ ap (λ (v : Setting). Some (v, standing.hash)) (sym setting_is)) is.maps m
 
-    made : (told : Progress Setting) (did : MakingStepsAmong V same same batch_size roots slot_of s.world s.maps s.calls s.makers s.enders i b m2 (machine, told))
+    made : (told : Advance Setting) (did : MakingStepsAmong V same same batch_size roots slot_of s.world s.maps s.calls s.makers s.enders i b m2 (machine, told))
         → MakingCame same hash batch_size roots slot_of s i b did.step.w2 machine n told → IsOf hash n n.world.row (made_on i it.0 machine told (record x.now { memory = m2 }))
     made progress.Goes did comes =
         to (made_on i it.0 machine progress.Goes (record x.now { memory = m2 })) (record s { world = did.step.w2; makers = with_at s.makers i (Some (record b { machine = machine })) }) comes
@@ -117,13 +117,13 @@ module _ {K V S : Type 0} (same : K → K → Bool) (hash : S → K → ℕ) (ba
         (λ j. ap (λ (r : ℕ → Row). r j) (events_rows batch_size did.step.events s.world did.step.w2 did.step.users did.step.runs)) is.maps (makers_then None None refl) is.enders)
 
     -- nobody reclaims all, or who does is as far
-    all_is : (told : Progress Setting) → (made_on i it.0 machine told (record x.now { memory = m2 })).all ≡ x.now.all
+    all_is : (told : Advance Setting) → (made_on i it.0 machine told (record x.now { memory = m2 })).all ≡ x.now.all
     all_is progress.Goes = refl
     all_is progress.Waits = refl
     all_is (progress.Done setting) = refl
     all_is (progress.Refused fault) = refl
 
-    pub making_steps_so : (end : Progress Setting) → making_steps same hash batch_size roots slot_of s g b ≡ Some (m2, (machine, end))
+    pub making_steps_so : (end : Advance Setting) → making_steps same hash batch_size roots slot_of s g b ≡ Some (m2, (machine, end))
         → (did : MakingStepsAmong V same same batch_size roots slot_of s.world s.maps s.calls s.makers s.enders i b m2 (machine, end))
         → MakingCame same hash batch_size roots slot_of s i b did.step.w2 machine n end → (told : Answer K V) → told ≡ OfMaking end → Plays (StepsMaking i g) told
     making_steps_so end computed did came told told_is =

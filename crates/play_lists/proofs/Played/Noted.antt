@@ -2,8 +2,8 @@
 use Rattle.std.specs.Prelude.{◌≢◌, ◌⊎◌, ◌+◌, ◌==◌, cond, not, ◌&&◌, find, map, Option, Some, None, option_map, is_ok, length, if◌then◌else◌}
 use Rattle.std.proofs.Common.{◌≡◌, ℕ, Bool, true, false, List, [], ◌∷◌, inl, inr, refl, ap, sym, subst, ◌∙◌, arith}
 use Rattle.std.proofs.lemmas.Bool.{cases_eq}
-use Rattle.map_tables.specs.Given.SeizeDeclared.progress.Progress.{Progress}
-use Rattle.map_tables.specs.Given.SeizeDeclared.progress.Progress.TheVariants as progress
+use Rattle.map_tables.specs.Given.SeizeDeclared.advance.Advance.{Advance}
+use Rattle.map_tables.specs.Given.SeizeDeclared.advance.Advance.TheVariants as progress
 use Rattle.map_tables.specs.Given.SeizeDeclared.rows.leave.Leave.{Leave}
 use Rattle.map_tables.specs.Given.SeizeDeclared.rows.leave.Leaving.{Leaving}
 use Rattle.map_tables.specs.Given.SeizeDeclared.rows.leave.Leaving.TheVariants as leaves
@@ -50,7 +50,7 @@ use Rattle.run_logged.specs.Given.EffectsKnown.{Known}
 use Rattle.run_logged.specs.Given.EffectsDeclared.acting.Acting.TheVariants as acting
 use Rattle.many_acts.proofs.Given.FollowsCalling.{apart_back, found_kept, found_passes, is_same_is, is_same_refl, come_same, replied_same}
 use Rattle.many_acts.proofs.Given.FollowsCalls.{IsOfSame, changed, changed_same, found, of_same}
-use Rattle.run_finds.specs.Given.ExecutorDeclared.kind.Kind.{Kind}
+use Rattle.run_finds.specs.Given.ExecutorDeclared.kind.CallKind.{CallKind}
 use Rattle.run_finds.specs.Given.NamedSeen.{kind_of}
 use Rattle.run_schedules.specs.Deeds.Deeds.{Deed, Begins, Steps, Replies, Stops, Registers, Opens, Leaves, MapComes, Makes, MapFails, Ends, MapGoes, ReclaimsAll, Entry, acted_on, after, at_work, begun, caller_of, calls_on, moment, named, worked}
 use Rattle.many_acts.specs.Acts.Acts.{Act, BeginsCall, StepsCall, TellsCall, AsksCall, StopsCall, BeginsMaking, StepsMaking, BeginsEnding, StepsEnding, BeginsRow, StepsRow}
@@ -202,7 +202,7 @@ module _ {K V : Type 0} where
   )
 
   -- a step that goes on tells no end
-  pub not_over : (known : Known) (kind : Kind) (value : Option V) (told : CallProgress (Node K V)) → has_ended told ≡ false → ends_call (outcome_of known kind value told) ≡ false
+  pub not_over : (known : Known) (kind : CallKind) (value : Option V) (told : CallProgress (Node K V)) → has_ended told ≡ false → ends_call (outcome_of known kind value told) ≡ false
   not_over known kind value comes.Goes e = refl
   not_over known kind value (comes.Gave back) e = refl
   not_over known kind value (comes.Unstored back) e = refl
@@ -319,7 +319,7 @@ module _ {K V S : Type 0} where
             by (inl e) (inl f) = absurd (let both : None ≡ Some d = sym (at_it x.now.calls m i None on j f e) ∙ has in cc both)
 
   -- a making that goes on leaves calls as they are
-  pub made_calls : (i : ℕ) (b : Making S) (machine : NewMap) (told : Progress Setting) (now : Now K V S) (on j : ℕ) → (made_on i b machine told now).calls on j ≡ now.calls on j
+  pub made_calls : (i : ℕ) (b : Making S) (machine : NewMap) (told : Advance Setting) (now : Now K V S) (on j : ℕ) → (made_on i b machine told now).calls on j ≡ now.calls on j
   made_calls i b machine progress.Goes now on j = refl
   made_calls i b machine progress.Waits now on j = refl
   made_calls i b machine (progress.Done setting) now on j = refl

@@ -12,8 +12,8 @@ use Rattle.map_tables.specs.Given.SeizeLeave.{leave_plan}
 use Rattle.map_tables.specs.Given.SeizeRegister.{register_plan}
 use Rattle.map_tables.specs.Given.SeizeSettle.{settle_plan}
 use Rattle.map_tables.specs.Given.SeizeWorld.{World, Row, Rests, Inside, Vacant, Request, Begins, after_step, registers_on, settles_on, leaves_on, with_at, with_use}
-use Rattle.map_tables.specs.Given.SeizeDeclared.progress.Progress.{Progress}
-use Rattle.map_tables.specs.Given.SeizeDeclared.progress.Progress.TheVariants as progress
+use Rattle.map_tables.specs.Given.SeizeDeclared.advance.Advance.{Advance}
+use Rattle.map_tables.specs.Given.SeizeDeclared.advance.Advance.TheVariants as progress
 use Rattle.map_tables.specs.Given.SeizeDeclared.rows.enter.Enter.{Enter}
 use Rattle.map_tables.specs.Given.SeizeDeclared.rows.enter.Unregister.{Unregister}
 use Rattle.map_tables.specs.Given.SeizeDeclared.rows.leave.Leave.{Leave}
@@ -80,7 +80,7 @@ module _ {K V : Type 0} (i : ℕ) (g : Grant) (w w2 : World (Node K V)) where
   here : (row : Row) → with_at w.row i row i ≡ row
   here row = with_here w.row i row
 
-  registers_so : (c : Register) (m : Mem (Node K V)) (c2 : Register) (p : Progress ℕ)
+  registers_so : (c : Register) (m : Mem (Node K V)) (c2 : Register) (p : Advance ℕ)
       → ((registers_on w i c m (c2, p)).memory ≡ m) × ((registers_on w i c m (c2, p)).row i ≡ row_or_rests (row_on {T = Node K V} (rows.Registers c2) (of_registering p)))
   registers_so c m c2 progress.Goes = (refl, here _)
   registers_so c m c2 progress.Waits = (refl, here _)
@@ -113,7 +113,7 @@ module _ {K V : Type 0} (i : ℕ) (g : Grant) (w w2 : World (Node K V)) where
       comes (enter_plan c) (λ p. with_use (after_step w i p.0 Rests (Entered c.slot ∷ [])) c.slot (Inside 0)) (rows.Enters c) (λ end. (rows.Enters end.0, of_storing end.1)) refl e
       (λ p so. (
         refl,
-        here Rests ∙ sym (ap (λ (end : Enter × Progress Unit). row_or_rests (row_on {T = Node K V} (rows.Enters end.0) (of_storing end.1)))
+        here Rests ∙ sym (ap (λ (end : Enter × Advance Unit). row_or_rests (row_on {T = Node K V} (rows.Enters end.0) (of_storing end.1)))
             (stores (Store (Slot c.slot HEAD) ACTIVE) (c, progress.Done tt) p so)),
       ))
   row_comes (rows.Leaves c) e =
@@ -124,7 +124,7 @@ module _ {K V : Type 0} (i : ℕ) (g : Grant) (w w2 : World (Node K V)) where
       comes (unregister_plan c) (λ p. with_use (after_step w i p.0 Rests []) c.slot Vacant) (rows.Frees c) (λ end. (rows.Frees end.0, of_storing end.1)) refl e
       (λ p so. (
         refl,
-        here Rests ∙ sym (ap (λ (end : Unregister × Progress Unit). row_or_rests (row_on {T = Node K V} (rows.Frees end.0) (of_storing end.1)))
+        here Rests ∙ sym (ap (λ (end : Unregister × Advance Unit). row_or_rests (row_on {T = Node K V} (rows.Frees end.0) (of_storing end.1)))
             (stores (Store (Slot c.slot HEAD) FREE) (c, progress.Done tt) p so)),
       ))
 

@@ -6,14 +6,14 @@ use Rattle.std.proofs.Common.{◌≡◌, ℕ, true, false, List, [], ◌∷◌, 
 use Rattle.map_tables.specs.Given.SeizeWorld.{Register'}
 use Rattle.map_tables.specs.declared.resize_mode.ResizeMode.TheVariants as mode
 use Rattle.map_tables.specs.declared.setting.Setting.{Setting}
-use Rattle.run_schedules.specs.declared.call.Answer.TheVariants as answer
+use Rattle.run_schedules.specs.declared.call.Response.TheVariants as answer
 use Rattle.run_schedules.specs.declared.call.Call.TheVariants.{On}
 use Rattle.run_schedules.specs.declared.call.OneKey.TheVariants as one
 use Rattle.run_schedules.specs.declared.effect.Effect.{Effect}
 use Rattle.run_schedules.specs.declared.effect.Effect.TheVariants.{Asked, PairMade, TableMade, Linked, Stored, Counted}
 use Rattle.run_schedules.specs.declared.effect.Growth.TheVariants.{ABlock, ABucket}
 use Rattle.run_schedules.specs.declared.effect.Spot.{Spot}
-use Rattle.run_schedules.specs.declared.effect.Table.{Table}
+use Rattle.run_schedules.specs.declared.effect.TableId.{TableId}
 use Rattle.run_schedules.specs.declared.outcome.Outcome.{Outcome}
 use Rattle.run_schedules.specs.declared.outcome.Outcome.TheVariants.{Done, Goes, Slot, Answered}
 use Rattle.many_acts.specs.Acts.Acts.{Act, Get, Insert, BeginsCall, StepsCall, BeginsMaking, StepsMaking, BeginsRow, StepsRow}
@@ -44,7 +44,7 @@ eight_places = refl
 abbrev pub given : Setting
 given = record { slot = 0; batch_size = 1; root = 0; mode = mode.Incremental 64; counter = 0; mask = 0; initial = 8 }
 
-abbrev pub first : Table
+abbrev pub first : TableId
 first = record { map = 0; turn = 0 }
 
 abbrev at : ℕ → Spot

@@ -5,7 +5,7 @@ use Rattle.std.proofs.Common.{◌≡◌, ℕ, Bool, ap, sym, ◌∙◌}
 use Rattle.run_schedules.specs.Given.SeizeWordsMem.{Mem}
 use Rattle.run_schedules.specs.Given.SeizeWordsPlan.{Plan}
 use Rattle.map_tables.specs.Given.SeizeWorld.{Row}
-use Rattle.map_tables.specs.Given.SeizeDeclared.progress.Progress.{Progress as Making'}
+use Rattle.map_tables.specs.Given.SeizeDeclared.advance.Advance.{Advance as Making'}
 use Rattle.map_tables.specs.Given.SeizeDeclared.rows.settle.Settled.{Settled}
 use Rattle.map_tables.specs.declared.node.Node.{Node}
 use Rattle.map_tables.specs.declared.setting.Setting.{Setting}

@@ -8,13 +8,13 @@ use Rattle.many_acts.specs.Given.ScenesScene.{slot_of}
 use Rattle.many_acts.specs.Given.ScenesDeclared.row.SlotRow.{SlotRow}
 use Rattle.many_acts.specs.Given.ScenesDeclared.row.SlotRow.TheVariants as rows
 use Rattle.run_schedules.specs.Runs.Present.{guard_of}
-use Rattle.run_schedules.specs.declared.holders.Guard.{Guard}
+use Rattle.run_schedules.specs.declared.holders.NamedGuard.{NamedGuard}
 use Rattle.run_schedules.specs.Schedules.Moment.{Moment, UnderWay}
 use Rattle.run_schedules.specs.Deeds.Deeds.{moment, named}
 use Rattle.play_lists.specs.Played.Play.{State}
 
 -- the guard of a slot
-abbrev pub guard_on : ℕ → Guard
+abbrev pub guard_on : ℕ → NamedGuard
 guard_on s = record { name = named s; slot = s; forgotten = false }
 
 -- Callers have these rows between calls, and slots are used so.
@@ -28,7 +28,7 @@ module _ (rows_are : ℕ → Option SlotRow) (uses : ℕ → Use) where
   IsOpen s = IsInside (uses s) ⊎ IsLeaving s
 
   -- each guard is that of a slot whose section is open, and each slot within a section has its guard
-  pub record GuardsAre (guards : List Guard) : Type 0 where
+  pub record GuardsAre (guards : List NamedGuard) : Type 0 where
     pub each : AllByRecursion (λ g. (g ≡ guard_on g.slot) × IsOpen g.slot) guards
     pub inside : (s : ℕ) → IsInside (uses s) → guard_of (named s) guards ≡ Some (guard_on s)
 

@@ -1,7 +1,7 @@
 -- What an executor does, it does by acts: where it is, its acts have led. All its maps have its hasher.
 use Rattle.std.specs.Prelude.{◌≡◌, ℕ, ◌+◌, ◌<◌, ◌≤◌, ◌^◌, length, max, Bool, None, Some, Result}
 use Rattle.std.specs.Int.{IsPowerOfTwo}
-use Rattle.map_tables.specs.Given.SeizeDeclared.progress.Progress.{Progress}
+use Rattle.map_tables.specs.Given.SeizeDeclared.advance.Advance.{Advance}
 use Rattle.map_tables.specs.Given.SeizeDeclared.rows.settle.Settled.{Settled}
 use Rattle.seize_acts.specs.Acts.Answers.{Grant, stepped}
 use Rattle.run_schedules.specs.Given.SeizeWordsPlan.{Plan}
@@ -21,7 +21,7 @@ use Rattle.run_logged.specs.Given.RawMachine.{machine_plan}
 use Rattle.map_tables.specs.Lengths.{IsTableLen}
 use Rattle.map_tables.specs.declared.node.Node.{Node}
 use Rattle.map_tables.specs.declared.setting.Setting.{Setting}
-use Rattle.run_logged.specs.Given.RawDeclared.machines.asking.Reply.{Reply}
+use Rattle.run_logged.specs.Given.RawDeclared.machines.asking.MachineReply.{MachineReply}
 use Rattle.run_logged.specs.Given.RawDeclared.machines.machine.Machine.{Machine}
 use Rattle.run_logged.specs.Given.RawDeclared.machines.progress.Progress.{Progress as CallProgress}
 use Rattle.many_acts.specs.Given.PointsSteps.{AreLawful}
@@ -63,11 +63,11 @@ module _ {K V S : Type 0} (e e2 : Executor K V S) where
 
   -- and of a row, whichever it is, that tells this
   abbrev pub RowIsComputed : SlotRow → RowTold (Node K V) → Grant → Type 0
-  RowIsComputed (rows.Registers c) told g = (end : Register × Progress ℕ) × IsComputed (register_plan c) end g × (told ≡ of_registering end.1)
-  RowIsComputed (rows.Enters c) told g = (end : Enter × Progress Unit) × IsComputed (enter_plan c) end g × (told ≡ of_storing end.1)
+  RowIsComputed (rows.Registers c) told g = (end : Register × Advance ℕ) × IsComputed (register_plan c) end g × (told ≡ of_registering end.1)
+  RowIsComputed (rows.Enters c) told g = (end : Enter × Advance Unit) × IsComputed (enter_plan c) end g × (told ≡ of_storing end.1)
   RowIsComputed (rows.Leaves c) told g = (end : Leave × Settled (Node K V)) × IsComputed (leave_plan deferred_word c) end g × (told ≡ of_settling end.1)
   RowIsComputed (rows.Flushes c) told g = (end : Settle × Settled (Node K V)) × IsComputed (settle_plan deferred_word c) end g × (told ≡ of_settling end.1)
-  RowIsComputed (rows.Frees c) told g = (end : Unregister × Progress Unit) × IsComputed (unregister_plan c) end g × (told ≡ of_storing end.1)
+  RowIsComputed (rows.Frees c) told g = (end : Unregister × Advance Unit) × IsComputed (unregister_plan c) end g × (told ≡ of_storing end.1)
 
 module _ {K V S : Type 0} (same : K → K → Bool) (hash : S → K → ℕ) (e e2 : Executor K V S) (s : Scene K V) where
   -- In this scene, in which the first executor is, the act may be made, and tells this: it leads to one in which the second is; and so is each one to which it leads,
@@ -95,7 +95,7 @@ module _ {K V S : Type 0} (same : K → K → Bool) (hash : S → K → ℕ) (e 
     pub begun_so : (m : ℕ) (standing : Standing K) → s.maps m ≡ Some standing → (u : UnderWay K V K) → Begins same standing i u → (wanted : Wanted K V) × (begun same slot_of standing i wanted ≡ u)
     pub step : (told : CallProgress (Node K V)) → StepsThere same (hash e.hasher) i told s e e2 → (m : ℕ) (u : UnderWay K V K) → s.calls m i ≡ Some u
         → AreSteps (Computes e e2 (machine_plan same same (hash e.hasher) (machine_of u)) told) (StepsCall i m) (OfCall told)
-    pub reply : (told : Reply V) (result : Result Unit (Reply V)) → RepliesThere same (hash e.hasher) i told result s e e2 → (m : ℕ) (u : UnderWay K V K) → s.calls m i ≡ Some u → IsAct (TellsCall i m told) (OfReply result)
+    pub reply : (told : MachineReply V) (result : Result Unit (MachineReply V)) → RepliesThere same (hash e.hasher) i told result s e e2 → (m : ℕ) (u : UnderWay K V K) → s.calls m i ≡ Some u → IsAct (TellsCall i m told) (OfReply result)
     pub ask : (ready : Bool) → AsksThere same (hash e.hasher) i ready s e e2 → (m : ℕ) (u : UnderWay K V K) → s.calls m i ≡ Some u → IsAct (AsksCall i m) (OfAsking ready)
     pub stop : (stopped : Bool) → StopsThere same (hash e.hasher) i stopped s e e2 → (m : ℕ) (u : UnderWay K V K) → s.calls m i ≡ Some u → IsAct (StopsCall i m) (OfAsking stopped)
 
@@ -104,7 +104,7 @@ module _ {K V S : Type 0} (same : K → K → Bool) (hash : S → K → ℕ) (e 
     pub making_begins : (given : Setting) (places : ℕ) → MakingBegins same (hash e.hasher) given places i s e e2 → work_of e i ≡ None → AreLawful same (hash e.hasher) → IsPowerOfTwo given.initial
         → given.batch_size ≡ e.batch_size → given.mask + 1 < 2 ^ 64 → 0 < e.roots → (max places 8 ≤ 2 ^ 48 → IsTableLen (max places 8))
         → IsAct (BeginsMaking i (length e.maps.items) e.hasher given places) Nothing
-    pub making : (told : Progress Setting) → MakesThere same (hash e.hasher) i told s e e2 → (b : Beginning K) → s.makers i ≡ Some b
+    pub making : (told : Advance Setting) → MakesThere same (hash e.hasher) i told s e e2 → (b : Beginning K) → s.makers i ≡ Some b
         → AreSteps (Computes e e2 (new_map_plan {K = K} {V = V} b.machine) told) (StepsMaking i) (OfMaking told)
     pub ending_begins : (m : ℕ) → EndingBegins same (hash e.hasher) m i s e e2 → work_of e i ≡ None → NoCallOn e m → IsAct (BeginsEnding i m) Nothing
     pub ending : (told : Settled (Node K V)) → EndsThere same (hash e.hasher) i told s e e2 → (f : Finishing K V) → s.enders i ≡ Some f

@@ -3,7 +3,7 @@ use Rattle.std.specs.Prelude.{◌≡◌, ◌≢◌, ℕ, ◌≤◌, ◌<◌, tru
 use Rattle.std.specs.List.{AllByRecursion}
 use Rattle.run_schedules.specs.declared.effect.Effect.{Effect}
 use Rattle.run_schedules.specs.declared.effect.Effect.TheVariants.{Copied, Deferred, Ended, Linked, Promoted, Reclaimed, Removed, Replaced, Retired, Stored, Taken}
-use Rattle.run_schedules.specs.declared.effect.Table.{Table}
+use Rattle.run_schedules.specs.declared.effect.TableId.{TableId}
 use Rattle.run_schedules.specs.declared.effect.Thing.TheVariants.{APair, ATable}
 use Rattle.run_schedules.specs.Schedules.Effects.{AtEachEffect, is_chunked, with_effects}
 use Rattle.run_schedules.specs.Schedules.Lists.{is_among}
@@ -36,7 +36,7 @@ module _ {K V : Type 0} (map : ℕ) where
   IsOut m n = is_in_map map (m.place n) ≡ false
 
   -- nor is what waits behind this table, which is none of those that the map has from the root on
-  pub record IsOther (m : Moment K V) (t : Table) : Type 0 where
+  pub record IsOther (m : Moment K V) (t : TableId) : Type 0 where
     pub apart : AllByRecursion (λ u. same_table u.table t ≡ false) (left_tables map m)
     pub behind_it : (k : ℕ) → is_among k (behind t m.deferred) ≡ true → IsOut m k
 

@@ -11,8 +11,8 @@ use Rattle.map_tables.specs.Given.SeizeReclaimAll.{reclaiming_all, clearing, rec
 use Rattle.map_tables.specs.Given.SeizeRegister.{register_plan}
 use Rattle.map_tables.specs.Given.SeizeSettle.{settle_plan}
 use Rattle.map_tables.specs.Given.SeizeWorld.{Request, Register', Enter', Leave', LeaveOwned, Refresh, Unregister', Flush, with_at}
-use Rattle.map_tables.specs.Given.SeizeDeclared.progress.Progress.{Progress}
-use Rattle.map_tables.specs.Given.SeizeDeclared.progress.Progress.TheVariants as progress
+use Rattle.map_tables.specs.Given.SeizeDeclared.advance.Advance.{Advance}
+use Rattle.map_tables.specs.Given.SeizeDeclared.advance.Advance.TheVariants as progress
 use Rattle.map_tables.specs.Given.SeizeDeclared.rows.leave.Leave.{Leave}
 use Rattle.map_tables.specs.Given.SeizeDeclared.rows.leave.Leaving.{Leaving}
 use Rattle.map_tables.specs.Given.SeizeDeclared.rows.leave.Leaving.TheVariants as leaves
@@ -32,8 +32,8 @@ use Rattle.run_logged.specs.Given.ResizeDeclared.new_map.Opening.TheVariants as 
 use Rattle.run_logged.specs.Given.ReservesDeclared.sweep.Purpose.TheVariants as purpose
 use Rattle.run_logged.specs.Given.RawEndMap.{ending, end_map_plan}
 use Rattle.run_logged.specs.Given.RawMachine.{machine_plan, machine_replied, machine_asked}
-use Rattle.run_logged.specs.Given.RawDeclared.machines.asking.Reply.{Reply as Told}
-use Rattle.run_logged.specs.Given.RawDeclared.machines.asking.Reply.TheVariants as told
+use Rattle.run_logged.specs.Given.RawDeclared.machines.asking.MachineReply.{MachineReply as Told}
+use Rattle.run_logged.specs.Given.RawDeclared.machines.asking.MachineReply.TheVariants as told
 use Rattle.run_logged.specs.Given.RawDeclared.machines.end_map.EndMap.{EndMap}
 use Rattle.run_logged.specs.Given.RawDeclared.machines.machine.Machine.{Machine}
 use Rattle.run_logged.specs.Given.RawDeclared.machines.progress.Progress.{Progress as CallProgress}
@@ -66,7 +66,7 @@ use Rattle.run_logged.specs.Given.EffectsDeclared.acting.Acting.TheVariants as a
 use Rattle.run_finds.specs.Given.NamedMachines.{aborted_by, machine_for}
 use Rattle.run_finds.specs.Given.NamedSeen.{kind_of}
 use Rattle.run_finds.specs.Given.NamedTelling.{answer_of, kept, number_by}
-use Rattle.run_finds.specs.Given.ExecutorDeclared.kind.Kind.{Kind}
+use Rattle.run_finds.specs.Given.ExecutorDeclared.kind.CallKind.{CallKind}
 use Rattle.run_schedules.specs.Deeds.Deeds.{Deed, Begins, Steps, Replies, Stops, Registers, Opens, Shuts, Leaves, Tends, MapComes, Makes, MapFails, Ends, MapGoes, ReclaimsAll, Entry}
 
 -- what is wanted of a map, as the call that it is in the words of a run
@@ -178,7 +178,7 @@ module _ {K V S : Type 0} where
 -- Calls
 
 -- what the step of a call comes to
-abbrev pub outcome_of : {K V : Type 0} → Known → Kind → Option V → CallProgress (Node K V) → Outcome V
+abbrev pub outcome_of : {K V : Type 0} → Known → CallKind → Option V → CallProgress (Node K V) → Outcome V
 outcome_of known kind value comes.Goes = outcome.Goes
 outcome_of known kind value (comes.Gave back) = outcome.Goes
 outcome_of known kind value (comes.Unstored back) = outcome.Goes
@@ -190,7 +190,7 @@ outcome_of known kind value (comes.Done said) = outcome.Answered (answer_of know
 outcome_of known kind value (comes.Refused fault) = outcome.Refused fault
 
 -- the value of a pair that was not stored comes back to the call
-abbrev pub keeps : {K V : Type 0} → Kind → CallProgress (Node K V) → Option V → Option V
+abbrev pub keeps : {K V : Type 0} → CallKind → CallProgress (Node K V) → Option V → Option V
 keeps kind (comes.Unstored back) value = kept kind back value
 keeps kind progress value = value
 
@@ -252,7 +252,7 @@ making_deed map before after =
     if has_root before.stands then (if has_root after.stands then Makes map else MapFails map)
     else (if has_root after.stands then MapComes map after.setting.root after.setting.mode (pairs_for after.len) else Makes map)
 
-abbrev pub making_outcome : {V : Type 0} → Progress Setting → Outcome V
+abbrev pub making_outcome : {V : Type 0} → Advance Setting → Outcome V
 making_outcome progress.Goes = outcome.Goes
 making_outcome progress.Waits = outcome.Waits
 making_outcome (progress.Done setting) = outcome.Done
@@ -280,12 +280,12 @@ module _ {K V S : Type 0} (i : ℕ) where
       began (record s.now { makers = with_at s.now.makers i (Some (record { map = map; hasher = hasher; machine = opening given roots places })) }) s
 
   -- it goes on; or its map stands; or there is none
-  abbrev pub made_on : Making S → NewMap → Progress Setting → Now K V S → Now K V S
+  abbrev pub made_on : Making S → NewMap → Advance Setting → Now K V S → Now K V S
   made_on b machine (progress.Done setting) now = record now { maps = with_at now.maps b.map (Some (setting, b.hasher)); makers = with_at now.makers i None }
   made_on b machine (progress.Refused fault) now = record now { makers = with_at now.makers i None }
   made_on b machine told now = record now { makers = with_at now.makers i (Some (record b { machine = machine })) }
 
-  abbrev pub making_stepped : Making S → Changed → State K V S → Mem (Node K V) × (NewMap × Progress Setting) → State K V S
+  abbrev pub making_stepped : Making S → Changed → State K V S → Mem (Node K V) × (NewMap × Advance Setting) → State K V S
   making_stepped b changed s p =
       worked (acting.Making b.map) changed (making_deed b.map b.machine p.1.0) (making_outcome p.1.1) (OfMaking p.1.1) (made_on b p.1.0 p.1.1 (record s.now { memory = p.0 })) s
 

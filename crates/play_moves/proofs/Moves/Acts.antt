@@ -3,14 +3,14 @@ use Rattle.std.specs.Prelude.{◌≡◌, ℕ, Bool, true, false, List, [], ◌�
 use Rattle.std.proofs.Common.{refl, ap, sym, subst, ◌∙◌}
 use Rattle.seize_acts.specs.Acts.Answers.{Grant}
 use Rattle.seize_acts.specs.Given.SeizeWorld.{Row}
-use Rattle.seize_acts.specs.Given.SeizeDeclared.progress.Progress.{Progress}
-use Rattle.seize_acts.specs.Given.SeizeDeclared.progress.Progress.TheVariants as progress
+use Rattle.seize_acts.specs.Given.SeizeDeclared.advance.Advance.{Advance}
+use Rattle.seize_acts.specs.Given.SeizeDeclared.advance.Advance.TheVariants as progress
 use Rattle.play_lists.specs.Given.TablesDeclared.node.Node.{Node}
 use Rattle.play_lists.specs.Given.TablesDeclared.setting.Setting.{Setting}
 use Rattle.threads_rule.specs.Given.ResizeNewMap.{new_map_plan}
 use Rattle.threads_rule.specs.Given.ResizeDeclared.new_map.NewMap.{NewMap}
 use Rattle.run_schedules.specs.Given.RawMachine.{machine_asked, machine_replied}
-use Rattle.run_schedules.specs.Given.RawDeclared.machines.asking.Reply.{Reply as Told}
+use Rattle.run_schedules.specs.Given.RawDeclared.machines.asking.MachineReply.{MachineReply as Told}
 use Rattle.run_schedules.specs.Given.RawDeclared.machines.progress.Progress.{Progress as CallProgress}
 use Rattle.run_schedules.specs.Schedules.After.{AtEachEvent}
 use Rattle.run_schedules.specs.declared.outcome.Outcome.{Outcome}
@@ -107,7 +107,7 @@ module _ {K V S : Type 0} (same : K → K → Bool) (by_hasher : S → K → ℕ
     abbrev new : Held K V
     new = then_held (StepsMaking i g)
 
-    abbrev step : ℕ → NewMap → NewMap → Progress Setting → Entry K V
+    abbrev step : ℕ → NewMap → NewMap → Advance Setting → Entry K V
     step map first machine said = record { deed = making_deed map first machine; outcome = making_outcome said; effects = effects_of (acts.Making map) x.known new.changed; refused = is_refusal new.changed }
 
     pub making_steps_move : Leads (StepsMaking i g) → AllMove y
@@ -131,7 +131,7 @@ module _ {K V S : Type 0} (same : K → K → Bool) (by_hasher : S → K → ℕ
         machine_is = ap (λ (p : ℕ × ((K → ℕ) × NewMap)). p.1.1) tied.its
 
         its_leads : MakingLeads same hash i end s old new
-        its_leads = subst (λ (p : Progress Setting). MakingLeads same hash i p s old new) (let both : ◌≡◌ {A = Answer K V} (OfMaking leads.0) (OfMaking end) = sym leads.1 ∙ told_is in cc both) leads.2
+        its_leads = subst (λ (p : Advance Setting). MakingLeads same hash i p s old new) (let both : ◌≡◌ {A = Answer K V} (OfMaking leads.0) (OfMaking end) = sym leads.1 ∙ told_is in cc both) leads.2
 
         rooted : Rooted b.machine.stands (machine, end)
         rooted =

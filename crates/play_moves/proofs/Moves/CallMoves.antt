@@ -19,7 +19,7 @@ use Rattle.play_lists.specs.Given.ScenesHeld.{Held, IsAt}
 use Rattle.play_events.specs.Given.ScenesScene.{Scene}
 use Rattle.play_events.specs.Given.ScenesStepping.{StepLeads, has_ended}
 use Rattle.play_events.specs.Given.NamedSeen.{kind_of}
-use Rattle.play_events.specs.Given.ExecutorDeclared.kind.Kind.{Kind}
+use Rattle.play_events.specs.Given.ExecutorDeclared.kind.CallKind.{CallKind}
 use Rattle.play_lists.proofs.Given.FindsSteps.{steps_do_theirs}
 use Rattle.run_schedules.specs.Deeds.Deeds.{Entry, Steps, acted_on, map_of_call, moment, named}
 use Rattle.run_schedules.specs.Deeds.History.{may_do, past}
@@ -30,7 +30,7 @@ use Rattle.play_events.specs.EachMoves.Parts.{DoesIts}
 use Rattle.play_events.proofs.EachMoves.Leaves.{leaves_nothing}
 use Rattle.play_events.proofs.EachMoves.Parts.{all_also, granted_so, refuses_so}
 
-module _ {K V : Type 0} (known : Known) (kind : Kind) (value : Option V) where
+module _ {K V : Type 0} (known : Known) (kind : CallKind) (value : Option V) where
   -- a call is over, or ready, where its step says so
   clear_so : (said : Progress (Node K V)) → comes_clear (outcome_of known kind value said) ≡ true → (has_ended said ≡ true) ⊎ (said ≡ progress.Ready)
   clear_so (progress.Done answer) e = inl refl

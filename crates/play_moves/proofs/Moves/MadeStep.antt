@@ -3,8 +3,8 @@ use Rattle.std.specs.Prelude.{◌≡◌, ◌≢◌, ◌⊎◌, ◌+◌, ℕ, Boo
 use Rattle.std.proofs.Common.{refl, ap, sym, subst, ◌∙◌, arith, inl, inr}
 use Rattle.std.proofs.lemmas.Bool.{cases_eq}
 use Rattle.seize_acts.specs.Given.SeizeWorld.{with_at}
-use Rattle.seize_acts.specs.Given.SeizeDeclared.progress.Progress.{Progress}
-use Rattle.seize_acts.specs.Given.SeizeDeclared.progress.Progress.TheVariants as progress
+use Rattle.seize_acts.specs.Given.SeizeDeclared.advance.Advance.{Advance}
+use Rattle.seize_acts.specs.Given.SeizeDeclared.advance.Advance.TheVariants as progress
 use Rattle.play_lists.specs.Given.TablesDeclared.setting.Setting.{Setting}
 use Rattle.threads_rule.specs.Given.ResizeDeclared.new_map.NewMap.{NewMap}
 use Rattle.play_lists.specs.Given.EffectsDeclared.changed.Changed.{Changed}
@@ -35,7 +35,7 @@ use Rattle.play_lists.proofs.Agrees.Names.{effects_named}
 use Rattle.play_lists.proofs.Agrees.Openings.{gives_its}
 
 module _ {K V S : Type 0} (x : State K V S) (here : MadeHolds x) (numbers : NumbersHold true x) (names : AreNamed (moment x.history)) (i : ℕ) (b : Making S) (makes : x.now.makers i ≡ Some b) (machine : NewMap)
-    (said : Progress Setting) (told : Changed) (apart : (j : ℕ) (d : Making S) → j ≢ i → x.now.makers j ≡ Some d → d.map ≢ b.map) where
+    (said : Advance Setting) (told : Changed) (apart : (j : ℕ) (d : Making S) → j ≢ i → x.now.makers j ≡ Some d → d.map ≢ b.map) where
   abbrev m : Moment K V
   m = moment x.history
 

@@ -2,7 +2,7 @@
 use Rattle.std.specs.Prelude.{◌≡◌, ℕ, Bool, true, false, [], ◌∷◌, Some, None}
 use Rattle.std.proofs.Common.{refl, ap, sym, subst, ◌∙◌}
 use Rattle.seize_acts.specs.Acts.Answers.{Grant}
-use Rattle.seize_acts.specs.Given.SeizeDeclared.progress.Progress.{Progress}
+use Rattle.seize_acts.specs.Given.SeizeDeclared.advance.Advance.{Advance}
 use Rattle.play_lists.specs.Given.TablesDeclared.resize_mode.ResizeMode.{ResizeMode}
 use Rattle.play_lists.specs.Given.TablesDeclared.setting.Setting.{Setting}
 use Rattle.threads_rule.specs.Given.ResizeNewMap.{new_map_plan}
@@ -54,7 +54,7 @@ module _ {K V S : Type 0} (same : K → K → Bool) (by_hasher : S → K → ℕ
   abbrev m : Moment K V
   m = moment x.history
 
-  abbrev step : ℕ → NewMap → NewMap → Progress Setting → Entry K V
+  abbrev step : ℕ → NewMap → NewMap → Advance Setting → Entry K V
   step map first machine said = record { deed = making_deed map first machine; outcome = making_outcome said; effects = effects_of (acts.Making map) x.known new.changed; refused = is_refusal new.changed }
 
   pub makes_find : PlayedAs same by_hasher batch_size roots aborts x y act → Led same by_hasher batch_size roots slot_of act s told n → LeadsAs same by_hasher hash act s told n old new
@@ -79,7 +79,7 @@ module _ {K V S : Type 0} (same : K → K → Bool) (by_hasher : S → K → ℕ
       machine_is = ap (λ (p : ℕ × ((K → ℕ) × NewMap)). p.1.1) tied.its
 
       its_leads : MakingLeads same hash i end s old new
-      its_leads = subst (λ (p : Progress Setting). MakingLeads same hash i p s old new) (let both : ◌≡◌ {A = Answer K V} (OfMaking leads.0) (OfMaking end) = sym leads.1 ∙ told_is in cc both) leads.2
+      its_leads = subst (λ (p : Advance Setting). MakingLeads same hash i p s old new) (let both : ◌≡◌ {A = Answer K V} (OfMaking leads.0) (OfMaking end) = sym leads.1 ∙ told_is in cc both) leads.2
 
       rooted : Rooted b.machine.stands (machine, end)
       rooted =

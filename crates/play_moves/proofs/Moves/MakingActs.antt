@@ -5,8 +5,8 @@ use Rattle.seize_acts.specs.Acts.Answers.{Grant}
 use Rattle.seize_acts.proofs.Acts.Answers.{same_some}
 use Rattle.run_schedules.specs.Given.SeizeWordsMem.{Mem}
 use Rattle.seize_acts.specs.Given.SeizeWorld.{World, with_at}
-use Rattle.seize_acts.specs.Given.SeizeDeclared.progress.Progress.{Progress}
-use Rattle.seize_acts.specs.Given.SeizeDeclared.progress.Progress.TheVariants as progress
+use Rattle.seize_acts.specs.Given.SeizeDeclared.advance.Advance.{Advance}
+use Rattle.seize_acts.specs.Given.SeizeDeclared.advance.Advance.TheVariants as progress
 use Rattle.play_lists.specs.Given.TablesDeclared.node.Node.{Node}
 use Rattle.play_lists.specs.Given.TablesDeclared.setting.Setting.{Setting}
 use Rattle.threads_rule.specs.Given.ResizeNewMap.{at_root, new_map_plan}
@@ -73,7 +73,7 @@ module _ {K V S : Type 0} (same : K → K → Bool) (by_hasher : S → K → ℕ
   abbrev m : Moment K V
   m = moment x.history
 
-  module _ (b : Beginning K) (makes : s.makers i ≡ Some b) (m2 : Mem (Node K V)) (machine : NewMap) (end : Progress Setting)
+  module _ (b : Beginning K) (makes : s.makers i ≡ Some b) (m2 : Mem (Node K V)) (machine : NewMap) (end : Advance Setting)
       (computed : making_steps {S = S} same by_hasher batch_size roots slot_of s g b ≡ Some (m2, (machine, end)))
       (did : MakingStepsAmong V same same batch_size roots slot_of s.world s.maps s.calls s.makers s.enders i b m2 (machine, end))
       (came : MakingCame {S = S} same by_hasher batch_size roots slot_of s i b did.step.w2 machine n end) (leads : MakingLeads same hash i end s old new)
@@ -125,13 +125,13 @@ module _ {K V S : Type 0} (same : K → K → Bool) (by_hasher : S → K → ℕ
 
     -- while it goes on,
     module _ (on : end ≡ progress.Goes) where
-      makers_by : (p : Progress Setting) → p ≡ progress.Goes → MakingCame {S = S} same by_hasher batch_size roots slot_of s i b did.step.w2 machine n p → n.makers ≡ with_at s.makers i (Some (record b { machine = machine }))
+      makers_by : (p : Advance Setting) → p ≡ progress.Goes → MakingCame {S = S} same by_hasher batch_size roots slot_of s i b did.step.w2 machine n p → n.makers ≡ with_at s.makers i (Some (record b { machine = machine }))
       makers_by progress.Goes e c = ap (λ (z : Scene K V). z.makers) c
       makers_by progress.Waits e c = absurd c
       makers_by (progress.Done setting) e c = absurd (cc e)
       makers_by (progress.Refused fault) e c = absurd (cc e)
 
-      led_by : (c : NewMap) (w2 : World (Node K V)) (p : Progress Setting) → p ≡ progress.Goes → (comes : MakingComesTo same hash s old new i b c w2 p) → MadeTo same hash s old new i b c w2 p comes n
+      led_by : (c : NewMap) (w2 : World (Node K V)) (p : Advance Setting) → p ≡ progress.Goes → (comes : MakingComesTo same hash s old new i b c w2 p) → MadeTo same hash s old new i b c w2 p comes n
           → n.makers ≡ with_at s.makers i (Some (record b { machine = c }))
       led_by c w2 progress.Goes e comes to = ap (λ (z : Scene K V). z.makers) to
       led_by c w2 progress.Waits e comes to = absurd comes
@@ -156,7 +156,7 @@ module _ {K V S : Type 0} (same : K → K → Bool) (by_hasher : S → K → ℕ
           ∙ sym (ap (λ (c : NewMap). c.len) machine_is)
 
       leads_on : MakingLeads same hash i progress.Goes s old new
-      leads_on = subst (λ (p : Progress Setting). MakingLeads same hash i p s old new) on leads
+      leads_on = subst (λ (p : Advance Setting). MakingLeads same hash i p s old new) on leads
 
       bare_by : (q : Bool) → has_root b.machine.stands ≡ q → tables_of b.map (w b.map) ≡ []
       bare_by true was =
@@ -172,7 +172,7 @@ module _ {K V S : Type 0} (same : K → K → Bool) (by_hasher : S → K → ℕ
       counts : CountsFor b.map
       counts =
           subst (λ (c : NewMap). length (filter is_table_made (effects b.map)) + made_for b.map x.history ≡ length (tables_of b.map (w b.map)) + in_hand (table_left c progress.Goes)) one_machine
-          (subst (λ (p : Progress Setting). length (filter is_table_made (effects b.map)) + made_for b.map x.history ≡ length (tables_of b.map (w b.map)) + in_hand (table_left (leads b makes).0 p)) on
+          (subst (λ (p : Advance Setting). length (filter is_table_made (effects b.map)) + made_for b.map x.history ≡ length (tables_of b.map (w b.map)) + in_hand (table_left (leads b makes).0 p)) on
           (counts_made same hash x s old new at holds.shows i b makes machine end leads rooted
           (was_new same by_hasher hash batch_size roots m x.known x.now.enders s n NoChange new at holds.shows.whole maps i g b m2 machine end makes computed did came leads) (comes_bare b m its) counted.0 counted.1))
 
@@ -187,18 +187,18 @@ module _ {K V S : Type 0} (same : K → K → Bool) (by_hasher : S → K → ℕ
         → MadeHolds (record { now = made_on i it machine end (record x.now { memory = m2 }); known = known_after (acts.Making it.map) new.changed x.known; history = entry ∷ x.history; told = answers })
     made_then answers = by end refl
       where
-        then_at : Progress Setting → Now K V S
+        then_at : Advance Setting → Now K V S
         then_at p = made_on i it machine p (record x.now { memory = m2 })
 
-        as_made : (p : Progress Setting) (next : Option (Making S)) → (then_at p).makers ≡ with_at x.now.makers i next → ((d : Making S) → next ≡ Some d → IsComing (entry ∷ x.history) d)
+        as_made : (p : Advance Setting) (next : Option (Making S)) → (then_at p).makers ≡ with_at x.now.makers i next → ((d : Making S) → next ≡ Some d → IsComing (entry ∷ x.history) d)
             → MadeHolds (record { now = then_at p; known = known_after (acts.Making it.map) new.changed x.known; history = entry ∷ x.history; told = answers })
         as_made p next makers its_own =
             then_made x made numbers maps.names i it here machine end new.changed apart rootless freed failed (then_at p) (known_after (acts.Making it.map) new.changed x.known) answers next makers its_own
 
-        by : (p : Progress Setting) → end ≡ p
+        by : (p : Advance Setting) → end ≡ p
             → MadeHolds (record { now = then_at p; known = known_after (acts.Making it.map) new.changed x.known; history = entry ∷ x.history; told = answers })
         by progress.Goes on =
             as_made progress.Goes (Some (record it { machine = machine })) refl (λ d is_it. subst (IsComing (entry ∷ x.history)) (same_some (record it { machine = machine }) d is_it) (own on))
-        by progress.Waits on = absurd (subst (λ (p : Progress Setting). MakingCame {S = S} same by_hasher batch_size roots slot_of s i b did.step.w2 machine n p) on came)
+        by progress.Waits on = absurd (subst (λ (p : Advance Setting). MakingCame {S = S} same by_hasher batch_size roots slot_of s i b did.step.w2 machine n p) on came)
         by (progress.Done setting) on = as_made (progress.Done setting) None refl (λ d none. absurd (cc none))
         by (progress.Refused fault) on = as_made (progress.Refused fault) None refl (λ d none. absurd (cc none))

@@ -1,7 +1,7 @@
 -- The effects of the step of a making, as it is played, find what they must: its table is the first one of the map, and has the shape that the map's capacity asks.
 use Rattle.std.specs.Prelude.{◌≡◌, ℕ, Bool, true, false, List, [], Some, None}
 use Rattle.std.proofs.Common.{refl, sym, subst}
-use Rattle.seize_acts.specs.Given.SeizeDeclared.progress.Progress.{Progress}
+use Rattle.seize_acts.specs.Given.SeizeDeclared.advance.Advance.{Advance}
 use Rattle.play_lists.specs.Given.TablesDeclared.setting.Setting.{Setting}
 use Rattle.threads_rule.specs.Given.ResizeDeclared.new_map.NewMap.{NewMap}
 use Rattle.run_schedules.specs.Runs.Runs.{map_fault}
@@ -31,7 +31,7 @@ use Rattle.play_linear.proofs.Linear.OthersGo.{makings_step}
 use Rattle.play_events.specs.EachMoves.Finds.{FindsIts}
 
 module _ {K V S : Type 0} (same : K → K → Bool) (hash : ℕ → K → ℕ) (x : State K V S) (s : Scene K V) (old new : Held K V) (at : IsAt same hash old s)
-    (all : ShowsAnswers same (past x.history) (moment x.history) x.known s) (openings : ShowsOpenings s) (i : ℕ) (b : Beginning K) (makes : s.makers i ≡ Some b) (machine : NewMap) (said : Progress Setting)
+    (all : ShowsAnswers same (past x.history) (moment x.history) x.known s) (openings : ShowsOpenings s) (i : ℕ) (b : Beginning K) (makes : s.makers i ≡ Some b) (machine : NewMap) (said : Advance Setting)
     (leads : MakingLeads same hash i said s old new) (was_new : WasNew b.map said (moment x.history)) (bare : tables_of b.map (moment x.history) ≡ []) (terms : Terms) where
   abbrev m : Moment K V
   m = moment x.history

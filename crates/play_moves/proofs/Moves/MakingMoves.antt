@@ -5,8 +5,8 @@ use Rattle.std.proofs.Common.{refl, ap, sym, ◌∙◌, arith, inl, inr, length-
 use Rattle.std.proofs.lemmas.Bool.{ne_eqb}
 use Rattle.std.proofs.lemmas.List.Elements.{filter-append}
 use Rattle.run_schedules.specs.Given.SeizeWordsMem.{Mem}
-use Rattle.seize_acts.specs.Given.SeizeDeclared.progress.Progress.{Progress}
-use Rattle.seize_acts.specs.Given.SeizeDeclared.progress.Progress.TheVariants as progress
+use Rattle.seize_acts.specs.Given.SeizeDeclared.advance.Advance.{Advance}
+use Rattle.seize_acts.specs.Given.SeizeDeclared.advance.Advance.TheVariants as progress
 use Rattle.play_lists.specs.Given.TablesDeclared.node.Node.{Node}
 use Rattle.play_lists.specs.Given.TablesDeclared.setting.Setting.{Setting}
 use Rattle.threads_rule.specs.Given.ResizeNewMap.{plan_at}
@@ -51,8 +51,8 @@ use Rattle.play_events.proofs.EachMoves.Parts.{all_also, granted_so, none_may, r
 use Rattle.play_events.proofs.EachMoves.Rooted.{IsFreeing, Rooted}
 
 -- where it frees its root nothing else is done
-pub frees_quietly : {K V : Type 0} (c : NewMap) (m n : Mem (Node K V)) (told : Changed) (end : NewMap × Progress Setting) (stands : Opening) → IsFreeing stands
-    → StepsTold K V (NewMap × Progress Setting) m changed.Nothing (plan_at c stands) n told end → (map : ℕ) (known : Known) → effects_of (acts.Making map) known told ≡ []
+pub frees_quietly : {K V : Type 0} (c : NewMap) (m n : Mem (Node K V)) (told : Changed) (end : NewMap × Advance Setting) (stands : Opening) → IsFreeing stands
+    → StepsTold K V (NewMap × Advance Setting) m changed.Nothing (plan_at c stands) n told end → (map : ℕ) (known : Known) → effects_of (acts.Making map) known told ≡ []
 frees_quietly c m n told end (openings.Frees fault) is s map known = ap (effects_of (acts.Making map) known) s.1.1
 frees_quietly c m n told end _ is s map known = absurd is
 
@@ -62,7 +62,7 @@ new_tables hash answer places chart (inl (none, is)) = ap (λ (c : Chart _). c.p
 new_tables hash answer places chart (inr (some, limit, is)) = ap (λ (c : Chart _). c.past) is ∙ sym (ap (λ (q : Bool). if q then 0 else 1) (ne_eqb places 0 some))
 
 module _ {K V S : Type 0} (same : K → K → Bool) (hash : ℕ → K → ℕ) (x : State K V S) (s : Scene K V) (old new : Held K V) (at : IsAt same hash old s)
-    (all : ShowsAnswers same (past x.history) (moment x.history) x.known s) (i : ℕ) (b : Beginning K) (makes : s.makers i ≡ Some b) (machine : NewMap) (said : Progress Setting)
+    (all : ShowsAnswers same (past x.history) (moment x.history) x.known s) (i : ℕ) (b : Beginning K) (makes : s.makers i ≡ Some b) (machine : NewMap) (said : Advance Setting)
     (leads : MakingLeads same hash i said s old new) (rooted : Rooted b.machine.stands (machine, said)) (was_new : WasNew b.map said (moment x.history))
     (bare : tables_of b.map (moment x.history) ≡ []) (made : made_for b.map x.history ≡ in_hand (table_left b.machine progress.Goes))
     (capacity : has_root b.machine.stands ≡ true → capacity_or (map_at b.map (moment x.history)) ≡ pairs_for b.machine.len) where
@@ -111,7 +111,7 @@ module _ {K V S : Type 0} (same : K → K → Bool) (hash : ℕ → K → ℕ) (
       let many = are_so_many (made_for b.map x.history) in omega (arith, then_so, parts, many)
 
   -- a map that stands then has the one table, if it is to have one
-  stands_with : (told : Progress Setting) (comes : MakingComesTo same hash s old new i b (leads b makes).0 (leads b makes).2.step.w2 told)
+  stands_with : (told : Advance Setting) (comes : MakingComesTo same hash s old new i b (leads b makes).0 (leads b makes).2.step.w2 told)
       → Shows same named w known_then (making_after same hash s old new i b (leads b makes).0 (leads b makes).2.step.w2 told comes) → (setting : Setting) → told ≡ progress.Done setting
       → length (tables_of b.map w) ≡ (if b.places == 0 then 0 else 1)
   stands_with progress.Goes comes shown setting is = absurd (cc is)
@@ -140,7 +140,7 @@ module _ {K V S : Type 0} (same : K → K → Bool) (hash : ℕ → K → ℕ) (
   done_well : (setting : Setting) → said ≡ progress.Done setting → had ≡ true
       → (length (tables_of b.map w) ≡ made_by {K = K} {V = V} b.map (Makes b.map) effects + made_for b.map x.history) × (length (tables_of b.map w) ≡ (if capacity_or (map_at b.map w) == 0 then 0 else 1))
   done_well setting done was = (
-    (let none = ap (λ (p : Progress Setting). in_hand (table_left (leads b makes).0 p)) done in let own = own_made K V b.map effects in omega (arith, counts, none, own)),
+    (let none = ap (λ (p : Advance Setting). in_hand (table_left (leads b makes).0 p)) done in let own = own_made K V b.map effects in omega (arith, counts, none, own)),
     stands_with said (leads b makes).3 shown_then setting done ∙ ap (λ (n : ℕ). if n == 0 then 0 else 1) (sym facts.len_is) ∙ sym (places_as_pairs b.machine.len)
         ∙ ap (λ (n : ℕ). if n == 0 then 0 else 1) (sym (effects_keep_capacities K V None (Some b.map) effects m b.map ∙ capacity was)),
   )
@@ -151,13 +151,13 @@ module _ {K V S : Type 0} (same : K → K → Bool) (hash : ℕ → K → ℕ) (
     ap (λ (fs : List Effect). tables_of b.map (with_effects None (Some b.map) fs m)) (freed was none) ∙ bare,
   )
 
-  whole_made : (told : Progress Setting) → said ≡ told → had ≡ true → has ≡ true → IsWhole x.history (Makes b.map) (making_outcome told) effects w
+  whole_made : (told : Advance Setting) → said ≡ told → had ≡ true → has ≡ true → IsWhole x.history (Makes b.map) (making_outcome told) effects w
   whole_made progress.Goes is was rooted_then = tt
   whole_made progress.Waits is was rooted_then = tt
   whole_made (progress.Done setting) is was rooted_then = done_well setting is was
   whole_made (progress.Refused fault) is was rooted_then = absurd (let none = rooted.1 fault is in cc (none, rooted_then))
 
-  whole_rootless : (told : Progress Setting) → said ≡ told → had ≡ false → has ≡ false → IsWhole x.history (Makes b.map) (making_outcome told) effects w
+  whole_rootless : (told : Advance Setting) → said ≡ told → had ≡ false → has ≡ false → IsWhole x.history (Makes b.map) (making_outcome told) effects w
   whole_rootless progress.Goes is was none = tt
   whole_rootless progress.Waits is was none = tt
   whole_rootless (progress.Done setting) is was none = absurd (let rooted_then = rooted.2 setting is in cc (none, rooted_then))

@@ -10,8 +10,8 @@ use Rattle.run_schedules.specs.Given.SeizeWordsDeclared.fault.Fault.{Fault}
 use Rattle.run_schedules.specs.Given.RawDeclared.machines.end_map.EndMap.{EndMap}
 use Rattle.seize_acts.specs.Given.SeizeWorld.{Row, with_at}
 use Rattle.seize_acts.specs.Given.SeizeReclaimAll.{reclaim_all_plan}
-use Rattle.seize_acts.specs.Given.SeizeDeclared.progress.Progress.{Progress}
-use Rattle.seize_acts.specs.Given.SeizeDeclared.progress.Progress.TheVariants as progress
+use Rattle.seize_acts.specs.Given.SeizeDeclared.advance.Advance.{Advance}
+use Rattle.seize_acts.specs.Given.SeizeDeclared.advance.Advance.TheVariants as progress
 use Rattle.play_lists.specs.Given.TablesNodes.{deferred_word, was_left}
 use Rattle.play_lists.specs.Given.TablesDeclared.node.Node.{Node}
 use Rattle.play_lists.specs.Given.TablesDeclared.setting.Setting.{Setting}
@@ -104,13 +104,13 @@ module _ {K V S : Type 0} (x : State K V S) (here : MapsAreHad x) where
   works_had d leaves o fs refused now so = still_in (IsHad now) (IsHad now) m (then_in (IsHad x.now) (IsHad now) so m.maps here) o fs refused d leaves
 
   -- the step of a making
-  module _ (i : ℕ) (it : Making S) (makes : x.now.makers i ≡ Some it) (machine : NewMap) (said : Progress Setting) (memory : Mem (Node K V)) (fs : List Effect) (refused : Bool)
+  module _ (i : ℕ) (it : Making S) (makes : x.now.makers i ≡ Some it) (machine : NewMap) (said : Advance Setting) (memory : Mem (Node K V)) (fs : List Effect) (refused : Bool)
       (rooted : Rooted it.machine.stands (machine, said)) (unknown : has_root it.machine.stands ≡ false → map_at it.map m ≡ None) where
-    abbrev then_at : Progress Setting → Now K V S
+    abbrev then_at : Advance Setting → Now K V S
     then_at p = made_on i it machine p (record x.now { memory = memory })
 
     -- any other map is as it was
-    others : (p : Progress Setting) (n : ℕ) → n ≢ it.map → IsHad x.now n → IsHad (then_at p) n
+    others : (p : Advance Setting) (n : ℕ) → n ≢ it.map → IsHad x.now n → IsHad (then_at p) n
     others progress.Goes n ne had = with_maker (record x.now { memory = memory }) i (Some (record it { machine = machine })) n (λ b was is. absurd (ne (sym is ∙ ap (λ (c : Making S). c.map) (same_some b it (sym was ∙ makes))))) had
     others progress.Waits n ne had = with_maker (record x.now { memory = memory }) i (Some (record it { machine = machine })) n (λ b was is. absurd (ne (sym is ∙ ap (λ (c : Making S). c.map) (same_some b it (sym was ∙ makes))))) had
     others (progress.Refused fault) n ne had = with_maker (record x.now { memory = memory }) i None n (λ b was is. absurd (ne (sym is ∙ ap (λ (c : Making S). c.map) (same_some b it (sym was ∙ makes))))) had
@@ -121,7 +121,7 @@ module _ {K V S : Type 0} (x : State K V S) (here : MapsAreHad x) where
         by (inr rest) = inr rest
 
     -- its own is made still, or stands
-    own : (p : Progress Setting) → ((fault : Fault) → p ≡ progress.Refused fault → ⊥) → IsHad (then_at p) it.map
+    own : (p : Advance Setting) → ((fault : Fault) → p ≡ progress.Refused fault → ⊥) → IsHad (then_at p) it.map
     own progress.Goes on = inr (inl (i, record it { machine = machine }, at_same x.now.makers i (Some (record it { machine = machine })) i refl, refl))
     own progress.Waits on = inr (inl (i, record it { machine = machine }, at_same x.now.makers i (Some (record it { machine = machine })) i refl, refl))
     own (progress.Done setting) on = inl ((setting, it.hasher), at_same x.now.maps it.map (Some (setting, it.hasher)) it.map refl)

@@ -2,7 +2,7 @@
 use Rattle.std.specs.Prelude.{◌≡◌, ◌≢◌, ◌++◌, ℕ, Bool, List, [], ◌∷◌, Option, Some, if◌then◌else◌}
 use Rattle.std.proofs.Common.{refl, ap, sym, subst, ◌∙◌}
 use Rattle.seize_acts.specs.Acts.Answers.{Grant}
-use Rattle.seize_acts.specs.Given.SeizeDeclared.progress.Progress.{Progress}
+use Rattle.seize_acts.specs.Given.SeizeDeclared.advance.Advance.{Advance}
 use Rattle.seize_acts.specs.Given.SeizeDeclared.rows.reclaim_all.ReclaimAll.{ReclaimAll}
 use Rattle.seize_acts.specs.Given.SeizeDeclared.rows.settle.Settled.{Settled}
 use Rattle.seize_acts.specs.Given.SeizeDeclared.rows.settle.Settled.TheVariants as settled
@@ -128,7 +128,7 @@ module _ {K V S : Type 0} (same : K → K → Bool) (by_hasher : S → K → ℕ
         machine_is : tied.it.machine ≡ b.machine
         machine_is = ap (λ (p : ℕ × ((K → ℕ) × NewMap)). p.1.1) tied.its
 
-        To : Progress Setting → Type 0
+        To : Advance Setting → Type 0
         To p = (l : MakingLeads same hash i p s old new) × ((d : Beginning K) (here : s.makers i ≡ Some d) → (let to = l d here in MadeTo same hash s old new i d to.0 to.2.step.w2 p to.3 n))
 
         its : To end

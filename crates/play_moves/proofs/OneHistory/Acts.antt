@@ -23,8 +23,8 @@ use Rattle.run_schedules.specs.declared.call.Call.{Call}
 use Rattle.run_schedules.specs.declared.call.Call.TheVariants.{On}
 use Rattle.run_schedules.specs.declared.call.OneKey.TheVariants.{Get}
 use Rattle.run_schedules.specs.declared.call.OneKey.TheVariants as one_key
-use Rattle.run_schedules.specs.declared.call.Answer.{Answer as Answer'}
-use Rattle.run_schedules.specs.declared.call.Answer.TheVariants as answer
+use Rattle.run_schedules.specs.declared.call.Response.{Response as Answer'}
+use Rattle.run_schedules.specs.declared.call.Response.TheVariants as answer
 use Rattle.run_schedules.specs.declared.call.Reply.{Reply as Told}
 use Rattle.run_schedules.specs.declared.outcome.Outcome.{Outcome}
 use Rattle.run_schedules.specs.declared.outcome.Outcome.TheVariants.{Answered}

@@ -17,13 +17,13 @@ use Rattle.threads_rule.specs.Views.Listed.{Called, calls_of, calls_then, has_to
 use Rattle.threads_rule.specs.Views.Told.{untold}
 use Rattle.threads_rule.specs.Views.Rule.{MapsWorld, KnowsMap, IsRun, AreRuns, Holds, caller_at, runs_of}
 use Rattle.threads_rule.specs.declared.view.Map.{Map}
-use Rattle.threads_rule.specs.declared.view.Run.{Run}
+use Rattle.threads_rule.specs.declared.view.BegunCall.{BegunCall}
 use Rattle.threads_rule.specs.declared.view.View.{View}
 use Rattle.threads_rule.proofs.Views.Listed.{its_seat}
 use Rattle.threads_rule.proofs.Views.Numbers.{its_caller}
 use Rattle.play_events.specs.Given.ScenesScene.{Scene, slot_of}
-use Rattle.run_schedules.specs.declared.call.Answer.{Answer}
-use Rattle.run_schedules.specs.declared.call.Answer.TheVariants as answers
+use Rattle.run_schedules.specs.declared.call.Response.{Response}
+use Rattle.run_schedules.specs.declared.call.Response.TheVariants as answers
 use Rattle.run_schedules.specs.declared.call.Call.TheVariants.{On}
 use Rattle.run_schedules.specs.declared.call.OneKey.{OneKey}
 use Rattle.run_schedules.specs.declared.call.OneKey.TheVariants as one_key
@@ -84,7 +84,7 @@ module _ {K V S : Type 0} (seat : ℕ) where
   calls_its [] said calls all = all
   calls_its (doing ∷ doings) [] calls all = all
 
-module _ {K V S : Type 0} (same : K → K → Bool) (hash : S → K → ℕ) (scene : Scene K V) (P Q : Called K V → Type 0) (run : Run K V) (before : List (Run K V)) where
+module _ {K V S : Type 0} (same : K → K → Bool) (hash : S → K → ℕ) (scene : Scene K V) (P Q : Called K V → Type 0) (run : BegunCall K V) (before : List (BegunCall K V)) where
   -- the call of the list that a run is
   pub record Found : Type 0 where
     pub one : Called K V
@@ -92,7 +92,7 @@ module _ {K V S : Type 0} (same : K → K → Bool) (hash : S → K → ℕ) (sc
     pub its : P one
     pub too : Q one
 
-  found : (later : List (Run K V)) (calls : List (Called K V)) → AreRuns same hash scene calls (later ++ run ∷ before) → AllByRecursion P calls → AllByRecursion Q calls → Found
+  found : (later : List (BegunCall K V)) (calls : List (Called K V)) → AreRuns same hash scene calls (later ++ run ∷ before) → AllByRecursion P calls → AllByRecursion Q calls → Found
   found [] (call ∷ calls) are all more = record { one = call; is = are.0; its = all.0; too = more.0 }
   found (other ∷ later) (call ∷ calls) are all more = found later calls are.1 all.1 more.1
   found [] [] are all more = absurd are
@@ -100,7 +100,7 @@ module _ {K V S : Type 0} (same : K → K → Bool) (hash : S → K → ℕ) (sc
 
 -- what is told of a lookup, in the words of the history
 pub such : {K V : Type 0} (known : Known) (key : K) (replies : List (Option ℕ × Reply V)) (told : KeyAnswer) (o : Outcome V) → ComesToIt known (one_key.Get key) replies (Done (Key told)) o
-    → (answer : Answer V) × IsSuch told answer × (o ≡ Answered answer)
+    → (answer : Response V) × IsSuch told answer × (o ≡ Answered answer)
 such known key replies says.Absent (Answered a) (inl so) = (a, (let is = so 0 in let one : answers.Absent ≡ a = cc is in sym one), refl)
 such known key replies (says.Found word) (Answered a) (inl (n, names, so)) = (a, (n, (let is = so 0 in let one : answers.Found n ≡ a = cc is in sym one)), refl)
 such known key replies (says.Stored new) (Answered a) (inr (n, names, value, means)) = absurd (cc means)
@@ -114,7 +114,7 @@ such known key replies (says.Removed old) (Answered a) (inl so) = absurd so
 such known key replies told _ comes = absurd comes
 
 module _ {K V S : Type 0} (same : K → K → Bool) (hash : S → K → ℕ) (fixed : Fixed) (small : fixed.batch_size < 2 ^ 64) (aborts : ℕ → V) (id t : ℕ) (v : View K V S) (map : Map S) (wanted : Wanted K V)
-    (run : Run K V) (later before : List (Run K V)) (knows : v.map ≡ Some map) (calls_are : v.calls ≡ later ++ run ∷ before) (simple : plain wanted ≡ wanted)
+    (run : BegunCall K V) (later before : List (BegunCall K V)) (knows : v.map ≡ Some map) (calls_are : v.calls ≡ later ++ run ∷ before) (simple : plain wanted ≡ wanted)
     (began : run.began ≡ machine_for same hash map t wanted) (ended : has_ended run.told ≡ true) (s : State (Node K V) (View K V S) (MapsWorld K V S)) (h : Holds same hash fixed s)
     (at_id : view_of s id ≡ Some v) where
   abbrev calls : List (Called K V)
@@ -129,7 +129,7 @@ module _ {K V S : Type 0} (same : K → K → Bool) (hash : S → K → ℕ) (fi
 
   pub runs : AreRuns same hash s.world.scene calls (later ++ run ∷ before)
   runs =
-      subst (λ (l : List (Run K V)). AreRuns same hash s.world.scene calls l) calls_are
+      subst (λ (l : List (BegunCall K V)). AreRuns same hash s.world.scene calls l) calls_are
       (subst (λ (o : Option (View K V S)). AreRuns same hash s.world.scene calls (runs_of o)) at_id (h.calls id))
 
   -- the call of the list that this is
@@ -174,7 +174,7 @@ module _ {K V S : Type 0} (same : K → K → Bool) (hash : S → K → ℕ) (fi
   abbrev Comes : Known → Option V → ℕ → ℕ → Wanted K V → Progress (Node K V) → Type 0
   Comes known value c m w told =
       IsAnswered same history c m (call_for w) (outcome known value w told)
-      × ((key : K) (answer : Answer V) → call_for w ≡ On (one_key.Get key) → outcome known value w told ≡ Answered answer → IsLookedUp same history c m key answer)
+      × ((key : K) (answer : Response V) → call_for w ≡ On (one_key.Get key) → outcome known value w told ≡ Answered answer → IsLookedUp same history c m key answer)
       × ((key : OneKey K V) → call_for w ≡ On key → (replies : List (Option ℕ × Reply V)) × ComesToIt known key replies told (outcome known value w told))
 
   pub comes : (known : Known) × (value : Option V) × Comes known value (caller_at id t) map.number wanted run.told
@@ -194,7 +194,7 @@ module _ {K V S : Type 0} (same : K → K → Bool) (hash : S → K → ℕ) (fi
 
   -- where it looked a key up, and was told this of it
   pub was_so : (key : K) (told : KeyAnswer) → wanted ≡ Get key → run.told ≡ Done (Key told)
-      → (after : Played K V S) × (play_all same hash fixed.batch_size fixed.roots aborts s.world.doings (first_state fixed.roots) ≡ Some after) × (answer : Answer V) × IsSuch told answer
+      → (after : Played K V S) × (play_all same hash fixed.batch_size fixed.roots aborts s.world.doings (first_state fixed.roots) ≡ Some after) × (answer : Response V) × IsSuch told answer
       × IsLookedUp same after.history (caller_at id t) map.number key answer
   was_so key told wants tells =
       let o = outcome comes.0 comes.1 wanted run.told in

@@ -21,11 +21,11 @@ use Rattle.threads_rule.specs.Views.Listed.{Called, IsNewest, calls_of, plain, s
 use Rattle.threads_rule.specs.Views.Looks.{shown_in}
 use Rattle.threads_rule.specs.Views.Rule.{MapsWorld, AreRuns, Holds, IsRun, IsSlot, caller_at, acts_in, section_of}
 use Rattle.threads_rule.specs.declared.view.Map.{Map}
-use Rattle.threads_rule.specs.declared.view.Run.{Run}
+use Rattle.threads_rule.specs.declared.view.BegunCall.{BegunCall}
 use Rattle.threads_rule.specs.declared.view.View.{View}
 use Rattle.threads_rule.proofs.Views.Listed.{its_seat}
 use Rattle.run_schedules.specs.Schedules.Sequential.{looked}
-use Rattle.run_schedules.specs.declared.call.Answer.TheVariants as answers
+use Rattle.run_schedules.specs.declared.call.Response.TheVariants as answers
 use Rattle.run_schedules.specs.declared.call.Call.TheVariants.{On}
 use Rattle.run_schedules.specs.declared.call.OneKey.TheVariants as one_key
 use Rattle.run_schedules.specs.declared.call.Reply.{Reply}
@@ -101,8 +101,8 @@ module _ {K V : Type 0} (known : Known) (replies : List (Option ℕ × Reply V))
   removed key is_removed if_so if_not (said.Key (says.Removed word)) (Answered a) (inl so) = absurd so
   removed key is_removed if_so if_not _ _ come = absurd come
 
-module _ {K V S : Type 0} (same : K → K → Bool) (hash : S → K → ℕ) (fixed : Fixed) (small : fixed.batch_size < 2 ^ 64) (id t : ℕ) (v : View K V S) (map : Map S) (run : Run K V)
-    (before : List (Run K V)) (knows : v.map ≡ Some map) (section : section_of v.under v.slot ≡ Some t) (calls_are : v.calls ≡ run ∷ before) where
+module _ {K V S : Type 0} (same : K → K → Bool) (hash : S → K → ℕ) (fixed : Fixed) (small : fixed.batch_size < 2 ^ 64) (id t : ℕ) (v : View K V S) (map : Map S) (run : BegunCall K V)
+    (before : List (BegunCall K V)) (knows : v.map ≡ Some map) (section : section_of v.under v.slot ≡ Some t) (calls_are : v.calls ≡ run ∷ before) where
   -- what was wanted, and has come to its end
   module _ (wanted : Wanted K V) (simple : plain wanted ≡ wanted) (began : run.began ≡ machine_for same hash map t wanted) (ended : has_ended run.told ≡ true) where
     -- in each state

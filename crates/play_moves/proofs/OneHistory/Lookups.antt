@@ -10,7 +10,7 @@ use Rattle.play_events.specs.Given.FinishesMaps.{Standing}
 use Rattle.play_lists.specs.Given.FollowsCalls.{IsCalled}
 use Rattle.run_schedules.specs.Runs.Same.{is_same}
 use Rattle.play_events.specs.Given.ScenesScene.{Scene}
-use Rattle.run_schedules.specs.declared.call.Answer.{Answer}
+use Rattle.run_schedules.specs.declared.call.Response.{Response}
 use Rattle.run_schedules.specs.declared.call.Call.{Call}
 use Rattle.run_schedules.specs.declared.call.Call.TheVariants as calls
 use Rattle.run_schedules.specs.declared.call.OneKey.TheVariants.{Get}
@@ -111,7 +111,7 @@ one_so P Q so [] one = one
 one_so P Q so (x ∷ xs) (inl is) = inl (so x is)
 one_so P Q so (x ∷ xs) (inr later) = inr (one_so P Q so xs later)
 
-module _ {K V : Type 0} (same : K → K → Bool) (i : ℕ) (answer : Answer V) (effects : List Effect) (refused : Bool) (log : List (Entry K V)) (there : UnderWay K V)
+module _ {K V : Type 0} (same : K → K → Bool) (i : ℕ) (answer : Response V) (effects : List Effect) (refused : Bool) (log : List (Entry K V)) (there : UnderWay K V)
     (here : call_of (named i) (moment log) ≡ Some there) (key : K) (call_is : there.call ≡ calls.On (Get key)) (free : there.due ≡ None)
     (right : IsLinearizable same log (record { deed = Steps i; outcome = Answered answer; effects = effects; refused = refused })) where
   abbrev e : Entry K V
@@ -138,7 +138,7 @@ module _ {K V : Type 0} (same : K → K → Bool) (i : ℕ) (answer : Answer V) 
 
   answers : OneOf (λ m. meaning_at same (Get key) its.left m ≡ Answers answer Leaves) (moments_from its.left.begun log)
   answers =
-      subst (λ (due : Option (Answer V)). AnswersDue same (Get key) its.left (moments_from its.left.begun log) due answer) (its.owes none ∙ free)
+      subst (λ (due : Option (Response V)). AnswersDue same (Get key) its.left (moments_from its.left.begun log) due answer) (its.owes none ∙ free)
       (subst (λ (call : Call K V). Ends same call its.left (moments_from its.left.begun log) (Answered answer)) (its.what ∙ call_is) is_right.ends)
 
   pub so_then : (map : ℕ) → there.map ≡ map → OneOf (λ m. looked (finite_map same map m key) ≡ answer) (moments_from there.begun log)

@@ -8,7 +8,7 @@ use Rattle.run_schedules.specs.Given.RawDeclared.machines.progress.Progress.TheV
 use Rattle.threads_rule.specs.Views.Listed.{Called, has_told}
 use Rattle.run_schedules.specs.Schedules.Entry.{acting}
 use Rattle.run_schedules.specs.Schedules.Moment.{UnderWay}
-use Rattle.run_schedules.specs.declared.call.Answer.{Answer}
+use Rattle.run_schedules.specs.declared.call.Response.{Response}
 use Rattle.run_schedules.specs.declared.call.Call.{Call}
 use Rattle.run_schedules.specs.Deeds.Deeds.{Deed, Entry, caller_of, moment}
 use Rattle.run_schedules.specs.Deeds.History.{answered, answers_of, is_of}
@@ -51,10 +51,10 @@ module _ {K V : Type 0} (i : ℕ) where
 
   -- with what it is told last
   module _ (there : UnderWay K V) (known : Known) (value : Option V) (call : Call K V) (is : there.call ≡ call) where
-    abbrev New : Progress (Node K V) → List (Call K V × Answer V)
+    abbrev New : Progress (Node K V) → List (Call K V × Response V)
     New told = answered (Some there) (outcome_of {K = K} known (kind_of call) value told)
 
-    now : (one : Called K V) (before : List (Called K V)) (answers : List (Call K V × Answer V)) → (one.caller == i) ≡ true → call_for one.wanted ≡ call → HaveGot i before answers
+    now : (one : Called K V) (before : List (Called K V)) (answers : List (Call K V × Response V)) → (one.caller == i) ≡ true → call_for one.wanted ≡ call → HaveGot i before answers
         → (told : Progress (Node K V)) → HaveGot i (record one { told = told } ∷ before) (New told ++ answers)
     now one before answers e wants got (progress.Done said) =
         subst (λ (k : Bool). IfElse k (IsNewestAnswer (record one { told = progress.Done said }) (HaveGot i before) (New (progress.Done said) ++ answers)) (HaveGot i before (New (progress.Done said) ++ answers))) (sym e)
@@ -69,7 +69,7 @@ module _ {K V : Type 0} (i : ℕ) where
     now one before answers e wants got (progress.Refused fault) = got
 
     module _ (told : Progress (Node K V)) where
-      pub got_then : (calls : List (Called K V)) (answers : List (Call K V × Answer V)) → IsOpen calls → Wants call calls → HaveGot i calls answers → HaveGot i (has_told i told calls) (New told ++ answers)
+      pub got_then : (calls : List (Called K V)) (answers : List (Call K V × Response V)) → IsOpen calls → Wants call calls → HaveGot i calls answers → HaveGot i (has_told i told calls) (New told ++ answers)
       got_then [] answers unanswered wants got = absurd wants
       got_then (one ∷ before) answers unanswered wants got = by (λ o w g. got_then before answers o w g) (one.caller == i) refl
         where
@@ -109,16 +109,16 @@ module _ {K V : Type 0} (i j : ℕ) (ne : j ≢ i) (told : Progress (Node K V)) 
           (subst (λ (k : Bool). IfElse k (So one) (NewestCall j So before)) (not_its one.caller e) was)
       by rest false e = on rest (one.caller == j) was
 
-  pub others_got : (calls : List (Called K V)) (answers : List (Call K V × Answer V)) → HaveGot j calls answers → HaveGot j (has_told i told calls) answers
+  pub others_got : (calls : List (Called K V)) (answers : List (Call K V × Response V)) → HaveGot j calls answers → HaveGot j (has_told i told calls) answers
   others_got [] answers got = got
   others_got (one ∷ before) answers got = by (λ a g. others_got before a g) (one.caller == i) refl
     where
-      newest : ((a : List (Call K V × Answer V)) → HaveGot j before a → HaveGot j (has_told i told before) a) → (a : List (Call K V × Answer V)) → IsNewestAnswer one (HaveGot j before) a
+      newest : ((a : List (Call K V × Response V)) → HaveGot j before a → HaveGot j (has_told i told before) a) → (a : List (Call K V × Response V)) → IsNewestAnswer one (HaveGot j before) a
           → IsNewestAnswer one (HaveGot j (has_told i told before)) a
       newest rest [] was = was
       newest rest (one_got ∷ a) was = (was.0, was.1, rest a was.2)
 
-      on : ((a : List (Call K V × Answer V)) → HaveGot j before a → HaveGot j (has_told i told before) a) → (k : Bool) → IfElse k (IsNewestAnswer one (HaveGot j before) answers) (HaveGot j before answers)
+      on : ((a : List (Call K V × Response V)) → HaveGot j before a → HaveGot j (has_told i told before) a) → (k : Bool) → IfElse k (IsNewestAnswer one (HaveGot j before) answers) (HaveGot j before answers)
           → IfElse k (IsNewestAnswer one (HaveGot j (has_told i told before)) answers) (HaveGot j (has_told i told before) answers)
       on rest true was = newest rest answers was
       on rest false was = rest answers was
@@ -126,7 +126,7 @@ module _ {K V : Type 0} (i j : ℕ) (ne : j ≢ i) (told : Progress (Node K V)) 
       aside : (p : Progress (Node K V)) → (one.caller == i) ≡ true → (is_answer p && (one.caller == j)) ≡ false
       aside p e = ap (λ (k : Bool). is_answer p && k) (not_its one.caller e) ∙ and_false (is_answer p)
 
-      by : ((a : List (Call K V × Answer V)) → HaveGot j before a → HaveGot j (has_told i told before) a) → (q : Bool) → (one.caller == i) ≡ q
+      by : ((a : List (Call K V × Response V)) → HaveGot j before a → HaveGot j (has_told i told before) a) → (q : Bool) → (one.caller == i) ≡ q
           → HaveGot j (if q then record one { told = told } ∷ before else one ∷ has_told i told before) answers
       by rest true e =
           subst (λ (k : Bool). IfElse k (IsNewestAnswer (record one { told = told }) (HaveGot j before) answers) (HaveGot j before answers)) (sym (aside told e))

@@ -4,8 +4,8 @@ use Rattle.std.specs.Option.{is_none}
 use Rattle.std.proofs.Common.{◌≡◌, ℕ, true, false, List, [], ◌∷◌, ◌⊎◌, inl, inr, refl, sym, subst, ap, ◌∙◌, arith, Option, Some, None}
 use Rattle.seize_acts.proofs.Acts.Answers.{same_some}
 use Rattle.play_lists.specs.Given.TablesDeclared.resize_mode.ResizeMode.TheVariants.{Incremental}
-use Rattle.run_schedules.specs.declared.call.Answer.{Answer}
-use Rattle.run_schedules.specs.declared.call.Answer.TheVariants as answer
+use Rattle.run_schedules.specs.declared.call.Response.{Response}
+use Rattle.run_schedules.specs.declared.call.Response.TheVariants as answer
 use Rattle.run_schedules.specs.declared.call.Call.TheVariants.{On}
 use Rattle.run_schedules.specs.declared.call.OneKey.TheVariants.{Get, Insert, Remove}
 use Rattle.run_schedules.specs.declared.effect.Effect.{Effect}
@@ -40,7 +40,7 @@ first = entry (Opens 3) Done [] ∷ entry (MapComes 0 0 (Incremental 64) 8) Goes
 abbrev looking : List (Entry ℕ ℕ) → List (Entry ℕ ℕ)
 looking log = entry (Begins 3 3 0 (On (Get 1))) Goes [] ∷ log
 
-abbrev told : Answer ℕ → List (Entry ℕ ℕ) → List (Entry ℕ ℕ)
+abbrev told : Response ℕ → List (Entry ℕ ℕ) → List (Entry ℕ ℕ)
 told a log = entry (Steps 3) (Answered a) [] ∷ looking log
 
 none_no : true ≡ false → ⊥
@@ -77,7 +77,7 @@ either f g (inr b) = g b
 never : ⊥ → ⊥
 never h = h
 
-absent_found : (n : ℕ) → ◌≡◌ {A = Answer ℕ} answer.Absent (answer.Found n) → ⊥
+absent_found : (n : ℕ) → ◌≡◌ {A = Response ℕ} answer.Absent (answer.Found n) → ⊥
 absent_found n h = cc
 
 answered_found : (n : ℕ) → ◌≡◌ {A = Outcome ℕ} (Answered answer.Absent) (Answered (answer.Found n)) → ⊥
@@ -88,19 +88,19 @@ another_map c is on =
     let two : 0 ≡ 1 = ap (λ (d : UnderWay ℕ ℕ). d.map) (same_some (there (looking first) refl).0 c (sym (there (looking first) refl).1 ∙ is)) ∙ on in omega (arith, two)
 
 -- by no other entry of these
-abbrev IsEnd : ℕ → ℕ → Answer ℕ → List (Entry ℕ ℕ) → Entry ℕ ℕ → Type 0
+abbrev IsEnd : ℕ → ℕ → Response ℕ → List (Entry ℕ ℕ) → Entry ℕ ℕ → Type 0
 IsEnd i map a log e = IsItsEnd nat_eq i map (On (Get 1)) (Answered a) log e
 
-begins_no : (i map : ℕ) (a : Answer ℕ) (log : List (Entry ℕ ℕ)) → IsEnd i map a log (entry (Begins 3 3 0 (On (Get 1))) Goes []) → ⊥
+begins_no : (i map : ℕ) (a : Response ℕ) (log : List (Entry ℕ ℕ)) → IsEnd i map a log (entry (Begins 3 3 0 (On (Get 1))) Goes []) → ⊥
 begins_no i map a log is = let deed = is.deed in absurd (cc deed)
 
-opens_no : (i map : ℕ) (a : Answer ℕ) (log : List (Entry ℕ ℕ)) → IsEnd i map a log (entry (Opens 3) Done []) → ⊥
+opens_no : (i map : ℕ) (a : Response ℕ) (log : List (Entry ℕ ℕ)) → IsEnd i map a log (entry (Opens 3) Done []) → ⊥
 opens_no i map a log is = let deed = is.deed in absurd (cc deed)
 
-comes_no : (i map : ℕ) (a : Answer ℕ) (log : List (Entry ℕ ℕ)) → IsEnd i map a log (entry (MapComes 0 0 (Incremental 64) 8) Goes []) → ⊥
+comes_no : (i map : ℕ) (a : Response ℕ) (log : List (Entry ℕ ℕ)) → IsEnd i map a log (entry (MapComes 0 0 (Incremental 64) 8) Goes []) → ⊥
 comes_no i map a log is = let deed = is.deed in absurd (cc deed)
 
-earlier_no : (i map : ℕ) (a : Answer ℕ) → IsAnswered nat_eq (looking first) i map (On (Get 1)) (Answered a) → ⊥
+earlier_no : (i map : ℕ) (a : Response ℕ) → IsAnswered nat_eq (looking first) i map (On (Get 1)) (Answered a) → ⊥
 earlier_no i map a = either (begins_no i map a _) (either (opens_no i map a _) (either (comes_no i map a _) never))
 
 -- Wrong: the call was begun, and has not ended.
@@ -142,14 +142,14 @@ found_there : IsLookedUp nat_eq (told (answer.Found 1) stored) 3 0 1 (answer.Fou
 found_there = inl (record { deed = refl; comes = refl; there = (there (looking stored) refl).0; here = (there (looking stored) refl).1; on = refl; what = refl; so = inl refl })
 
 -- Wrong: one that begins later has found it; or has found none while it was there.
-abbrev WasSoThen : Answer ℕ → List (Entry ℕ ℕ) → Type 0
+abbrev WasSoThen : Response ℕ → List (Entry ℕ ℕ) → Type 0
 WasSoThen a log = WasSo nat_eq 3 0 1 a (looking log) (entry (Steps 3) (Answered a) [])
 
 begun_then : (log : List (Entry ℕ ℕ)) (n : ℕ) → (some : is_none (call_of (named 3) (moment (looking log))) ≡ false) → (there (looking log) some).0.begun ≡ n
-    → (a : Answer ℕ) (was : WasSoThen a log) → was.there.begun ≡ n
+    → (a : Response ℕ) (was : WasSoThen a log) → was.there.begun ≡ n
 begun_then log n some is a was = ap (λ (c : UnderWay ℕ ℕ). c.begun) (same_some was.there (there (looking log) some).0 (sym was.here ∙ (there (looking log) some).1)) ∙ is
 
-abbrev SoSince : ℕ → Answer ℕ → List (Entry ℕ ℕ) → Type 0
+abbrev SoSince : ℕ → Response ℕ → List (Entry ℕ ℕ) → Type 0
 SoSince begun a log = OneOf (λ m. looked (finite_map nat_eq 0 m 1) ≡ a) (moments_from begun (looking log))
 
 found_late : WasSoThen (answer.Found 1) removed → ⊥
@@ -157,7 +157,7 @@ found_late was =
     either (absent_found 1) (either (absent_found 1) never)
     (subst (λ (b : ℕ). SoSince b (answer.Found 1) removed) (begun_then removed 7 refl refl (answer.Found 1) was) was.so)
 
-found_absent : (n : ℕ) → ◌≡◌ {A = Answer ℕ} (answer.Found n) answer.Absent → ⊥
+found_absent : (n : ℕ) → ◌≡◌ {A = Response ℕ} (answer.Found n) answer.Absent → ⊥
 found_absent n h = cc
 
 missed : WasSoThen answer.Absent stored → ⊥

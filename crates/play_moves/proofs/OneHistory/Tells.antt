@@ -12,7 +12,7 @@ use Rattle.run_schedules.specs.Given.RawDeclared.machines.progress.Answer.TheVar
 use Rattle.run_schedules.specs.Given.RawDeclared.machines.progress.Progress.{Progress}
 use Rattle.run_schedules.specs.Given.RawDeclared.machines.progress.Progress.TheVariants.{Done}
 use Rattle.threads_rule.specs.Views.Listed.{Called, has_told, seat_of}
-use Rattle.run_schedules.specs.declared.call.Answer.{Answer}
+use Rattle.run_schedules.specs.declared.call.Response.{Response}
 use Rattle.run_schedules.specs.declared.call.Call.{Call}
 use Rattle.run_schedules.specs.declared.call.Call.TheVariants.{On}
 use Rattle.run_schedules.specs.declared.call.OneKey.{OneKey}
@@ -42,7 +42,7 @@ module _ {K V : Type 0} where
 module _ {K V : Type 0} (same : K → K → Bool) where
   -- what a lookup was answered was so
   abbrev pub WasSoFor : List (Entry K V) → Called K V → Outcome V → Type 0
-  WasSoFor history one outcome = (key : K) (answer : Answer V) → call_for one.wanted ≡ On (Get key) → outcome ≡ Answered answer → IsLookedUp same history one.caller one.map key answer
+  WasSoFor history one outcome = (key : K) (answer : Response V) → call_for one.wanted ≡ On (Get key) → outcome ≡ Answered answer → IsLookedUp same history one.caller one.map key answer
 
   -- what one on a key has told is what it was answered
   abbrev pub SaysSo : Known → Called K V → Outcome V → Type 0
@@ -96,7 +96,7 @@ module _ {K V : Type 0} (same : K → K → Bool) where
   abbrev pub EndsAs : ℕ → ℕ → Wanted K V → Progress (Node K V) → List (Entry K V) → Entry K V → Type 0
   EndsAs i m wanted told log e =
       (known : Known) × (value : Option V) × IsItsEnd same i m (call_for wanted) (outcome_of known (kind_of (call_for wanted)) value told) log e
-      × ((key : K) (answer : Answer V) → call_for wanted ≡ On (Get key) → outcome_of known (kind_of (call_for wanted)) value told ≡ Answered answer → WasSo same i m key answer log e)
+      × ((key : K) (answer : Response V) → call_for wanted ≡ On (Get key) → outcome_of known (kind_of (call_for wanted)) value told ≡ Answered answer → WasSo same i m key answer log e)
       × ((key : OneKey K V) → call_for wanted ≡ On key → (replies : List (Option ℕ × Reply V)) × ComesToIt known key replies told (outcome_of known (kind_of (call_for wanted)) value told))
 
   -- it is the newest step of its caller's calls

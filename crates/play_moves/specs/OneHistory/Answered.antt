@@ -7,7 +7,7 @@ use Rattle.threads_rule.specs.Views.Begun.{machine_for}
 use Rattle.threads_rule.specs.Views.Listed.{plain}
 use Rattle.threads_rule.specs.Views.Rule.{MapsWorld, Holds, caller_at}
 use Rattle.threads_rule.specs.declared.view.Map.{Map}
-use Rattle.threads_rule.specs.declared.view.Run.{Run}
+use Rattle.threads_rule.specs.declared.view.BegunCall.{BegunCall}
 use Rattle.threads_rule.specs.declared.view.View.{View}
 use Rattle.run_schedules.specs.Schedules.Moment.{UnderWay}
 use Rattle.run_schedules.specs.Schedules.Views.{call_of}
@@ -54,7 +54,7 @@ module _ {K S : Type 0} (V : Type 0) (same : K → K → Bool) (hash : S → K �
   -- come to what the seat was told, in the words of the history.
   abbrev pub SeatsAreAnswered : Type 0
   SeatsAreAnswered =
-      (fixed : Fixed) → fixed.batch_size < 2 ^ 64 → (aborts : ℕ → V) (id t : ℕ) (v : View K V S) (map : Map S) (wanted : Wanted K V) (run : Run K V) (later before : List (Run K V))
+      (fixed : Fixed) → fixed.batch_size < 2 ^ 64 → (aborts : ℕ → V) (id t : ℕ) (v : View K V S) (map : Map S) (wanted : Wanted K V) (run : BegunCall K V) (later before : List (BegunCall K V))
       → v.map ≡ Some map → v.calls ≡ later ++ run ∷ before → plain wanted ≡ wanted → run.began ≡ machine_for same hash map t wanted → has_ended run.told ≡ true
       → (s : State (Node K V) (View K V S) (MapsWorld K V S)) → Holds same hash fixed s → view_of s id ≡ Some v
       → (after : Played K V S) × (play_all same hash fixed.batch_size fixed.roots aborts s.world.doings (first_state fixed.roots) ≡ Some after)

@@ -9,7 +9,7 @@ use Rattle.threads_rule.specs.declared.view.Map.{Map}
 use Rattle.threads_rule.specs.declared.view.View.{View}
 use Rattle.run_schedules.specs.Schedules.After.{AtEachEvent}
 use Rattle.run_schedules.specs.Schedules.Sequential.{looked}
-use Rattle.run_schedules.specs.declared.call.Answer.TheVariants as answers
+use Rattle.run_schedules.specs.declared.call.Response.TheVariants as answers
 use Rattle.run_schedules.specs.declared.call.Call.TheVariants.{On}
 use Rattle.run_schedules.specs.declared.call.OneKey.TheVariants.{Insert, TryInsert, Remove}
 use Rattle.run_schedules.specs.declared.outcome.Outcome.TheVariants.{Answered, Refused}

@@ -10,14 +10,14 @@ use Rattle.run_schedules.specs.Given.RawDeclared.machines.progress.Progress.TheV
 use Rattle.threads_rule.specs.Views.Begun.{machine_for}
 use Rattle.threads_rule.specs.Views.Rule.{MapsWorld, Holds, caller_at}
 use Rattle.threads_rule.specs.declared.view.Map.{Map}
-use Rattle.threads_rule.specs.declared.view.Run.{Run}
+use Rattle.threads_rule.specs.declared.view.BegunCall.{BegunCall}
 use Rattle.threads_rule.specs.declared.view.View.{View}
 use Rattle.run_schedules.specs.Schedules.Lists.{OneOf}
 use Rattle.run_schedules.specs.Schedules.Moment.{UnderWay}
 use Rattle.run_schedules.specs.Schedules.Sequential.{looked}
 use Rattle.run_schedules.specs.Schedules.Views.{call_of, finite_map}
-use Rattle.run_schedules.specs.declared.call.Answer.{Answer}
-use Rattle.run_schedules.specs.declared.call.Answer.TheVariants as answers
+use Rattle.run_schedules.specs.declared.call.Response.{Response}
+use Rattle.run_schedules.specs.declared.call.Response.TheVariants as answers
 use Rattle.run_schedules.specs.declared.call.Call.TheVariants.{On}
 use Rattle.run_schedules.specs.declared.call.OneKey.TheVariants.{Get}
 use Rattle.run_schedules.specs.declared.outcome.Outcome.TheVariants.{Answered}
@@ -29,7 +29,7 @@ use Rattle.run_schedules.specs.Runs.Log.{pair_at}
 
 module _ {K V : Type 0} (same : K → K → Bool) where
   -- By this entry the caller's call on this map, to get this key, is answered this, and at a moment since it began the finite map of that map had just that for the key: a pair, or none.
-  pub record WasSo (i map : ℕ) (key : K) (answer : Answer V) (log : List (Entry K V)) (e : Entry K V) : Type 0 where
+  pub record WasSo (i map : ℕ) (key : K) (answer : Response V) (log : List (Entry K V)) (e : Entry K V) : Type 0 where
     pub deed : e.deed ≡ Steps i
     pub comes : e.outcome ≡ Answered answer
     pub there : UnderWay K V
@@ -39,7 +39,7 @@ module _ {K V : Type 0} (same : K → K → Bool) where
     pub so : OneOf (λ m. looked (finite_map same map m key) ≡ answer) (moments_from there.begun log)
 
   -- somewhere in the history
-  abbrev pub IsLookedUp : List (Entry K V) → ℕ → ℕ → K → Answer V → Type 0
+  abbrev pub IsLookedUp : List (Entry K V) → ℕ → ℕ → K → Response V → Type 0
   IsLookedUp [] i map key answer = ⊥
   IsLookedUp (e ∷ log) i map key answer = WasSo i map key answer log e ⊎ IsLookedUp log i map key answer
 
@@ -51,7 +51,7 @@ module _ {K V : Type 0} (same : K → K → Bool) where
     pub pair : pair_at (moment (e ∷ log)).stored number ≡ Some (stored, value)
 
 -- a pair was found, or none
-abbrev pub IsSuch : {V : Type 0} → KeyAnswer → Answer V → Type 0
+abbrev pub IsSuch : {V : Type 0} → KeyAnswer → Response V → Type 0
 IsSuch Absent answer = answer ≡ answers.Absent
 IsSuch (Found word) answer = (n : ℕ) × (answer ≡ answers.Found n)
 IsSuch told answer = ⊥
@@ -61,8 +61,8 @@ module _ {K S : Type 0} (V : Type 0) (same : K → K → Bool) (hash : S → K �
   -- what was done, wherever the memory stands: there was no pair for the key, or there was one.
   abbrev pub LookupsWereSo : Type 0
   LookupsWereSo =
-      (fixed : Fixed) → fixed.batch_size < 2 ^ 64 → (aborts : ℕ → V) (id t : ℕ) (v : View K V S) (map : Map S) (key : K) (run : Run K V) (later before : List (Run K V)) (told : KeyAnswer)
+      (fixed : Fixed) → fixed.batch_size < 2 ^ 64 → (aborts : ℕ → V) (id t : ℕ) (v : View K V S) (map : Map S) (key : K) (run : BegunCall K V) (later before : List (BegunCall K V)) (told : KeyAnswer)
       → v.map ≡ Some map → v.calls ≡ later ++ run ∷ before → run.began ≡ machine_for same hash map t (GetsKey key) → run.told ≡ Done (Key told)
       → (s : State (Node K V) (View K V S) (MapsWorld K V S)) → Holds same hash fixed s → view_of s id ≡ Some v
       → (after : Played K V S) × (play_all same hash fixed.batch_size fixed.roots aborts s.world.doings (first_state fixed.roots) ≡ Some after)
-      × (answer : Answer V) × IsSuch told answer × IsLookedUp same after.history (caller_at id t) map.number key answer
+      × (answer : Response V) × IsSuch told answer × IsLookedUp same after.history (caller_at id t) map.number key answer

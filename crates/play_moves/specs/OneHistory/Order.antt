@@ -8,7 +8,7 @@ use Rattle.run_schedules.specs.Given.RawDeclared.machines.progress.Progress.TheV
 use Rattle.threads_rule.specs.Views.Listed.{Called, calls_of}
 use Rattle.threads_rule.specs.Views.Rule.{MapsWorld, Holds, IsSlot, caller_at}
 use Rattle.threads_rule.specs.declared.view.View.{View}
-use Rattle.run_schedules.specs.declared.call.Answer.{Answer}
+use Rattle.run_schedules.specs.declared.call.Response.{Response}
 use Rattle.run_schedules.specs.declared.call.Call.{Call}
 use Rattle.run_schedules.specs.declared.outcome.Outcome.TheVariants.{Answered}
 use Rattle.run_schedules.specs.Deeds.History.{answers_of}
@@ -24,13 +24,13 @@ is_answer _ = false
 
 module _ {K V : Type 0} where
   -- the newest of these answers is that of this call, for what it wanted, as it was told; and the others are so
-  abbrev pub IsNewestAnswer : Called K V → (List (Call K V × Answer V) → Type 0) → List (Call K V × Answer V) → Type 0
+  abbrev pub IsNewestAnswer : Called K V → (List (Call K V × Response V) → Type 0) → List (Call K V × Response V) → Type 0
   IsNewestAnswer one Others [] = ⊥
   IsNewestAnswer one Others (got ∷ answers) =
       (got.0 ≡ call_for one.wanted) × ((known : Known) × (value : Option V) × (outcome_of known (kind_of (call_for one.wanted)) value one.told ≡ Answered got.1)) × Others answers
 
   -- Of these calls, the newest first, those of a caller that were answered have got just these answers, one each and in order.
-  abbrev pub HaveGot : ℕ → List (Called K V) → List (Call K V × Answer V) → Type 0
+  abbrev pub HaveGot : ℕ → List (Called K V) → List (Call K V × Response V) → Type 0
   HaveGot i [] answers = answers ≡ []
   HaveGot i (one ∷ before) answers = IfElse (is_answer one.told && (one.caller == i)) (IsNewestAnswer one (HaveGot i before) answers) (HaveGot i before answers)
 

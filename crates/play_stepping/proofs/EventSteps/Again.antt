@@ -24,7 +24,7 @@ use Rattle.play_scheduler.proofs.Given.KeptStays.{calls_come_to_kept}
 use Rattle.play_scheduler.proofs.Given.LoggedCounted.{counted_calls}
 use Rattle.play_scheduler.specs.Played.{StandsFor}
 use Rattle.run_executor.specs.Named.Seen.{Seen, far_of, is_named, seen, seen_of}
-use Rattle.run_executor.specs.declared.caller.Caller.{Caller}
+use Rattle.run_executor.specs.declared.caller.NamedCaller.{NamedCaller}
 use Rattle.run_executor.specs.declared.caller.Stands.{Stands as HowFar}
 use Rattle.run_executor.specs.declared.caller.Stands.TheVariants as far
 use Rattle.play_scheduler.specs.declared.scheduler.Scheduler.{Scheduler}
@@ -46,10 +46,10 @@ module _ {K V S : Type 0} (same : K → K → Bool) (hash : K → ℕ) (terms : 
   abbrev s : Scene K V
   s = stands.scene
 
-  abbrev d : Caller V
+  abbrev d : NamedCaller V
   d = here.caller
 
-  abbrev calls : List (Caller V)
+  abbrev calls : List (NamedCaller V)
   calls = p.calls
 
   abbrev change : CallThere K V → CallThere K V
@@ -64,7 +64,7 @@ module _ {K V S : Type 0} (same : K → K → Bool) (hash : K → ℕ) (terms : 
         ∙ changed_at seen seen_of (λ (z : Seen). is_same z.name own) change d m.calls calls stands.calls.listed (stands.calls.once own) here.any so
         ∙ ap (λ (k : ℕ). map seen_of (slice_set calls k d)) (sym here.first) ∙ set_seen seen_of calls place d d here.at refl
       where
-        so : (x : CallThere K V) (y : Caller V) → find (is_named own) calls ≡ Some y → seen x ≡ seen_of y → seen (change x) ≡ seen_of d
+        so : (x : CallThere K V) (y : NamedCaller V) → find (is_named own) calls ≡ Some y → seen x ≡ seen_of y → seen (change x) ≡ seen_of d
         so x y found it = alike x (it ∙ ap seen_of (the y d (sym found ∙ here.found)))
 
     pub stands_again : StandsFor same hash terms (come_to own outcome counted m) p

@@ -4,8 +4,8 @@ use Rattle.std.specs.List.{list_any}
 use Rattle.std.proofs.Common.{◌≡◌, ℕ, Bool, true, refl, ap, sym, subst, ◌∙◌}
 use Rattle.seize_words.specs.OneMemory.Mem.{Mem}
 use Rattle.papaya_raw.specs.Given.TablesDeclared.node.Node.{Node}
-use Rattle.owner_whole.specs.Given.ResizeDeclared.outcome.Outcome.{Outcome}
-use Rattle.owner_whole.specs.Given.ResizeDeclared.outcome.Outcome.TheVariants as outcome
+use Rattle.owner_whole.specs.Given.ResizeDeclared.yielding.Yielding.{Yielding}
+use Rattle.owner_whole.specs.Given.ResizeDeclared.yielding.Yielding.TheVariants as outcome
 use Rattle.papaya_raw.specs.Given.ReservesReserve.{reserve_plan}
 use Rattle.papaya_raw.specs.Given.ReservesDeclared.reserve.Reserve.{Reserve}
 use Rattle.papaya_raw.specs.Given.SweepsSweep.{sweep_plan}
@@ -50,7 +50,7 @@ use Rattle.run_executor.specs.Executing.IsThere.{held_by}
 use Rattle.run_executor.specs.Given.ScenesHeld.{Held}
 
 -- what a reservation, or a sweep, says as it waits
-room_waits : {T : Type 0} (x : Outcome T Unit) → of_outcome x ≡ progress.Waits → x ≡ outcome.Waits
+room_waits : {T : Type 0} (x : Yielding T Unit) → of_outcome x ≡ progress.Waits → x ≡ outcome.Waits
 room_waits outcome.Waits e = refl
 room_waits outcome.Goes e = absurd (cc e)
 room_waits (outcome.Gave value) e = absurd (cc e)
@@ -114,9 +114,9 @@ module _ {K V S : Type 0} (same : K → K → Bool) (hash : K → ℕ) (terms : 
       let it = told_in before after told of_room (reserve_plan hash r.reserve) (next, progress.Waits) s in
       by it.0 (room_waits it.0.1 (ap (λ (y : Machine K V K × Progress (Node K V)). y.1) (sym it.1))) it.2
     where
-      by : (end : Reserve × Outcome (Node K V) Unit) → end.1 ≡ outcome.Waits → Step before after told (reserve_plan hash r.reserve) end
+      by : (end : Reserve × Yielding (Node K V) Unit) → end.1 ≡ outcome.Waits → Step before after told (reserve_plan hash r.reserve) end
           → (p2 : Reserve) × Step before after told (reserve_plan hash r.reserve) (p2, outcome.Waits)
-      by (p2, said) e t = (p2, subst (λ (y : Outcome (Node K V) Unit). Step before after told (reserve_plan hash r.reserve) (p2, y)) e t)
+      by (p2, said) e t = (p2, subst (λ (y : Yielding (Node K V) Unit). Step before after told (reserve_plan hash r.reserve) (p2, y)) e t)
 
   sweep_step : (o : CallOverAll) → StepsFrom same hash (machine_of (OverAll o)) (held_by p.logged.executor) new next progress.Waits
       → (p2 : Sweep) × Step before after told (sweep_plan hash o.sweep) (p2, swept.Waits)

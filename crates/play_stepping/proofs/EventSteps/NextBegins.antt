@@ -26,11 +26,11 @@ use Rattle.run_executor.specs.Named.Machines.{IsAsFar, IsFor}
 use Rattle.play_scheduler.specs.Played.{IsUnderWay, IsUnderWayAs, StandsAs, StandsFor}
 use Rattle.run_executor.specs.Named.Seen.{is_named}
 use Rattle.play_stepping.specs.EventSteps.Stepping.{IsWalking, WalksFar}
-use Rattle.run_executor.specs.declared.caller.Caller.{Caller}
+use Rattle.run_executor.specs.declared.caller.NamedCaller.{NamedCaller}
 use Rattle.run_executor.specs.declared.caller.Stands.{Stands as HowFar}
 use Rattle.run_executor.specs.declared.caller.Stands.TheVariants as far
-use Rattle.run_executor.specs.declared.kind.Kind.{Kind}
-use Rattle.run_executor.specs.declared.kind.Kind.TheVariants as kind
+use Rattle.run_executor.specs.declared.kind.CallKind.{CallKind}
+use Rattle.run_executor.specs.declared.kind.CallKind.TheVariants as kind
 use Rattle.play_scheduler.specs.declared.scheduler.Scheduler.{Scheduler}
 use Rattle.play_scheduler.proofs.Given.RowsFacts.{no_ending_of, no_making_of, no_work_at, row_rests, used_still}
 use Rattle.play_scheduler.proofs.Here.{Here}
@@ -42,7 +42,7 @@ use Rattle.play_scheduler.specs.Given.ScenesReplying.{scene_with}
 use Rattle.play_scheduler.specs.Given.ScenesScene.{HasCall, Scene}
 
 -- a call that walks is of the kind of walks
-pub kind_walks : (its : Kind) (purpose : Purpose) → IsFor its purpose → purpose ≡ Walks → its ≡ kind.Walks
+pub kind_walks : (its : CallKind) (purpose : Purpose) → IsFor its purpose → purpose ≡ Walks → its ≡ kind.Walks
 kind_walks kind.Walks purpose for is = refl
 kind_walks kind.Clears purpose for is = absurd (cc (for, is))
 kind_walks kind.Retains purpose for is = absurd (cc (for, is))
@@ -61,13 +61,13 @@ module _ {K V S : Type 0} (same : K → K → Bool) (hash : K → ℕ) (terms : 
   abbrev s : Scene K V
   s = stands.scene
 
-  abbrev d : Caller V
+  abbrev d : NamedCaller V
   d = here.caller
 
   abbrev i : ℕ
   i = d.number
 
-  abbrev calls : List (Caller V)
+  abbrev calls : List (NamedCaller V)
   calls = p.calls
 
   abbrev u : UnderWay K V K
@@ -134,7 +134,7 @@ module _ {K V S : Type 0} (same : K → K → Bool) (hash : K → ℕ) (terms : 
     )
 
     -- others have other numbers
-    still : (x : Caller V) → is_named own x ≡ false → IsUnderWay stands.name s p.there x → IsUnderWayAs (WalksFar own 0) stands.name then_at p.there x
+    still : (x : NamedCaller V) → is_named own x ≡ false → IsUnderWay stands.name s p.there x → IsUnderWayAs (WalksFar own 0) stands.name then_at p.there x
     still x other way = (way.0, there_then x.map x.number ne ∙ way.1, way.2, way.3, (λ holds. absurd (cc (other, holds)), λ fails. way.4))
       where
         ne : x.number ≢ i
@@ -142,7 +142,7 @@ module _ {K V S : Type 0} (same : K → K → Bool) (hash : K → ℕ) (terms : 
 
     each_then : AllByRecursion (IsUnderWayAs (WalksFar own 0) stands.name then_at p.there) calls
     each_then =
-        subst (λ (xs : List (Caller V)). AllByRecursion (IsUnderWayAs (WalksFar own 0) stands.name then_at p.there) xs) (set_itself calls place d here.at)
+        subst (λ (xs : List (NamedCaller V)). AllByRecursion (IsUnderWayAs (WalksFar own 0) stands.name then_at p.there) xs) (set_itself calls place d here.at)
         (subst (λ (k : ℕ). AllByRecursion (IsUnderWayAs (WalksFar own 0) stands.name then_at p.there) (slice_set calls k d)) (sym here.first)
         (set_all (IsUnderWay stands.name s p.there) (IsUnderWayAs (WalksFar own 0) stands.name then_at p.there) (is_named own) d way_then still calls stands.calls.each (stands.calls.once own)))
 

@@ -12,7 +12,7 @@ use Rattle.papaya_raw.specs.declared.machines.progress.Answer.TheVariants as ans
 use Rattle.papaya_raw.specs.declared.machines.progress.Progress.{Progress}
 use Rattle.papaya_raw.specs.declared.machines.progress.Progress.TheVariants as progress
 use Rattle.run_schedules.specs.Runs.Same.{is_same}
-use Rattle.run_schedules.specs.declared.call.Answer.TheVariants.{Absent}
+use Rattle.run_schedules.specs.declared.call.Response.TheVariants.{Absent}
 use Rattle.run_schedules.specs.declared.effect.Effect.{Effect}
 use Rattle.run_schedules.specs.declared.event.Event.TheVariants.{Next}
 use Rattle.run_schedules.specs.declared.outcome.Outcome.{Outcome}
@@ -44,10 +44,10 @@ use Rattle.run_executor.specs.Named.Seen.{Seen, is_named, is_ready as is_ready_t
 use Rattle.play_scheduler.specs.Quiet.{IsQuiet}
 use Rattle.play_stepping.specs.EventSteps.Stepping.{IsMidWalk, IsPlaced, IsStepOf, PlaysNext, ReadyAt, WalkComes, WalksFar, callers_then, outcome_of}
 use Rattle.run_executor.specs.Named.Telling.{answer_of, number_by, swept}
-use Rattle.run_executor.specs.declared.caller.Caller.{Caller}
+use Rattle.run_executor.specs.declared.caller.NamedCaller.{NamedCaller}
 use Rattle.run_executor.specs.declared.caller.Stands.{Stands as HowFar}
 use Rattle.run_executor.specs.declared.caller.Stands.TheVariants as far
-use Rattle.run_executor.specs.declared.kind.Kind.{Kind}
+use Rattle.run_executor.specs.declared.kind.CallKind.{CallKind}
 use Rattle.play_scheduler.specs.declared.scheduler.Scheduler.{Scheduler}
 use Rattle.run_grows.proofs.Quiet.AfterEffects.{closed_stays, mapped_stays}
 use Rattle.play_scheduler.proofs.Here.{Here, HereAs, here_at}
@@ -71,20 +71,20 @@ module _ {K V S : Type 0} (same : K → K → Bool) (hash : K → ℕ) (terms : 
   abbrev its : HereAs (WalksFar own n) same hash terms w p stands own place
   its = here same hash terms own n w p stands place at_place
 
-  abbrev d : Caller V
+  abbrev d : NamedCaller V
   d = its.caller
 
-  abbrev calls : List (Caller V)
+  abbrev calls : List (NamedCaller V)
   calls = p.calls
 
   abbrev Leads : Progress (Node K V) → Logged K V S → (before after : List Effect) → Type 0
   Leads said new before after = CallGoesOn same hash stands.name w stands.scene d.number d.map said before after p.logged new
 
   -- others are as far as they say
-  others : (x : Caller V) → is_named own x ≡ false → (machine : Machine K V K) → WalksFar own n x machine → AsFar x machine
+  others : (x : NamedCaller V) → is_named own x ≡ false → (machine : Machine K V K) → WalksFar own n x machine → AsFar x machine
   others x apart machine is = is.1 apart
 
-  module _ (new : Logged K V S) (before after : List Effect) (callers : List (Caller V)) (counted : ℕ) where
+  module _ (new : Logged K V S) (before after : List Effect) (callers : List (NamedCaller V)) (counted : ℕ) where
     abbrev by : Known
     by = known new.notes
 
@@ -114,7 +114,7 @@ module _ {K V S : Type 0} (same : K → K → Bool) (hash : K → ℕ) (terms : 
         as_far : AsFar (record d { stands = far.Ready; value = d.value }) (machine_of more.0)
         as_far = subst (AsFar (record d { stands = far.Ready; value = d.value }))
             (sym (goes_as_said same hash terms own n w p stands place at_place (progress.Pair word) new before after leads_so more.0 more.1)) (
-              (subst (λ (k : Kind). IsFor k says.0.purpose) (sym (its_walk same hash terms own n w p stands place at_place).0) (says.2 ∙ (its_sweep same hash terms own n w p stands place at_place).walks), says.3),
+              (subst (λ (k : CallKind). IsFor k says.0.purpose) (sym (its_walk same hash terms own n w p stands place at_place).0) (says.2 ∙ (its_sweep same hash terms own n w p stands place at_place).walks), says.3),
               subst (λ (q : Sweeping). RoomInSweeping q) (sym says.3) tt,
             )
 
@@ -127,7 +127,7 @@ module _ {K V S : Type 0} (same : K → K → Bool) (hash : K → ℕ) (terms : 
             (alike same hash terms own n w p stands place at_place (progress.Pair word) new before after leads_so) (stands.calls.once own) its.any so
             ∙ ap (λ (k : ℕ). map seen_of (slice_set calls k (record d { stands = far.Ready; value = d.value }))) (sym its.first)
           where
-            so : (x : CallThere K V) (y : Caller V) → find (is_named own) calls ≡ Some y → seen x ≡ seen_of y → seen (change x) ≡ seen_of (record d { stands = far.Ready; value = d.value })
+            so : (x : CallThere K V) (y : NamedCaller V) → find (is_named own) calls ≡ Some y → seen x ≡ seen_of y → seen (change x) ≡ seen_of (record d { stands = far.Ready; value = d.value })
             so x y found it = it ∙ ap seen_of (the y d (sym found ∙ its.found)) ∙ ap (λ (h : HowFar). seen_of (record d { stands = h })) (is_ready same hash terms own n w p stands place at_place)
 
         shown_told : IsShown same hash stands.name (come_to own (Shows (number_by by word)) counted w2) new (then_at same hash terms own n w p stands place at_place (progress.Pair word) new before after leads_so)
@@ -190,7 +190,7 @@ module _ {K V S : Type 0} (same : K → K → Bool) (hash : K → ℕ) (terms : 
         of progress.Goes fails l it after_it so = absurd (fails refl)
         of (progress.Pair word) fails l it after_it so = record { is_next = tt; stands_told = shows_pair word l it }
         of (progress.Done answers.Swept) fails l it after_it so = record {
-          is_next = subst (λ (k : Kind). IsNext {V = V} (Answered (swept by k))) (sym (its_walk same hash terms own n w p stands place at_place).0) tt;
+          is_next = subst (λ (k : CallKind). IsNext {V = V} (Answered (swept by k))) (sym (its_walk same hash terms own n w p stands place at_place).0) tt;
           stands_told = shows_none l it;
         }
         of _ fails l it after_it so = absurd so
@@ -272,18 +272,18 @@ module _ {K V S : Type 0} (same : K → K → Bool) (hash : K → ℕ) (terms : 
     calls_same = ap (λ (x : Scheduler K V S). x.calls) step.rest
 
     pub there : slice_get walked.calls place ≡ Some at_it.caller
-    there = ap (λ (l : List (Caller V)). slice_get l place) calls_same ∙ at_it.at
+    there = ap (λ (l : List (NamedCaller V)). slice_get l place) calls_same ∙ at_it.at
 
     pub placed_there : IsPlaced own place walked.calls
-    placed_there = midst.ready.0 ∙ ap (λ (l : List (Caller V)). position (is_named own) l) (sym calls_same)
+    placed_there = midst.ready.0 ∙ ap (λ (l : List (NamedCaller V)). position (is_named own) l) (sym calls_same)
 
-    module _ (ready : Some place ≡ ready_place own old.calls) (callers : List (Caller V))
-        (told : (caller : Caller V) → slice_get walked.calls place ≡ Some caller → callers ≡ callers_then (known walked.logged.notes) place caller said walked.calls)
-        (outcome : Outcome V) (comes_to_it : (caller : Caller V) → slice_get walked.calls place ≡ Some caller → outcome ≡ outcome_of (known walked.logged.notes) caller.kind caller.value said) where
+    module _ (ready : Some place ≡ ready_place own old.calls) (callers : List (NamedCaller V))
+        (told : (caller : NamedCaller V) → slice_get walked.calls place ≡ Some caller → callers ≡ callers_then (known walked.logged.notes) place caller said walked.calls)
+        (outcome : Outcome V) (comes_to_it : (caller : NamedCaller V) → slice_get walked.calls place ≡ Some caller → outcome ≡ outcome_of (known walked.logged.notes) caller.kind caller.value said) where
       ends : Ends same hash terms own n (midst_w same hash terms own place m n [] mid effects p walked midst) p midst.stands place midst.ready walked.logged mid effects callers steps said
       ends = walk_ends same hash terms own n (midst_w same hash terms own place m n [] mid effects p walked midst) p midst.stands place midst.ready walked.logged mid effects callers steps said comes.0
           (leads_is same hash terms own place m n [] mid effects p walked midst said step)
-          (told at_it.caller there ∙ ap (λ (l : List (Caller V)). callers_then (known walked.logged.notes) place at_it.caller said l) calls_same)
+          (told at_it.caller there ∙ ap (λ (l : List (NamedCaller V)). callers_then (known walked.logged.notes) place at_it.caller said l) calls_same)
 
       outcome_is : outcome_of (known walked.logged.notes) at_it.caller.kind at_it.caller.value said ≡ outcome
       outcome_is = sym (comes_to_it at_it.caller there)

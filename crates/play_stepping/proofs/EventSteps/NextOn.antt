@@ -32,9 +32,9 @@ use Rattle.run_executor.proofs.Given.MomentsAfter.{effects_after}
 use Rattle.play_scheduler.specs.Played.{StandsAs}
 use Rattle.run_executor.specs.Named.Seen.{Seen, seen, seen_of}
 use Rattle.play_stepping.specs.EventSteps.Stepping.{IsMidWalk, IsStepOf, IsWalking, ReadyAt, WalksFar}
-use Rattle.run_executor.specs.declared.caller.Caller.{Caller}
+use Rattle.run_executor.specs.declared.caller.NamedCaller.{NamedCaller}
 use Rattle.run_executor.specs.declared.caller.Stands.TheVariants as far
-use Rattle.run_executor.specs.declared.kind.Kind.TheVariants as kind
+use Rattle.run_executor.specs.declared.kind.CallKind.TheVariants as kind
 use Rattle.play_scheduler.specs.declared.scheduler.Scheduler.{Scheduler}
 use Rattle.run_grows.proofs.Quiet.AfterEffects.{calls_seen, closed_stays, mapped_stays}
 use Rattle.play_scheduler.proofs.Here.{HereAs, here_as_at}
@@ -130,14 +130,14 @@ module _ {K V S : Type 0} (same : K → K → Bool) (hash : K → ℕ) (terms : 
   abbrev pub here : HereAs (WalksFar own n) same hash terms w p stands own place
   here = here_as_at (WalksFar own n) same hash terms w p stands own place at_place.0
 
-  abbrev pub d : Caller V
+  abbrev pub d : NamedCaller V
   d = here.caller
 
-  abbrev calls : List (Caller V)
+  abbrev calls : List (NamedCaller V)
   calls = p.calls
 
   pub is_ready : d.stands ≡ far.Ready
-  is_ready = ap (λ (x : Caller V). x.stands) (the d at_place.1 (sym here.at ∙ at_place.2)) ∙ at_place.3
+  is_ready = ap (λ (x : NamedCaller V). x.stands) (the d at_place.1 (sym here.at ∙ at_place.2)) ∙ at_place.3
 
   pub its_walk : (d.kind ≡ kind.Walks) × IsWalking n (machine_of here.way.0)
   its_walk = here.way.4.0 (ap (λ (l : List ℕ). is_same l own) here.named ∙ is_same_refl own)
@@ -257,7 +257,7 @@ module _ {K V S : Type 0} (same : K → K → Bool) (hash : K → ℕ) (terms : 
     caller_is = the step.caller its_place.caller (sym step.at ∙ its_place.at)
 
     pub leads_is : CallGoesOn same hash midst.stands.name midst_w midst.stands.scene its_place.caller.number its_place.caller.map said mid after p.logged new.logged
-    leads_is = subst (λ (x : Caller V). CallGoesOn same hash midst.stands.name midst_w midst.stands.scene x.number x.map said mid after p.logged new.logged) caller_is
+    leads_is = subst (λ (x : NamedCaller V). CallGoesOn same hash midst.stands.name midst_w midst.stands.scene x.number x.map said mid after p.logged new.logged) caller_is
         (step.leads midst.stands.name midst_w midst.stands.scene midst.stands.shown)
 
     abbrev pub last_did : List Effect
@@ -297,11 +297,11 @@ module _ {K V S : Type 0} (same : K → K → Bool) (hash : K → ℕ) (terms : 
     w = with_effects (Some own) (Some midst.call.map) midst.did m
 
     -- it may take a step
-    pub may_walk : (x : Caller V) → slice_get p.calls place ≡ Some x → (s : Scene K V) × IsThere same hash p.logged.executor s × HasCall s x.number
+    pub may_walk : (x : NamedCaller V) → slice_get p.calls place ≡ Some x → (s : Scene K V) × IsThere same hash p.logged.executor s × HasCall s x.number
     may_walk x at_x =
         let it = here same hash terms own n w p midst.stands place midst.ready in
         let same_one : it.caller ≡ x = the it.caller x (sym it.at ∙ at_x) in
-        (midst.stands.scene, midst.stands.shown.is_at, subst (λ (y : Caller V). HasCall midst.stands.scene y.number) same_one (it.caller.map, it.way.0, it.way.1))
+        (midst.stands.scene, midst.stands.shown.is_at, subst (λ (y : NamedCaller V). HasCall midst.stands.scene y.number) same_one (it.caller.map, it.way.0, it.way.1))
 
     pub mid_few : n ≤ 2 ^ 48
     mid_few = few_steps same hash terms own n w p midst.stands place midst.ready

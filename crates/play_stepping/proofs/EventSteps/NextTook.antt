@@ -12,7 +12,7 @@ use Rattle.play_scheduler.specs.Given.LoggedCalling.{WalkGoesOn}
 use Rattle.play_scheduler.specs.Given.LoggedShown.{IsShown}
 use Rattle.play_scheduler.specs.Given.LoggedDeclared.logged.Logged.{Logged}
 use Rattle.run_executor.specs.Named.Seen.{ready_place}
-use Rattle.run_executor.specs.declared.caller.Caller.{Caller}
+use Rattle.run_executor.specs.declared.caller.NamedCaller.{NamedCaller}
 use Rattle.play_scheduler.specs.declared.played.Played.{Played}
 use Rattle.play_scheduler.specs.declared.scheduler.Scheduler.{Scheduler}
 use Rattle.play_stepping.specs.EventSteps.Stepping.{HasWalked, IsStepOf, IsStepped, TookNext, WalkComes, callers_then, outcome_of}
@@ -22,9 +22,9 @@ use Rattle.run_executor.specs.Executing.Replying.{AsksThere}
 use Rattle.play_scheduler.specs.Given.ScenesScene.{Scene}
 
 module _ {K V S : Type 0} (same : K → K → Bool) (hash : K → ℕ) (place : ℕ) (old : Scheduler K V S) (asked : Logged K V S) (said : Progress (Node K V)) (outcome : Outcome V) (steps : ℕ) (effects : Vec Effect)
-    (walked : Scheduler K V S) (comes : WalkComes same hash place steps said [] effects.items (record old { logged = asked }) walked) (callers : List (Caller V))
-    (told : (caller : Caller V) → slice_get walked.calls place ≡ Some caller → callers ≡ callers_then (known walked.logged.notes) place caller said walked.calls)
-    (comes_to_it : (caller : Caller V) → slice_get walked.calls place ≡ Some caller → outcome ≡ outcome_of (known walked.logged.notes) caller.kind caller.value said) where
+    (walked : Scheduler K V S) (comes : WalkComes same hash place steps said [] effects.items (record old { logged = asked }) walked) (callers : List (NamedCaller V))
+    (told : (caller : NamedCaller V) → slice_get walked.calls place ≡ Some caller → callers ≡ callers_then (known walked.logged.notes) place caller said walked.calls)
+    (comes_to_it : (caller : NamedCaller V) → slice_get walked.calls place ≡ Some caller → outcome ≡ outcome_of (known walked.logged.notes) caller.kind caller.value said) where
   abbrev played : Played V
   played = record { outcome = outcome; steps = steps; effects = effects }
 
@@ -35,7 +35,7 @@ module _ {K V S : Type 0} (same : K → K → Bool) (hash : K → ℕ) (place : 
   calls_same = ap (λ (x : Scheduler K V S). x.calls) step.rest
 
   there : slice_get walked.calls place ≡ Some step.caller
-  there = ap (λ (l : List (Caller V)). slice_get l place) calls_same ∙ step.at
+  there = ap (λ (l : List (NamedCaller V)). slice_get l place) calls_same ∙ step.at
 
   -- its last step, of which its caller was told
   last_step : IsStepped same hash place outcome comes.3 effects.items comes.4 (record walked { calls = callers })
@@ -46,12 +46,12 @@ module _ {K V S : Type 0} (same : K → K → Bool) (hash : K → ℕ) (place : 
     leads = step.leads;
     steps = step.steps;
     outcome_is = comes_to_it step.caller there;
-    calls = told step.caller there ∙ ap (λ (l : List (Caller V)). callers_then (known walked.logged.notes) place step.caller said l) calls_same;
+    calls = told step.caller there ∙ ap (λ (l : List (NamedCaller V)). callers_then (known walked.logged.notes) place step.caller said l) calls_same;
     rest = ap (λ (x : Scheduler K V S). record x { calls = callers }) step.rest;
     given = step.given;
   }
 
-  has_walked : (caller : Caller V) → slice_get old.calls place ≡ Some caller → (ready : Bool) (number : ℕ) → number ≡ caller.number
+  has_walked : (caller : NamedCaller V) → slice_get old.calls place ≡ Some caller → (ready : Bool) (number : ℕ) → number ≡ caller.number
       → ((s : Scene K V) → IsThere same hash old.logged.executor s → AsksThere same hash number ready s old.logged.executor asked.executor)
       → ((name : ℕ → List ℕ) (m : Moment K V) (s : Scene K V) → IsShown same hash name m old.logged s → WalkGoesOn same hash name m s number ready old.logged asked)
       → asked.notes ≡ old.logged.notes → KeepsGiven old.logged.executor asked.executor → HasWalked same hash place played old (record walked { calls = callers })
@@ -74,7 +74,7 @@ module _ {K V S : Type 0} (same : K → K → Bool) (hash : K → ℕ) (place : 
 
   -- so it is of an event by which a walk of this name that was ready was asked
   pub took_next : (own : List ℕ) → Some place ≡ ready_place own old.calls → (new : Scheduler K V S) → new ≡ record walked { calls = callers }
-      → (caller : Caller V) → slice_get old.calls place ≡ Some caller → (ready : Bool) (number : ℕ) → number ≡ caller.number
+      → (caller : NamedCaller V) → slice_get old.calls place ≡ Some caller → (ready : Bool) (number : ℕ) → number ≡ caller.number
       → ((s : Scene K V) → IsThere same hash old.logged.executor s → AsksThere same hash number ready s old.logged.executor asked.executor)
       → ((name : ℕ → List ℕ) (m : Moment K V) (s : Scene K V) → IsShown same hash name m old.logged s → WalkGoesOn same hash name m s number ready old.logged asked)
       → asked.notes ≡ old.logged.notes → KeepsGiven old.logged.executor asked.executor → TookNext same hash own played old new

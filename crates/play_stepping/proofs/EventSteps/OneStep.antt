@@ -43,10 +43,10 @@ use Rattle.play_scheduler.specs.Played.{AsFar, StandsFor}
 use Rattle.run_executor.specs.Named.Seen.{Seen, far_of, is_named, seen, seen_of}
 use Rattle.play_stepping.specs.EventSteps.Stepping.{ComesAs, ComesBy, GoesAt, IsStepped, caller_then, callers_then, far_then, outcome_of}
 use Rattle.run_executor.specs.Named.Telling.{goes_on, kept}
-use Rattle.run_executor.specs.declared.caller.Caller.{Caller}
+use Rattle.run_executor.specs.declared.caller.NamedCaller.{NamedCaller}
 use Rattle.run_executor.specs.declared.caller.Stands.{Stands as HowFar}
 use Rattle.run_executor.specs.declared.caller.Stands.TheVariants as far
-use Rattle.run_executor.specs.declared.kind.Kind.{Kind}
+use Rattle.run_executor.specs.declared.kind.CallKind.{CallKind}
 use Rattle.play_scheduler.specs.declared.scheduler.Scheduler.{Scheduler}
 use Rattle.run_grows.proofs.Quiet.AfterEffects.{calls_seen, closed_stays, mapped_stays}
 use Rattle.play_stepping.proofs.EventSteps.AnySays.{any_says}
@@ -61,7 +61,7 @@ use Rattle.play_scheduler.specs.Given.ScenesScene.{Scene}
 use Rattle.run_executor.specs.Given.ScenesStepping.{StepLeads, StepsFrom, has_ended}
 use Rattle.run_executor.specs.Executing.IsThere.{held_by}
 
-module _ {K V : Type 0} (by : Known) (its : Kind) (value : Option V) where
+module _ {K V : Type 0} (by : Known) (its : CallKind) (value : Option V) where
   -- what a caller keeps
   abbrev pub value_then : Progress (Node K V) → Option V
   value_then (progress.Unstored node) = kept its node value
@@ -149,7 +149,7 @@ module _ {K V : Type 0} (by : Known) (its : Kind) (value : Option V) where
 
 module _ {K V : Type 0} where
   -- the caller then, by what it keeps and how far it is
-  pub caller_as : (by : Known) (d : Caller V) (said : Progress (Node K V)) → caller_then by d said ≡ record d { stands = far_then by said; value = value_then by d.kind d.value said }
+  pub caller_as : (by : Known) (d : NamedCaller V) (said : Progress (Node K V)) → caller_then by d said ≡ record d { stands = far_then by said; value = value_then by d.kind d.value said }
   caller_as by d (progress.Unstored node) = refl
   caller_as by d _ = refl
 
@@ -173,17 +173,17 @@ module _ {K V S : Type 0} (same : K → K → Bool) (hash : K → ℕ) (terms : 
   abbrev here : Here same hash terms m p stands own place
   here = here_at same hash terms m p stands own place at.0
 
-  abbrev d : Caller V
+  abbrev d : NamedCaller V
   d = here.caller
 
   abbrev c : CallThere K V
   c = here.call
 
-  abbrev calls : List (Caller V)
+  abbrev calls : List (NamedCaller V)
   calls = p.calls
 
   goes : d.stands ≡ far.Goes
-  goes = ap (λ (x : Caller V). x.stands) (the d at.1 (sym here.at ∙ at.2)) ∙ at.3
+  goes = ap (λ (x : NamedCaller V). x.stands) (the d at.1 (sym here.at ∙ at.2)) ∙ at.3
 
   map_is : c.map ≡ d.map
   map_is = ap (λ (z : Seen). z.map) here.as_seen
@@ -229,18 +229,18 @@ module _ {K V S : Type 0} (same : K → K → Bool) (hash : K → ℕ) (terms : 
     then_next = next AsFar AsFar own (λ x apart machine is. is) same hash terms m p stands place here said new leads
 
     -- its caller then
-    abbrev gone_on : Caller V
+    abbrev gone_on : NamedCaller V
     gone_on = record d { stands = far_then by said; value = value_then by d.kind d.value said }
 
     alike : map seen w.calls ≡ map seen_of calls
     alike = calls_seen own (Some d.map) did m ∙ stands.calls.listed
 
-    module _ (callers : List (Caller V)) (items : callers ≡ callers_then by place d said calls) where
+    module _ (callers : List (NamedCaller V)) (items : callers ≡ callers_then by place d said calls) where
       abbrev p2 : Scheduler K V S
       p2 = record p { logged = new; calls = callers }
 
       items_on : has_ended said ≡ false → callers ≡ slice_set calls place gone_on
-      items_on on = items ∙ ap (λ (b : Bool). if b then remove calls place else slice_set calls place (caller_then by d said)) on ∙ ap (λ (x : Caller V). slice_set calls place x) (caller_as by d said)
+      items_on on = items ∙ ap (λ (b : Bool). if b then remove calls place else slice_set calls place (caller_then by d said)) on ∙ ap (λ (x : NamedCaller V). slice_set calls place x) (caller_as by d said)
 
       items_gone : has_ended said ≡ true → callers ≡ remove calls place
       items_gone over = items ∙ ap (λ (b : Bool). if b then remove calls place else slice_set calls place (caller_then by d said)) over
@@ -257,9 +257,9 @@ module _ {K V S : Type 0} (same : K → K → Bool) (hash : K → ℕ) (terms : 
       going : goes_on outcome ≡ true → GoesAt own place p2
       going on =
           let set = items_on (going_not_ended by d.kind d.value said on) in (
-            at.0 ∙ sym (ap (λ (l : List (Caller V)). position (is_named own) l) set ∙ set_position (is_named own) calls place d gone_on here.at refl),
+            at.0 ∙ sym (ap (λ (l : List (NamedCaller V)). position (is_named own) l) set ∙ set_position (is_named own) calls place d gone_on here.at refl),
             gone_on,
-            ap (λ (l : List (Caller V)). slice_get l place) set ∙ set_get calls place d gone_on here.at,
+            ap (λ (l : List (NamedCaller V)). slice_get l place) set ∙ set_get calls place d gone_on here.at,
             far_goes by d.kind d.value said on,
           )
 
@@ -317,7 +317,7 @@ module _ {K V S : Type 0} (same : K → K → Bool) (hash : K → ℕ) (terms : 
                 ∙ changed_at seen seen_of (λ (z : Seen). is_same z.name own) change gone_on w.calls calls alike (stands.calls.once own) here.any so
                 ∙ ap (λ (k : ℕ). map seen_of (slice_set calls k gone_on)) (sym here.first)
               where
-                so : (x : CallThere K V) (y : Caller V) → find (is_named own) calls ≡ Some y → seen x ≡ seen_of y → seen (change x) ≡ seen_of gone_on
+                so : (x : CallThere K V) (y : NamedCaller V) → find (is_named own) calls ≡ Some y → seen x ≡ seen_of y → seen (change x) ≡ seen_of gone_on
                 so x y found it =
                     let same_one : y ≡ d = (let h = sym found ∙ here.found in the y d h) in
                     let seen_x : seen x ≡ seen_of d = it ∙ ap seen_of same_one in
@@ -397,7 +397,7 @@ module _ {K V S : Type 0} (same : K → K → Bool) (hash : K → ℕ) (terms : 
   caller_is = the step.caller its.caller (sym step.at ∙ its.at)
 
   leads_is : CallGoesOn same hash stands.name m stands.scene its.caller.number its.caller.map step.said before after p.logged new.logged
-  leads_is = subst (λ (x : Caller V). CallGoesOn same hash stands.name m stands.scene x.number x.map step.said before after p.logged new.logged) caller_is
+  leads_is = subst (λ (x : NamedCaller V). CallGoesOn same hash stands.name m stands.scene x.number x.map step.said before after p.logged new.logged) caller_is
       (step.leads stands.name m stands.scene stands.shown)
 
   abbrev then_known : Known
@@ -408,10 +408,10 @@ module _ {K V S : Type 0} (same : K → K → Bool) (hash : K → ℕ) (terms : 
 
   outcome_so : outcome_of then_known its.caller.kind its.caller.value step.said ≡ outcome
   outcome_so = ap (λ (k : Known). outcome_of k its.caller.kind its.caller.value step.said) (sym known_is)
-      ∙ ap (λ (x : Caller V). outcome_of (known new.logged.notes) x.kind x.value step.said) (sym caller_is) ∙ sym step.outcome_is
+      ∙ ap (λ (x : NamedCaller V). outcome_of (known new.logged.notes) x.kind x.value step.said) (sym caller_is) ∙ sym step.outcome_is
 
   items_so : new.calls ≡ callers_then then_known place its.caller step.said p.calls
-  items_so = step.calls ∙ ap (λ (x : Caller V). callers_then (known new.logged.notes) place x step.said p.calls) caller_is
+  items_so = step.calls ∙ ap (λ (x : NamedCaller V). callers_then (known new.logged.notes) place x step.said p.calls) caller_is
       ∙ ap (λ (k : Known). callers_then k place its.caller step.said p.calls) known_is
 
   pub step_comes : ComesBy same hash terms own place m 1 outcome before after new

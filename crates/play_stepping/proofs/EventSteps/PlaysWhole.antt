@@ -26,7 +26,7 @@ use Rattle.play_scheduler.proofs.Given.FollowsCalling.{is_same_refl}
 use Rattle.play_scheduler.specs.Played.{BeginsSo, IsDue, StandsFor, entry_of}
 use Rattle.run_executor.specs.Named.Seen.{Seen, is_named, seen, seen_of}
 use Rattle.play_stepping.specs.EventSteps.Stepping.{ComesBy, GoesAt, IsInCase, PlaysOn, StepsCome, TakenAs, TakenBy, TakesUpTo, may_begin}
-use Rattle.run_executor.specs.declared.caller.Caller.{Caller}
+use Rattle.run_executor.specs.declared.caller.NamedCaller.{NamedCaller}
 use Rattle.run_executor.specs.declared.caller.Stands.{Stands as HowFar}
 use Rattle.run_executor.specs.declared.caller.Stands.TheVariants as far
 use Rattle.play_scheduler.specs.declared.played.Played.{Played}
@@ -133,13 +133,13 @@ module _ {K V S : Type 0} (same : K → K → Bool) (hash : K → ℕ) (terms : 
 -- the newest call is the first of the callers
 module _ {K V S : Type 0} (same : K → K → Bool) (hash : K → ℕ) (terms : Terms) (m : Moment K V) (own guard : List ℕ) (call : Call K V) (number : ℕ) (p : Scheduler K V S)
     (stands : StandsFor same hash terms (with_call own guard call (Some number) m) p) where
-  first_of : (calls : List (Caller V)) → seen (fresh_call own guard call number m.events) ∷ map seen m.calls ≡ map seen_of calls
-      → (d : Caller V) × (rest : List (Caller V)) × (calls ≡ d ∷ rest) × (d.name ≡ own) × (d.stands ≡ far.Goes)
+  first_of : (calls : List (NamedCaller V)) → seen (fresh_call own guard call number m.events) ∷ map seen m.calls ≡ map seen_of calls
+      → (d : NamedCaller V) × (rest : List (NamedCaller V)) × (calls ≡ d ∷ rest) × (d.name ≡ own) × (d.stands ≡ far.Goes)
   first_of [] e = absurd (cc e)
   first_of (d ∷ rest) e =
       let head : seen (fresh_call own guard call number m.events) ≡ seen_of d = cc e in (d, rest, refl, ap (λ (z : Seen). z.name) (sym head), ap (λ (z : Seen). z.far) (sym head))
 
-  pub first_there : (d : Caller V) × (rest : List (Caller V)) × (p.calls ≡ d ∷ rest) × (d.name ≡ own) × (d.stands ≡ far.Goes)
+  pub first_there : (d : NamedCaller V) × (rest : List (NamedCaller V)) × (p.calls ≡ d ∷ rest) × (d.name ≡ own) × (d.stands ≡ far.Goes)
   first_there = first_of p.calls stands.calls.listed
 
 -- so it goes on at the first place
@@ -153,9 +153,9 @@ module _ {K V S : Type 0} (same : K → K → Bool) (hash : K → ℕ) (terms : 
       by (Some number) e so =
           let it = first_there same hash terms m own guard call number p so in
           let named_so : is_named own it.0 ≡ true = ap (λ (l : List ℕ). is_same l own) it.3 ∙ is_same_refl own in (
-            subst (λ (l : List (Caller V)). Some 0 ≡ position (is_named own) l) (sym it.2) (first_position (is_named own) it.0 it.1 named_so),
+            subst (λ (l : List (NamedCaller V)). Some 0 ≡ position (is_named own) l) (sym it.2) (first_position (is_named own) it.0 it.1 named_so),
             it.0,
-            ap (λ (l : List (Caller V)). slice_get l 0) it.2,
+            ap (λ (l : List (NamedCaller V)). slice_get l 0) it.2,
             it.4,
           )
 
@@ -186,7 +186,7 @@ module _ {K V S : Type 0} (same : K → K → Bool) (hash : K → ℕ) (terms : 
   here = here_at same hash terms m2 mid (begins.stands refl) nameless 0 first.0
 
   goes_here : here.caller.stands ≡ far.Goes
-  goes_here = ap (λ (x : Caller V). x.stands) (the here.caller first.1 (sym here.at ∙ first.2)) ∙ first.3
+  goes_here = ap (λ (x : NamedCaller V). x.stands) (the here.caller first.1 (sym here.at ∙ first.2)) ∙ first.3
 
   come : StepsCome same hash 0 most_steps played.steps played.outcome [] played.effects.items mid new
   come = subst (λ (h : HowFar). TakenBy same hash 0 most_steps h played mid new) first.3 (taken first.1 first.2)

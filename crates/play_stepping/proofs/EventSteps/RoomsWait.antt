@@ -20,7 +20,7 @@ use Rattle.owner_whole.specs.Given.ResizeDeclared.copier.Copying.TheVariants as 
 use Rattle.owner_whole.specs.Given.ResizeDeclared.dispose.Dispose.{Dispose}
 use Rattle.owner_whole.specs.Given.ResizeDeclared.dispose.Disposing.{Disposing}
 use Rattle.owner_whole.specs.Given.ResizeDeclared.dispose.Disposing.TheVariants as disposing
-use Rattle.owner_whole.specs.Given.ResizeDeclared.outcome.Outcome.TheVariants as outcome
+use Rattle.owner_whole.specs.Given.ResizeDeclared.yielding.Yielding.TheVariants as outcome
 use Rattle.papaya_raw.specs.Given.ReservesReserve as rooms
 use Rattle.papaya_raw.specs.Given.ReservesDeclared.reserve.Reserve.{Reserve}
 use Rattle.papaya_raw.specs.Given.ReservesDeclared.reserve.Reserving.{Reserving}
@@ -50,7 +50,7 @@ use Rattle.owner_whole.proofs.Whole.Sweeps.Leads.{sweep_decided}
 use Rattle.owner_whole.proofs.Given.WaitsAwaited.{by_copier}
 use Rattle.owner_whole.proofs.Given.WaitsLaws.{rooms_wait_for_a_copying, room_rows_wait_for_a_holder, sweeps_wait_for_a_copying, sweep_rows_wait_for_a_holder}
 use Rattle.owner_whole.proofs.Given.WaitsPromised.{map_of}
-use Rattle.run_schedules.specs.declared.effect.Table.{Table as Numbered}
+use Rattle.run_schedules.specs.declared.effect.TableId.{TableId as Numbered}
 use Rattle.run_schedules.specs.Schedules.Moment.{UnderWay as CallThere, Moment}
 use Rattle.run_schedules.specs.Schedules.Terms.{Terms}
 use Rattle.run_schedules.specs.Schedules.Views.{call_of}

@@ -2,11 +2,11 @@
 use Rattle.std.specs.Prelude.{◌≡◌, ℕ, Bool, true, List, Option, Some, None, option_map}
 use Rattle.std.proofs.Common.{refl, sym, ap, subst, ◌∙◌, inl, inr}
 use Rattle.seize_words.specs.declared.fault.Fault.{Fault}
-use Rattle.seize.specs.declared.progress.Progress.{Progress as Counted}
-use Rattle.seize.specs.declared.progress.Progress.TheVariants as counted
+use Rattle.seize.specs.declared.advance.Advance.{Advance as Counted}
+use Rattle.seize.specs.declared.advance.Advance.TheVariants as counted
 use Rattle.papaya_raw.specs.Given.TablesDeclared.node.Node.{Node}
-use Rattle.owner_whole.specs.Given.ResizeDeclared.outcome.Outcome.{Outcome as Room}
-use Rattle.owner_whole.specs.Given.ResizeDeclared.outcome.Outcome.TheVariants as room
+use Rattle.owner_whole.specs.Given.ResizeDeclared.yielding.Yielding.{Yielding as Room}
+use Rattle.owner_whole.specs.Given.ResizeDeclared.yielding.Yielding.TheVariants as room
 use Rattle.owner_whole.specs.Given.ResizeDeclared.sum.Sum.{Sum}
 use Rattle.papaya_raw.specs.Given.ReservesDeclared.reserve.Reserve.{Reserve}
 use Rattle.papaya_raw.specs.Given.ReservesDeclared.sweep.Purpose.TheVariants.{Walks}
@@ -58,8 +58,8 @@ use Rattle.run_executor.specs.Named.Machines.{IsAsFar, RefusedForRoom}
 use Rattle.run_executor.specs.Named.Seen.{kind_of}
 use Rattle.play_stepping.specs.EventSteps.Stepping.{ComesAs, IsFaultOn, far_then, outcome_of}
 use Rattle.run_executor.specs.Named.Telling.{number_by, number_in}
-use Rattle.run_executor.specs.declared.kind.Kind.{Kind}
-use Rattle.run_executor.specs.declared.kind.Kind.TheVariants as kind
+use Rattle.run_executor.specs.declared.kind.CallKind.{CallKind}
+use Rattle.run_executor.specs.declared.kind.CallKind.TheVariants as kind
 use Rattle.run_grows.proofs.Quiet.RoomSays.{NeverRefused, SaysRoom, reserve_room, sum_room}
 use Rattle.play_stepping.proofs.EventSteps.KeySays.{key_asks, key_refused}
 use Rattle.play_scheduler.proofs.Replied.{of_kind}
@@ -97,7 +97,7 @@ module _ {K V : Type 0} where
   asks_no_key by (OnKey y) o never = absurd (never y refl)
   asks_no_key by _ o never = tt
 
-  key_far : (its : Kind) (by : Known) (p : KeyCall K V K) (end : Called (Node K V)) → IsAsFar its (far_then by (of_called end)) (kinds.Key p)
+  key_far : (its : CallKind) (by : Known) (p : KeyCall K V K) (end : Called (Node K V)) → IsAsFar its (far_then by (of_called end)) (kinds.Key p)
   key_far its by p called.Goes = tt
   key_far its by p called.Waits = tt
   key_far its by p (called.Gave value) = tt
@@ -106,14 +106,14 @@ module _ {K V : Type 0} where
   key_far its by p (called.Done answer) = tt
   key_far its by p (called.Refused fault) = tt
 
-  room_far : (its : Kind) (by : Known) (p : Reserve) (end : Room (Node K V) Unit) → IsAsFar {K = K} {V = V} its (far_then by (of_outcome end)) (kinds.Reserve p)
+  room_far : (its : CallKind) (by : Known) (p : Reserve) (end : Room (Node K V) Unit) → IsAsFar {K = K} {V = V} its (far_then by (of_outcome end)) (kinds.Reserve p)
   room_far its by p room.Goes = tt
   room_far its by p room.Waits = tt
   room_far its by p (room.Gave value) = tt
   room_far its by p (room.Done end) = tt
   room_far its by p (room.Refused fault) = tt
 
-  room_comes : (its : Kind) (by : Known) (value : Option V) (more : ℕ) (end : Room (Node K V) Unit) → SaysRoom {K = K} {V = V} (of_outcome end) → ComesAs {K = K} (Reserves more) (outcome_of by its value (of_outcome end))
+  room_comes : (its : CallKind) (by : Known) (value : Option V) (more : ℕ) (end : Room (Node K V) Unit) → SaysRoom {K = K} {V = V} (of_outcome end) → ComesAs {K = K} (Reserves more) (outcome_of by its value (of_outcome end))
   room_comes its by value more room.Goes for = tt
   room_comes its by value more room.Waits for = tt
   room_comes its by value more (room.Gave node) for = tt
@@ -139,13 +139,13 @@ module _ {K V : Type 0} where
   walk_far by _ q walks says on = absurd says
 
 module _ (K V : Type 0) where
-  sum_far : (its : Kind) (by : Known) (p : Sum) (end : Counted ℕ) → IsAsFar {K = K} {V = V} its (far_then {K = K} {V = V} by (of_counting end)) (kinds.Count p)
+  sum_far : (its : CallKind) (by : Known) (p : Sum) (end : Counted ℕ) → IsAsFar {K = K} {V = V} its (far_then {K = K} {V = V} by (of_counting end)) (kinds.Count p)
   sum_far its by p counted.Goes = tt
   sum_far its by p counted.Waits = tt
   sum_far its by p (counted.Done count) = tt
   sum_far its by p (counted.Refused fault) = tt
 
-  sum_comes : (its : Kind) (by : Known) (value : Option V) (end : Counted ℕ) → NeverRefused {K = K} {V = V} (of_counting end) → ComesAs {K = K} Len (outcome_of {K = K} by its value (of_counting end))
+  sum_comes : (its : CallKind) (by : Known) (value : Option V) (end : Counted ℕ) → NeverRefused {K = K} {V = V} (of_counting end) → ComesAs {K = K} Len (outcome_of {K = K} by its value (of_counting end))
   sum_comes its by value counted.Goes for = tt
   sum_comes its by value counted.Waits for = tt
   sum_comes its by value (counted.Done count) for = refl
@@ -158,7 +158,7 @@ ended_not machine (progress.Refused other) next is x e fault f = cc (is, e)
 ended_not machine _ next is x e fault f = cc f
 
 module _ {K V : Type 0} (same : K → K → Bool) (hash : ℕ → K → ℕ) (name : ℕ → List ℕ) (m : Moment K V) (known : Known) (s : Scene K V) (old new : Held K V) (at_old : IsAt same hash old s)
-    (whole : ShowsWhole same name m known s) (map i : ℕ) (c : CallThere K V) (c_is : call_of (name i) m ≡ Some c) (its : Kind) (its_is : kind_of c.call ≡ its) (value : Option V) where
+    (whole : ShowsWhole same name m known s) (map i : ℕ) (c : CallThere K V) (c_is : call_of (name i) m ≡ Some c) (its : CallKind) (its_is : kind_of c.call ≡ its) (value : Option V) where
   abbrev pub known2 : Known
   known2 = known_after (acts.Call i map) new.changed known
 

@@ -23,7 +23,7 @@ use Rattle.play_scheduler.specs.Given.LoggedShown.{IsShown}
 use Rattle.play_scheduler.specs.Given.LoggedDeclared.logged.Logged.{Logged}
 use Rattle.play_scheduler.specs.Played.{CallsAs, IsUnderWayAs, StandsAs}
 use Rattle.run_executor.specs.Named.Seen.{is_named, named, seen, seen_of}
-use Rattle.run_executor.specs.declared.caller.Caller.{Caller}
+use Rattle.run_executor.specs.declared.caller.NamedCaller.{NamedCaller}
 use Rattle.run_executor.specs.declared.caller.Stands.{Stands as HowFar}
 use Rattle.run_executor.specs.declared.named_map.NamedMap.{NamedMap}
 use Rattle.play_scheduler.specs.declared.scheduler.Scheduler.{Scheduler}
@@ -46,20 +46,20 @@ same_stands None after same st e = absurd (cc e)
 same_stands (Some x) after same st e = (record x { blocks = same.0; sights = same.1 }, same.2)
 
 -- The machine of its caller is as far as is said of it then; those of others are as far as before.
-module _ {K V S : Type 0} (Far Then : Caller V → Machine K V K → Type 0) (own : List ℕ) (stays : (x : Caller V) → is_named own x ≡ false → (machine : Machine K V K) → Far x machine → Then x machine)
+module _ {K V S : Type 0} (Far Then : NamedCaller V → Machine K V K → Type 0) (own : List ℕ) (stays : (x : NamedCaller V) → is_named own x ≡ false → (machine : Machine K V K) → Far x machine → Then x machine)
     (same : K → K → Bool) (hash : K → ℕ) (terms : Terms) (m : Moment K V) (p : Scheduler K V S) (stands : StandsAs Far same hash terms m p) (place : ℕ)
     (here : HereAs Far same hash terms m p stands own place) (said : Progress (Node K V)) (new : Logged K V S)
     (leads : StepLeads same (λ map. hash) here.caller.number said stands.scene (held_by p.logged.executor) (held_by new.executor)) where
   abbrev s : Scene K V
   s = stands.scene
 
-  abbrev d : Caller V
+  abbrev d : NamedCaller V
   d = here.caller
 
   abbrev i : ℕ
   i = d.number
 
-  abbrev calls : List (Caller V)
+  abbrev calls : List (NamedCaller V)
   calls = p.calls
 
   abbrev u : UnderWay K V K
@@ -99,7 +99,7 @@ module _ {K V S : Type 0} (Far Then : Caller V → Machine K V K → Type 0) (ow
       by (Some x) e = absurd (ne (stands.shown.is_at.held.together.makings.standing.once n d.map i (λ z. cc (e, z)) (λ z. let a = under in cc (a, z))))
 
   -- other callers are as they were
-  pub still : (x : Caller V) → is_named own x ≡ false → IsUnderWayAs Far stands.name s p.there x → IsUnderWayAs Then stands.name s2 p.there x
+  pub still : (x : NamedCaller V) → is_named own x ≡ false → IsUnderWayAs Far stands.name s p.there x → IsUnderWayAs Then stands.name s2 p.there x
   still x apart way = (way.0, there_then x.map x.number ne ∙ way.1, way.2, way.3, stays x apart (machine_of way.0) way.4)
     where
       ne : x.number ≢ i
@@ -139,7 +139,7 @@ module _ {K V S : Type 0} (Far Then : Caller V → Machine K V K → Type 0) (ow
         other true b e = e
         other false b e = refl
 
-    abbrev Apart : Caller V → Type 0
+    abbrev Apart : NamedCaller V → Type 0
     Apart x = (is_same x.name own ≡ false) × IsUnderWayAs Then stands.name s2 p.there x
 
     apart_gone : AllByRecursion Apart (remove calls place)
@@ -175,7 +175,7 @@ module _ {K V S : Type 0} (Far Then : Caller V → Machine K V K → Type 0) (ow
         ((leads d.map u under).4.rows j ne ∙ row_rests same hash p.logged.executor s at_s j before)
 
     module _ (there : m2.there ≡ m.there) (mapped : m2.is_mapped ≡ m.is_mapped) (closed : m2.is_closed ≡ m.is_closed) (maps : map named m2.maps ≡ map named m.maps) where
-      with_calls : (callers : List (Caller V)) → CallsAs Then stands.name s2 p.there m2 callers → ((j : ℕ) → ((n : ℕ) → s2.calls n j ≡ None) → work_of new.executor j ≡ None)
+      with_calls : (callers : List (NamedCaller V)) → CallsAs Then stands.name s2 p.there m2 callers → ((j : ℕ) → ((n : ℕ) → s2.calls n j ≡ None) → work_of new.executor j ≡ None)
           → StandsAs Then same hash terms m2 (record p { logged = new; calls = callers })
       with_calls callers are rests = record {
         name = stands.name;
@@ -198,10 +198,10 @@ module _ {K V S : Type 0} (Far Then : Caller V → Machine K V K → Type 0) (ow
       -- it goes on, this far
       pub going_on : (x : UnderWay K V K) → next ≡ Some x → (h : HowFar) (value : Option V) → Then (record d { stands = h; value = value }) (machine_of x)
           → map seen m2.calls ≡ map seen_of (slice_set calls place (record d { stands = h; value = value }))
-          → (callers : List (Caller V)) → callers ≡ slice_set calls place (record d { stands = h; value = value })
+          → (callers : List (NamedCaller V)) → callers ≡ slice_set calls place (record d { stands = h; value = value })
           → StandsAs Then same hash terms m2 (record p { logged = new; calls = callers })
       going_on x goes h value as_far listed callers items =
-          with_calls callers (subst (λ (xs : List (Caller V)). CallsAs Then stands.name s2 p.there m2 xs) (sym items) (record { listed = listed; once = once_then; each = each_then; only = only_then })) rests_then
+          with_calls callers (subst (λ (xs : List (NamedCaller V)). CallsAs Then stands.name s2 p.there m2 xs) (sym items) (record { listed = listed; once = once_then; each = each_then; only = only_then })) rests_then
         where
           way_then : IsUnderWayAs Then stands.name s2 p.there (record d { stands = h; value = value })
           way_then = (x, here_then ∙ goes, here.way.2, here.way.3, as_far)
@@ -236,10 +236,10 @@ module _ {K V S : Type 0} (Far Then : Caller V → Machine K V K → Type 0) (ow
               by (inr ne) = rests_other j ne none
 
       -- it has ended
-      pub has_gone : next ≡ None → map seen m2.calls ≡ map seen_of (remove calls place) → (callers : List (Caller V)) → callers ≡ remove calls place
+      pub has_gone : next ≡ None → map seen m2.calls ≡ map seen_of (remove calls place) → (callers : List (NamedCaller V)) → callers ≡ remove calls place
           → StandsAs Then same hash terms m2 (record p { logged = new; calls = callers })
       has_gone over listed callers items =
-          with_calls callers (subst (λ (xs : List (Caller V)). CallsAs Then stands.name s2 p.there m2 xs) (sym items) (record {
+          with_calls callers (subst (λ (xs : List (NamedCaller V)). CallsAs Then stands.name s2 p.there m2 xs) (sym items) (record {
             listed = listed;
             once = λ other. (let a = removed_count (is_named other) calls place in let b = stands.calls.once other in omega (arith, a, b));
             each = each_gone over;

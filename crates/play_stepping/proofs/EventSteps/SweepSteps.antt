@@ -34,8 +34,8 @@ use Rattle.run_executor.specs.Named.Machines.{IsAsFar, IsFor, RefusedForRoom}
 use Rattle.run_executor.specs.Named.Seen.{kind_of}
 use Rattle.play_stepping.specs.EventSteps.Stepping.{ComesAs, far_then, outcome_of}
 use Rattle.run_executor.specs.declared.caller.Stands.TheVariants as far
-use Rattle.run_executor.specs.declared.kind.Kind.{Kind}
-use Rattle.run_executor.specs.declared.kind.Kind.TheVariants as kind
+use Rattle.run_executor.specs.declared.kind.CallKind.{CallKind}
+use Rattle.run_executor.specs.declared.kind.CallKind.TheVariants as kind
 use Rattle.run_grows.proofs.Quiet.RoomSays.{SaysRoom, sweep_room}
 use Rattle.play_stepping.proofs.EventSteps.StepSays.{Says, ended_not, goes_as, here_then, known2, no_key, s2, then_there, together2, walk_comes, walk_far}
 use Rattle.run_grows.proofs.Quiet.SweepSays.{IsWalkSaying, ShowsNone, WalkSays, shows_none, walk_says}
@@ -86,7 +86,7 @@ module _ {K V : Type 0} where
   retain_comes by value (ends.Refused fault) shows for = for
 
   -- how far it is then
-  removing_far : (its : Kind) (by : Known) (said : Progress (Node K V)) (q : Sweep) → IsFor its q.purpose → removes q.purpose ≡ true → ShowsNone said
+  removing_far : (its : CallKind) (by : Known) (said : Progress (Node K V)) (q : Sweep) → IsFor its q.purpose → removes q.purpose ≡ true → ShowsNone said
       → ((about : Option ℕ) → said ≡ progress.Asks about → (word : ℕ) × (q.stands ≡ at.Asks word) × (q.purpose ≡ Retains)) → IsAsFar {K = K} {V = V} its (far_then by said) (kinds.Sweep q)
   removing_far its by said q for takes shows asks = of said shows asks
     where
@@ -106,7 +106,7 @@ module _ {K V : Type 0} where
       of (progress.Refused fault) sh told = (for, λ walks. absurd (on walks))
 
 module _ {K V : Type 0} (same : K → K → Bool) (hash : ℕ → K → ℕ) (name : ℕ → List ℕ) (m : Moment K V) (known : Known) (s : Scene K V) (old new : Held K V) (at_old : IsAt same hash old s)
-    (whole : ShowsWhole same name m known s) (map i : ℕ) (c : CallThere K V) (c_is : call_of (name i) m ≡ Some c) (its : Kind) (its_is : kind_of c.call ≡ its) (value : Option V)
+    (whole : ShowsWhole same name m known s) (map i : ℕ) (c : CallThere K V) (c_is : call_of (name i) m ≡ Some c) (its : CallKind) (its_is : kind_of c.call ≡ its) (value : Option V)
     (o : CallOverAll) (under : s.calls map i ≡ Some (OverAll o)) (said : Progress (Node K V)) (leads : StepLeads same hash i said s old new) (now : IsAsFar {K = K} {V = V} its far.Goes (machine_of (OverAll o)))
     (room : RoomInSweeping o.sweep.stands) where
   abbrev by : Known
@@ -186,7 +186,7 @@ module _ {K V : Type 0} (same : K → K → Bool) (hash : ℕ → K → ℕ) (na
   pub clear_says : c.call ≡ Clear → Its
   clear_says call_is = record {
     comes = subst (λ (z : Call K V). ComesAs z (outcome_of by its value said)) (sym call_is)
-        (subst (λ (k : Kind). ComesAs {K = K} Clear (outcome_of by k value said)) its_clears
+        (subst (λ (k : CallKind). ComesAs {K = K} Clear (outcome_of by k value said)) its_clears
         (subst (λ (z : Progress (Node K V)). ComesAs {K = K} Clear (outcome_of by kind.Clears value z)) (sym said_is)
         (clear_comes by value end (subst ShowsNone said_is (shows takes)) (subst SaysRoom said_is for_room.1) never)));
     far = removing takes now.0;
@@ -198,7 +198,7 @@ module _ {K V : Type 0} (same : K → K → Bool) (hash : ℕ → K → ℕ) (na
       its_clears = ap kind_of (sym call_is) ∙ its_is
 
       clears : o.sweep.purpose ≡ Clears
-      clears = subst (λ (k : Kind). IsFor k o.sweep.purpose) (sym its_clears) now.0
+      clears = subst (λ (k : CallKind). IsFor k o.sweep.purpose) (sym its_clears) now.0
 
       takes : removes o.sweep.purpose ≡ true
       takes = ap removes clears
@@ -212,7 +212,7 @@ module _ {K V : Type 0} (same : K → K → Bool) (hash : ℕ → K → ℕ) (na
   pub retain_says : c.call ≡ Retain → Its
   retain_says call_is = record {
     comes = subst (λ (z : Call K V). ComesAs z (outcome_of by its value said)) (sym call_is)
-        (subst (λ (k : Kind). ComesAs {K = K} Retain (outcome_of by k value said)) its_retains
+        (subst (λ (k : CallKind). ComesAs {K = K} Retain (outcome_of by k value said)) its_retains
         (subst (λ (z : Progress (Node K V)). ComesAs {K = K} Retain (outcome_of by kind.Retains value z)) (sym said_is)
         (retain_comes by value end (subst ShowsNone said_is (shows takes)) (subst SaysRoom said_is for_room.1))));
     far = removing takes now.0;
@@ -224,14 +224,14 @@ module _ {K V : Type 0} (same : K → K → Bool) (hash : ℕ → K → ℕ) (na
       its_retains = ap kind_of (sym call_is) ∙ its_is
 
       takes : removes o.sweep.purpose ≡ true
-      takes = ap removes (subst (λ (k : Kind). IsFor k o.sweep.purpose) (sym its_retains) now.0)
+      takes = ap removes (subst (λ (k : CallKind). IsFor k o.sweep.purpose) (sym its_retains) now.0)
 
   pub walk_step_says : c.call ≡ Walk → Its
   walk_step_says call_is = record {
     comes = subst (λ (z : Call K V). ComesAs z (outcome_of by its value said)) (sym call_is)
-        (subst (λ (k : Kind). ComesAs {K = K} Walk (outcome_of by k value said)) its_walks (walk_comes by value said p2.stands says for_room.1));
+        (subst (λ (k : CallKind). ComesAs {K = K} Walk (outcome_of by k value said)) its_walks (walk_comes by value said p2.stands says for_room.1));
     far = λ y goes. subst (λ (z : Machine K V K). IsAsFar its (far_then by said) z) (sym (next_is y goes))
-        (subst (λ (k : Kind). IsAsFar {K = K} {V = V} k (far_then by said) (kinds.Sweep p2)) its_walks
+        (subst (λ (k : CallKind). IsAsFar {K = K} {V = V} k (far_then by said) (kinds.Sweep p2)) its_walks
         (walk_far by said p2 (goes_on.0 ∙ walks) says (ended_not (leads map (OverAll o) under).1 said (leads map (OverAll o) under).4.next (leads map (OverAll o) under).4.goes_on y goes)));
     asks = asks_none;
     room = room_then;
@@ -241,7 +241,7 @@ module _ {K V : Type 0} (same : K → K → Bool) (hash : ℕ → K → ℕ) (na
       its_walks = ap kind_of (sym call_is) ∙ its_is
 
       walks : o.sweep.purpose ≡ Walks
-      walks = subst (λ (k : Kind). IsFor k o.sweep.purpose) (sym its_walks) now.0
+      walks = subst (λ (k : CallKind). IsFor k o.sweep.purpose) (sym its_walks) now.0
 
       says : WalkSays said p2.stands
       says = subst (λ (z : Machine K V K). IsWalkSaying (z, said)) machine_is

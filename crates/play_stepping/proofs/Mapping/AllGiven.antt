@@ -43,7 +43,7 @@ use Rattle.play_scheduler.proofs.Given.RowsNames.{nobody_named}
 use Rattle.play_scheduler.specs.Played.{IsDue, IsUnderWay, Plays, StandsFor}
 use Rattle.play_scheduler.specs.Reclaiming.{MayGiveAll, are_gone}
 use Rattle.run_executor.specs.Named.Seen.{named, named_of, seen, seen_of}
-use Rattle.run_executor.specs.declared.caller.Caller.{Caller}
+use Rattle.run_executor.specs.declared.caller.NamedCaller.{NamedCaller}
 use Rattle.run_executor.specs.declared.named_map.NamedMap.{NamedMap}
 use Rattle.play_scheduler.specs.declared.scheduler.Scheduler.{Scheduler}
 use Rattle.play_scheduler.proofs.Quiet.{stands_on}
@@ -88,7 +88,7 @@ module _ {K V S : Type 0} (same : K → K → Bool) (hash : K → ℕ) (terms : 
     none_called : (n i : ℕ) (o : Option (UnderWay K V K)) → s.calls n i ≡ o → s.calls n i ≡ None
     none_called n i None e = e
     none_called n i (Some u) e =
-        absurd (let any = subst (λ (xs : List (Caller V)). list_any (λ d. (d.map == n) && (d.number == i)) xs ≡ true) no_callers (stands.calls.only n i u e) in cc any)
+        absurd (let any = subst (λ (xs : List (NamedCaller V)). list_any (λ d. (d.map == n) && (d.number == i)) xs ≡ true) no_callers (stands.calls.only n i u e) in cc any)
 
     no_calls : (n i : ℕ) → s.calls n i ≡ None
     no_calls n i = none_called n i (s.calls n i) refl

@@ -4,7 +4,7 @@ use Rattle.std.proofs.Common.{refl, ap, sym, ◌∙◌}
 use Rattle.play_scheduler.specs.Given.RuleChart.{Chart}
 use Rattle.run_schedules.specs.declared.effect.Effect.{Effect}
 use Rattle.run_schedules.specs.declared.effect.Effect.TheVariants.{Ended}
-use Rattle.run_schedules.specs.declared.effect.Table.{Table}
+use Rattle.run_schedules.specs.declared.effect.TableId.{TableId}
 use Rattle.run_schedules.specs.Schedules.After.{tables_taken}
 use Rattle.run_schedules.specs.Schedules.Moment.{Deferral}
 use Rattle.run_schedules.specs.Schedules.Views.{behind}
@@ -31,4 +31,4 @@ pub waited_is : {K : Type 0} (incremental : Bool) (of : ℕ) (number : ℕ → �
     → waited_behind of ds c.first (c.past - c.first) ≡ pairs_behind ds (all_ended incremental of number c)
 waited_is incremental of number c ds =
     sym (behind_tables of ds c.first (c.past - c.first))
-    ∙ sym (ap (λ (ts : List Table). flat_map (λ t. behind t ds) ts) (no_tables number (pairs_of incremental c) (tables_ended of c.first (c.past - c.first))))
+    ∙ sym (ap (λ (ts : List TableId). flat_map (λ t. behind t ds) ts) (no_tables number (pairs_of incremental c) (tables_ended of c.first (c.past - c.first))))

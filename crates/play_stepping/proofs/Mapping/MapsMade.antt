@@ -6,8 +6,8 @@ use Rattle.std.proofs.Common.{refl, ap, sym, subst, ◌∙◌, inl, inr, arith}
 use Rattle.std.proofs.lemmas.Bool.{cases_eq}
 use Rattle.std.proofs.lemmas.List.{map-append}
 use Rattle.seize.specs.World.{with_at}
-use Rattle.seize.specs.declared.progress.Progress.{Progress}
-use Rattle.seize.specs.declared.progress.Progress.TheVariants as progress
+use Rattle.seize.specs.declared.advance.Advance.{Advance}
+use Rattle.seize.specs.declared.advance.Advance.TheVariants as progress
 use Rattle.seize_words.specs.declared.fault.Fault.{Fault}
 use Rattle.seize_words.specs.declared.fault.Fault.TheVariants.{RootsUsedUp, Busy, Memory}
 use Rattle.papaya_raw.specs.Given.TablesDeclared.resize_mode.ResizeMode.{ResizeMode}
@@ -150,7 +150,7 @@ module _ {K V S : Type 0} (same : K → K → Bool) (hash : K → ℕ) (terms : 
           pub may_run : (t : Scene K V) × IsThere same hash mid.executor t × (d : Beginning K) × (t.makers i ≡ Some d) × (d.map ≡ number)
           may_run = (s1, shown_mid.is_at, b, here, sym is_number)
 
-          module _ (told : Progress Setting) (new : Logged K V S) (before after : List Effect) (empty : before ≡ []) (ran : MakingRan i number told before after mid new)
+          module _ (told : Advance Setting) (new : Logged K V S) (before after : List Effect) (empty : before ≡ []) (ran : MakingRan i number told before after mid new)
               (finds : MakingFinds i number told before after mid new) where
             -- it has found its root
             as_many : p.logged.executor.roots ≡ mid.executor.roots
@@ -188,7 +188,7 @@ module _ {K V S : Type 0} (same : K → K → Bool) (hash : K → ℕ) (terms : 
           -- it was refused
           module _ (fault : Fault) (new : Logged K V S) (before after : List Effect) (empty : before ≡ []) (ran : MakingRan i number (progress.Refused fault) before after mid new)
               (finds : MakingFinds i number (progress.Refused fault) before after mid new) where
-            abbrev no_map : Progress Setting
+            abbrev no_map : Advance Setting
             no_map = progress.Refused fault
 
             right_by : (x : Fault) → FindsRoot p.logged.executor.roots (λ q. is_among q used) after new.executor.memory.memory (progress.Refused x) → Wanted after (Refused x)
@@ -241,7 +241,7 @@ module _ {K V S : Type 0} (same : K → K → Bool) (hash : K → ℕ) (terms : 
           -- it was made
           module _ (setting : Setting) (new : Logged K V S) (before after : List Effect) (empty : before ≡ []) (comes : MapIsThere mid) (ran : MakingRan i number (progress.Done setting) before after mid new)
               (finds : MakingFinds i number (progress.Done setting) before after mid new) where
-            abbrev told : Progress Setting
+            abbrev told : Advance Setting
             told = progress.Done setting
 
             abbrev there : MapThere

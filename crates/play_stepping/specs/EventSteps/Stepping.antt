@@ -43,11 +43,11 @@ use Rattle.play_scheduler.specs.Played.{AsFar, BeginsSo, IsDue, IsPlayed, Plays,
 use Rattle.play_scheduler.specs.Quiet.{IsQuiet}
 use Rattle.run_executor.specs.Named.Seen.{is_named, ready_place}
 use Rattle.run_executor.specs.Named.Telling.{answer_of, goes_on, number_by, kept}
-use Rattle.run_executor.specs.declared.caller.Caller.{Caller}
+use Rattle.run_executor.specs.declared.caller.NamedCaller.{NamedCaller}
 use Rattle.run_executor.specs.declared.caller.Stands.{Stands as HowFar}
 use Rattle.run_executor.specs.declared.caller.Stands.TheVariants as far
-use Rattle.run_executor.specs.declared.kind.Kind.{Kind}
-use Rattle.run_executor.specs.declared.kind.Kind.TheVariants as kind
+use Rattle.run_executor.specs.declared.kind.CallKind.{CallKind}
+use Rattle.run_executor.specs.declared.kind.CallKind.TheVariants as kind
 use Rattle.play_scheduler.specs.declared.played.Played.{Played}
 use Rattle.play_scheduler.specs.declared.scheduler.Scheduler.{Scheduler}
 use Rattle.run_executor.specs.Executing.IsThere.{IsThere, KeepsGiven}
@@ -57,7 +57,7 @@ use Rattle.run_executor.specs.Given.ScenesStepping.{has_ended}
 
 module _ {K V : Type 0} (by : Known) where
   -- what a step says, in the words of an outcome, of a call of this kind that keeps this value
-  abbrev pub outcome_of : Kind → Option V → Progress (Node K V) → Outcome V
+  abbrev pub outcome_of : CallKind → Option V → Progress (Node K V) → Outcome V
   outcome_of its value progress.Goes = Goes
   outcome_of its value (progress.Gave node) = Goes
   outcome_of its value (progress.Unstored node) = Goes
@@ -76,12 +76,12 @@ module _ {K V : Type 0} (by : Known) where
   far_then _ = far.Goes
 
   -- its caller, if it has not ended,
-  abbrev pub caller_then : Caller V → Progress (Node K V) → Caller V
+  abbrev pub caller_then : NamedCaller V → Progress (Node K V) → NamedCaller V
   caller_then d (progress.Unstored node) = record d { stands = far.Goes; value = kept d.kind node d.value }
   caller_then d said = record d { stands = far_then said }
 
   -- and all callers
-  abbrev pub callers_then : ℕ → Caller V → Progress (Node K V) → List (Caller V) → List (Caller V)
+  abbrev pub callers_then : ℕ → NamedCaller V → Progress (Node K V) → List (NamedCaller V) → List (NamedCaller V)
   callers_then place d said calls = if has_ended said then remove calls place else slice_set calls place (caller_then d said)
 
 -- for what a call on one key is refused, which is no lookup: for room, or, of `compute`, for removing what is not there
@@ -118,26 +118,26 @@ may_begin guard map m = is_none (call_of nameless m) && is_living guard m.there 
 
 module _ {V : Type 0} where
   -- the call of this name is that of the caller at this place,
-  abbrev pub IsPlaced : List ℕ → ℕ → List (Caller V) → Type 0
+  abbrev pub IsPlaced : List ℕ → ℕ → List (NamedCaller V) → Type 0
   IsPlaced own place calls = Some place ≡ position (is_named own) calls
 
   -- who is this one
-  abbrev pub IsCaller : List ℕ → ℕ → Caller V → List (Caller V) → Type 0
+  abbrev pub IsCaller : List ℕ → ℕ → NamedCaller V → List (NamedCaller V) → Type 0
   IsCaller own place d calls = IsPlaced own place calls × (slice_get calls place ≡ Some d)
 
   -- somebody has this name
-  abbrev pub HasCaller : List ℕ → List (Caller V) → Type 0
-  HasCaller own calls = (place : ℕ) × (d : Caller V) × IsCaller own place d calls
+  abbrev pub HasCaller : List ℕ → List (NamedCaller V) → Type 0
+  HasCaller own calls = (place : ℕ) × (d : NamedCaller V) × IsCaller own place d calls
 
 -- the call of this name is that of the caller at this place, and goes on
 abbrev pub GoesAt : {K V S : Type 0} → List ℕ → ℕ → Scheduler K V S → Type 0
 GoesAt {K} {V} own place p =
-    (Some place ≡ position (is_named own) p.calls) × (d : Caller V) × (slice_get p.calls place ≡ Some d) × (d.stands ≡ far.Goes)
+    (Some place ≡ position (is_named own) p.calls) × (d : NamedCaller V) × (slice_get p.calls place ≡ Some d) × (d.stands ≡ far.Goes)
 
 -- the call of this name is the walk at this place, and is ready to show pairs
 abbrev pub ReadyAt : {K V S : Type 0} → List ℕ → ℕ → Scheduler K V S → Type 0
 ReadyAt {K} {V} own place p =
-    (Some place ≡ position (is_named own) p.calls) × (d : Caller V) × (slice_get p.calls place ≡ Some d) × (d.stands ≡ far.Ready)
+    (Some place ≡ position (is_named own) p.calls) × (d : NamedCaller V) × (slice_get p.calls place ≡ Some d) × (d.stands ≡ far.Ready)
 
 module _ {K V : Type 0} where
   -- A walk that was asked for its next pair goes over the places of its table, so many of which at least are behind it; or there are none.
@@ -146,7 +146,7 @@ module _ {K V : Type 0} where
   IsWalking n _ = ⊥
 
   -- so it is of the caller of this name, and each other one's machine is as far as it says
-  abbrev pub WalksFar : List ℕ → ℕ → Caller V → Machine K V K → Type 0
+  abbrev pub WalksFar : List ℕ → ℕ → NamedCaller V → Machine K V K → Type 0
   WalksFar own n d machine = (is_named own d ≡ true → (d.kind ≡ kind.Walks) × IsWalking n machine) × (is_named own d ≡ false → AsFar d machine)
 
 module _ {K V S : Type 0} (same : K → K → Bool) (hash : K → ℕ) (terms : Terms) (own : List ℕ) (place : ℕ) (m : Moment K V) where
@@ -194,11 +194,11 @@ TakesUpTo most steps outcome = (1 ≤ steps) × (steps ≤ most) × (goes_on out
 module _ {K V S : Type 0} (same : K → K → Bool) (hash : K → ℕ) where
   -- A call of this name is under way.
   abbrev pub MayStep : List ℕ → Scheduler K V S → Type 0
-  MayStep own p = (place : ℕ) × (d : Caller V) × IsCaller own place d p.calls × (s : Scene K V) × IsThere same hash p.logged.executor s × HasCall s d.number
+  MayStep own p = (place : ℕ) × (d : NamedCaller V) × IsCaller own place d p.calls × (s : Scene K V) × IsThere same hash p.logged.executor s × HasCall s d.number
 
   -- It has taken a step: what that said, and did, where it has led, and how far the call is then.
   pub record IsStepped (place : ℕ) (outcome : Outcome V) (before after : List Effect) (old new : Scheduler K V S) : Type 0 where
-    pub caller : Caller V
+    pub caller : NamedCaller V
     pub at : slice_get old.calls place ≡ Some caller
     pub said : Progress (Node K V)
     pub leads : (name : ℕ → List ℕ) (m : Moment K V) (s : Scene K V) → IsShown same hash name m old.logged s
@@ -233,7 +233,7 @@ module _ {K V S : Type 0} (same : K → K → Bool) (hash : K → ℕ) where
 
   -- The machine of the call at this place takes a step, and no caller is told of it.
   pub record IsStepOf (place : ℕ) (said : Progress (Node K V)) (before after : List Effect) (old new : Scheduler K V S) : Type 0 where
-    pub caller : Caller V
+    pub caller : NamedCaller V
     pub at : slice_get old.calls place ≡ Some caller
     pub leads : (name : ℕ → List ℕ) (m : Moment K V) (s : Scene K V) → IsShown same hash name m old.logged s
         → CallGoesOn same hash name m s caller.number caller.map said before after old.logged new.logged
@@ -271,7 +271,7 @@ module _ {K V S : Type 0} (same : K → K → Bool) (hash : K → ℕ) where
   TakenBy place most far.Goes played old new = StepsCome place most played.steps played.outcome [] played.effects.items old new
 
   abbrev pub TakenAs : (place most : ℕ) → Played V → (old new : Scheduler K V S) → Type 0
-  TakenAs place most played old new = (d : Caller V) → slice_get old.calls place ≡ Some d → TakenBy place most d.stands played old new
+  TakenAs place most played old new = (d : NamedCaller V) → slice_get old.calls place ≡ Some d → TakenBy place most d.stands played old new
 
   -- The call of this name, if it is there, has taken steps so; and so has one without a name that has begun. Else nothing has happened.
   abbrev pub TookSteps : (most : ℕ) → List ℕ → Played V → (old new : Scheduler K V S) → Type 0
@@ -287,7 +287,7 @@ module _ {K V S : Type 0} (same : K → K → Bool) (hash : K → ℕ) where
 
   -- A walk that is ready was asked for its next pair, and has taken steps since, each of which but the last just went on; by the last one it has come to what it told.
   pub record HasWalked (place : ℕ) (played : Played V) (old new : Scheduler K V S) : Type 0 where
-    pub caller : Caller V
+    pub caller : NamedCaller V
     pub at : slice_get old.calls place ≡ Some caller
     pub ready : Bool
     pub asked : Logged K V S

@@ -4,9 +4,9 @@ use Rattle.std.specs.Prelude.{codes, Some, None, map}
 use Rattle.std.specs.List.{filter_map}
 use Rattle.std.specs.Fmt.{digits}
 use Rattle.seize_words.specs.declared.fault.Fault.TheVariants.{ForeignGuard, ZeroChunk, Capacity, SlotsUsedUp, CollectorsUsedUp, RootsUsedUp, GuardsFull, RemoveNothing, Busy, Memory}
-use Rattle.run_schedules.specs.declared.call.Answer.TheVariants.{Stored, Occupied, Kept, Inserted, Updated, Removed, Aborted, Completed, Counted}
+use Rattle.run_schedules.specs.declared.call.Response.TheVariants.{Stored, Occupied, Kept, Inserted, Updated, Removed, Aborted, Completed, Counted}
 use Rattle.run_schedules.specs.declared.effect.Effect.TheVariants.{Promoted, Deferred, Retired, Reclaimed, Ended, Taken}
-use Rattle.run_schedules.specs.declared.effect.Table.{Table}
+use Rattle.run_schedules.specs.declared.effect.TableId.{TableId}
 use Rattle.run_schedules.specs.declared.effect.Thing.TheVariants.{APair, ATable}
 use Rattle.run_schedules.specs.declared.outcome.Outcome.TheVariants.{Goes, Asks, Waits, Ready, Shows, Answered}
 use Rattle.run_schedules.specs.declared.ended.Living.{Living}
@@ -29,7 +29,7 @@ five = record { number = 5; key = 20; value = codes "five" }
 six : WordPair
 six = record { number = 6; key = 100; value = codes "six" }
 
-first_table : Table
+first_table : TableId
 first_table = record { map = 0; turn = 0 }
 
 stored_light : (run : WordRun) → pair_of run 4 ≡ Some light → answer_line run (Stored 4) ≡ codes "stored #4 7 x\n"

@@ -1,8 +1,8 @@
 -- What the program writes for what it reads.
 use Rattle.std.specs.Prelude.{◌≡◌, ◌^◌, ℕ, min, Bool, true, false, nat_eq, List, Option, Ok, Err, codes, ◌⊎◌}
 use Rattle.std.specs.Io.KnownBytes.{Keeps, Appends}
-use Rattle.reclaimed_script.specs.declared.fault.Stop.{Stop}
-use Rattle.reclaimed_script.specs.declared.fault.Stop.TheVariants.{Line, ReadFailed, NoMemory}
+use Rattle.reclaimed_script.specs.declared.fault.ScriptStop.{ScriptStop}
+use Rattle.reclaimed_script.specs.declared.fault.ScriptStop.TheVariants.{Line, ReadFailed, NoMemory}
 use Rattle.reclaimed_script.specs.FaultTexts.{fault_text}
 use Rattle.reclaimed_script.specs.Lines.{ScriptEvent}
 use Rattle.reclaimed_script.specs.Reading.{Answers}
@@ -12,7 +12,7 @@ use Rattle.reclaimed_script.specs.Script.{script_of, setup_of}
 use Rattle.reclaimed_engine.specs.PrintedText.Text.{WordRun, text_of, fault_line}
 
 -- the line that says why a script gives no run
-abbrev pub stop_line : Stop → List ℕ
+abbrev pub stop_line : ScriptStop → List ℕ
 stop_line (Line number fault) = fault_line number (fault_text fault)
 stop_line (ReadFailed lines) = fault_line lines (codes "read failed")
 stop_line (NoMemory lines) = fault_line lines (codes "no memory")
@@ -60,7 +60,7 @@ IsPrinted bytes s =
 
 -- the script gives no run: its first faulty line is told, or that the input or memory failed
 abbrev pub IsStopped : List ℕ → Streams → Type 0
-IsStopped bytes s = (stop : Stop) × Answers bytes s.left (Err stop) × SaysOnly (stop_line stop) s
+IsStopped bytes s = (stop : ScriptStop) × Answers bytes s.left (Err stop) × SaysOnly (stop_line stop) s
 
 -- the script says events, and a write of what is printed for them failed, which is told on the errors
 abbrev pub IsUnwritten : List ℕ → Streams → Type 0

@@ -4,8 +4,8 @@ use Rattle.std.specs.List.{flat_map, filter_map, zip}
 use Rattle.std.specs.Fmt.{decimal}
 use Rattle.std.specs.Global.{Vec}
 use Rattle.seize_words.specs.declared.fault.Fault.{Fault}
-use Rattle.run_schedules.specs.declared.call.Answer.{Answer}
-use Rattle.run_schedules.specs.declared.call.Answer.TheVariants.{Absent, Found, Stored, Occupied, Kept, Inserted, Updated, Removed, Aborted, Completed, Counted}
+use Rattle.run_schedules.specs.declared.call.Response.{Response}
+use Rattle.run_schedules.specs.declared.call.Response.TheVariants.{Absent, Found, Stored, Occupied, Kept, Inserted, Updated, Removed, Aborted, Completed, Counted}
 use Rattle.run_schedules.specs.declared.effect.Effect.{Effect}
 use Rattle.run_schedules.specs.declared.effect.Effect.TheVariants.{Reclaimed, Ended}
 use Rattle.run_schedules.specs.declared.effect.Thing.TheVariants.{APair}
@@ -48,7 +48,7 @@ abbrev pub refused_line : Fault → List ℕ
 refused_line fault = line (codes "refused " ++ decimal (number_of fault) ++ codes " " ++ name_of fault)
 
 -- the line of a call that was answered
-abbrev pub answer_line : WordRun → Answer (List ℕ) → List ℕ
+abbrev pub answer_line : WordRun → Response (List ℕ) → List ℕ
 answer_line run Absent = line (codes "none")
 answer_line run (Found number) = line (codes "some" ++ numbered run number)
 answer_line run (Stored number) = line (codes "stored" ++ numbered run number)

@@ -4,7 +4,7 @@ use Rattle.std.proofs.Common.{refl, ap, sym, subst, ◌∙◌, inl, inr}
 use Rattle.std.proofs.lemmas.Bool.{cases_eq}
 use Rattle.run_debts.specs.Given.RunsSame.{is_same}
 use Rattle.run_debts.specs.Given.RawMachine.{machine_replied, machine_asked}
-use Rattle.run_debts.specs.Given.RawDeclared.machines.asking.Reply.{Reply as MachineReply}
+use Rattle.run_debts.specs.Given.RawDeclared.machines.asking.MachineReply.{MachineReply}
 use Rattle.run_debts.specs.Given.RawDeclared.machines.machine.Machine.{Machine}
 use Rattle.run_debts.specs.Given.RawDeclared.machines.machine.Machine.TheVariants as kinds
 use Rattle.run_debts.specs.Given.RunsDeclared.call.Call.{Call}

@@ -6,8 +6,8 @@ use Rattle.run_debts.specs.Given.SeizeWordsMem.{Mem}
 use Rattle.run_debts.specs.Given.SeizeWordsOp.{Out, Make, Made}
 use Rattle.run_debts.specs.Given.SeizeWordsWord.{block_in}
 use Rattle.run_debts.specs.Given.SeizeWorld.{World, Making as MadeBy}
-use Rattle.run_debts.specs.Given.SeizeDeclared.progress.Progress.{Progress}
-use Rattle.run_debts.specs.Given.SeizeDeclared.progress.Progress.TheVariants as progress
+use Rattle.run_debts.specs.Given.SeizeDeclared.advance.Advance.{Advance}
+use Rattle.run_debts.specs.Given.SeizeDeclared.advance.Advance.TheVariants as progress
 use Rattle.run_debts.specs.Given.TablesDeclared.node.Node.{Node}
 use Rattle.run_debts.specs.Given.TablesDeclared.node.Node.TheVariants as node
 use Rattle.run_debts.specs.Given.TablesDeclared.setting.Setting.{Setting}
@@ -117,9 +117,9 @@ module _ {K V : Type 0} (w : World (Node K V)) (i roots : ℕ) (n : NewMap) wher
   opening_takes opening.Over knows x takes = absurd takes
   opening_takes (opening.Refused fault) knows x takes = absurd takes
 
-  module _ (m m2 : Mem (Node K V)) (told : Changed) (end : NewMap × Progress Setting) where
+  module _ (m m2 : Mem (Node K V)) (told : Changed) (end : NewMap × Advance Setting) where
     abbrev Told : Opening → Type 0
-    Told p = StepsTold K V (NewMap × Progress Setting) m changed.Nothing (new_map.plan_at n p) m2 told end
+    Told p = StepsTold K V (NewMap × Advance Setting) m changed.Nothing (new_map.plan_at n p) m2 told end
 
     -- what it makes is the table of its making, or its counter
     pub opening_which : (p : Opening) → Told p → (k : Kind) (b : ℕ) → told ≡ changed.Made k b → ((value : Node K V) × IsToMake (making_in_opening p) value × (kind_of value ≡ k)) ⊎ (k ≡ kind.Shards)
@@ -142,7 +142,7 @@ module _ {K V : Type 0} (w : World (Node K V)) (i roots : ℕ) (n : NewMap) wher
     takes_its facts steps x is = opening_takes n.stands facts x (plan_took m m2 told (new_map.plan_at n n.stands) end steps x is)
 
 module _ {K V : Type 0} (same : K → K → Bool) (hash : ℕ → K → ℕ) (name : ℕ → List ℕ) (m : Moment K V) (known : Known) (s : Scene K V) (old new : Held K V) (at : IsAt same hash old s)
-    (shown : Shows same name m known s) (made : ShowsMade name m known s) (i : ℕ) (b : Beginning K) (here : s.makers i ≡ Some b) (end : NewMap) (said : Progress Setting)
+    (shown : Shows same name m known s) (made : ShowsMade name m known s) (i : ℕ) (b : Beginning K) (here : s.makers i ≡ Some b) (end : NewMap) (said : Advance Setting)
     (steps : MakingStepsFrom b.machine old new end said)
     (did : MakingStepsAmong V same same old.batch_size old.roots slot_of s.world s.maps s.calls s.makers s.enders i b new.memory (end, said)) (of : Option ℕ) where
   abbrev w : World (Node K V)
@@ -212,7 +212,7 @@ module _ {K V : Type 0} (same : K → K → Bool) (hash : ℕ → K → ℕ) (na
       (no_pair_made w i old.roots b.machine old.memory new.memory told (end, said) same b.hash point steps) untaken
       (λ storing. not_storing (effects_of its known told) storing (stores_none told so))
 
-  same_calls : (t : Progress Setting) (comes : MakingComesTo same hash s old new i b end w2 t) → (making_after same hash s old new i b end w2 t comes).calls ≡ s.calls
+  same_calls : (t : Advance Setting) (comes : MakingComesTo same hash s old new i b end w2 t) → (making_after same hash s old new i b end w2 t comes).calls ≡ s.calls
   same_calls progress.Goes comes = refl
   same_calls progress.Waits comes = refl
   same_calls (progress.Done setting) comes = refl

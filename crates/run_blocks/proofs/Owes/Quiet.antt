@@ -5,7 +5,7 @@ use Rattle.run_debts.specs.Given.SeizeDeclared.states.TheConstants.{FIRST}
 use Rattle.run_debts.specs.Given.RunsDeclared.effect.Effect.{Effect}
 use Rattle.run_debts.specs.Given.RunsDeclared.effect.Effect.TheVariants as effect
 use Rattle.run_debts.specs.Given.RunsDeclared.effect.Spot.{Spot}
-use Rattle.run_debts.specs.Given.RunsDeclared.effect.Table.{Table}
+use Rattle.run_debts.specs.Given.RunsDeclared.effect.TableId.{TableId}
 use Rattle.run_debts.specs.Given.RunsDeclared.effect.Thing.TheVariants.{APair, ATable}
 use Rattle.run_debts.specs.Given.RunsDeclared.shapes.TableShape.{TableShape}
 use Rattle.run_debts.specs.Given.EffectsEffects.{table_at, pair_taken, table_taken, followed_by, led_to, carried, placed, batched}
@@ -42,7 +42,7 @@ module _ (of : Effect → Bool) where
     placed_none s stored role.Free (role.Pair n) stores = (apart (effect.Copied n s) refl, tt)
     placed_none s stored _ _ stores = tt
 
-    pub carried_none : (t : Table) (is : Role) → NoneOf of (carried t is)
+    pub carried_none : (t : TableId) (is : Role) → NoneOf of (carried t is)
     carried_none t (role.Pair n) = (apart (effect.Deferred n t) refl, tt)
     carried_none t _ = tt
 
@@ -51,7 +51,7 @@ module _ (of : Effect → Bool) where
     pair_back (acts.Ending map) n = apart (effect.Ended n) refl
     pair_back _ n = apart (effect.Reclaimed (APair n)) refl
 
-    pub table_back : (its : Acting) (t : Table) → of (table_taken its t) ≡ false
+    pub table_back : (its : Acting) (t : TableId) → of (table_taken its t) ≡ false
     table_back (acts.Ending map) t = apart (effect.Taken t) refl
     table_back _ t = apart (effect.Reclaimed (ATable t)) refl
 

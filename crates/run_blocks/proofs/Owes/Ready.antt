@@ -4,8 +4,8 @@ use Rattle.std.proofs.Common.{refl, ap, sym, ◌∙◌}
 use Rattle.run_debts.specs.Given.SeizeWordsMem.{Mem}
 use Rattle.run_debts.specs.Given.SeizeWordsOp.{Out, Found, Stored, Exchanged, Made, Taken, Roomed}
 use Rattle.run_debts.specs.Given.SeizeWordsWord.{block_in}
-use Rattle.run_debts.specs.Given.SeizeDeclared.progress.Progress.{Progress as Counting}
-use Rattle.run_debts.specs.Given.SeizeDeclared.progress.Progress.TheVariants as counting
+use Rattle.run_debts.specs.Given.SeizeDeclared.advance.Advance.{Advance as Counting}
+use Rattle.run_debts.specs.Given.SeizeDeclared.advance.Advance.TheVariants as counting
 use Rattle.run_debts.specs.Given.SeizeDeclared.rows.settle.Settled.{Settled}
 use Rattle.run_debts.specs.Given.SeizeDeclared.rows.settle.Settled.TheVariants as settled
 use Rattle.owner_calls.specs.Given.TablesMarks.{has_mark}
@@ -18,8 +18,8 @@ use Rattle.owner_calls.specs.Given.ResizeDispose.{dispose_plan}
 use Rattle.owner_calls.specs.Given.ResizeSum.{sum_plan}
 use Rattle.owner_calls.specs.Given.ResizeDeclared.copier.Copier.{Copier}
 use Rattle.owner_calls.specs.Given.ResizeDeclared.dispose.Dispose.{Dispose}
-use Rattle.owner_calls.specs.Given.ResizeDeclared.outcome.Outcome.{Outcome}
-use Rattle.owner_calls.specs.Given.ResizeDeclared.outcome.Outcome.TheVariants as outcome
+use Rattle.owner_calls.specs.Given.ResizeDeclared.yielding.Yielding.{Yielding}
+use Rattle.owner_calls.specs.Given.ResizeDeclared.yielding.Yielding.TheVariants as outcome
 use Rattle.owner_calls.specs.Given.ReservesReserve.{reserve_plan}
 use Rattle.owner_calls.specs.Given.SweepsSweep.{sweep_plan}
 use Rattle.owner_calls.specs.Given.SweepsSweep as sweeps
@@ -109,7 +109,7 @@ module _ (K V : Type 0) (hash : K → ℕ) (c : Sweep) where
   tried_so word (Taken value) = goes_so c
   tried_so word (Roomed r) = goes_so c
 
-  copied_so : (e : Copier × Outcome (Node K V) Planned) → IsReadySo (sweeps.copied c e)
+  copied_so : (e : Copier × Yielding (Node K V) Planned) → IsReadySo (sweeps.copied c e)
   copied_so (x, outcome.Goes) is = absurd (cc is)
   copied_so (x, outcome.Waits) is = absurd (cc is)
   copied_so (x, outcome.Gave value) is = absurd (cc is)
@@ -150,7 +150,7 @@ module _ {T : Type 0} where
   key_other (called.Done answer) e = cc e
   key_other (called.Refused fault) e = cc e
 
-  room_other : (x : Outcome T Unit) → of_outcome x ≡ progress.Ready → ⊥
+  room_other : (x : Yielding T Unit) → of_outcome x ≡ progress.Ready → ⊥
   room_other outcome.Goes e = cc e
   room_other outcome.Waits e = cc e
   room_other (outcome.Gave value) e = cc e

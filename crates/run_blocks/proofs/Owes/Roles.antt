@@ -10,7 +10,7 @@ use Rattle.run_debts.specs.Given.RunsDeclared.effect.Effect.{Effect}
 use Rattle.run_debts.specs.Given.RunsDeclared.effect.Effect.TheVariants as effect
 use Rattle.run_debts.specs.Given.RunsDeclared.effect.Growth.TheVariants.{ABucket}
 use Rattle.run_debts.specs.Given.RunsDeclared.effect.Spot.{Spot}
-use Rattle.run_debts.specs.Given.RunsDeclared.effect.Table.{Table}
+use Rattle.run_debts.specs.Given.RunsDeclared.effect.TableId.{TableId}
 use Rattle.run_debts.specs.Given.EffectsDeclared.changed.Changed.{Changed}
 use Rattle.run_debts.specs.Given.EffectsDeclared.changed.Changed.TheVariants as changed
 use Rattle.run_debts.specs.Given.EffectsDeclared.changed.Kind.{Kind}
@@ -96,7 +96,7 @@ module _ (known : Known) where
     placed_so s b was (role.Counter map) e = LeavesThem (λ x. refl) (placed_none of_block no_block s known.stored was (role.Counter map) (λ j is. absurd (cc is)))
 
     -- whichever word of a table it is
-    by_word : (t : Table) (s : Spot) (b : ℕ) (was is : Role) → known.roles b ≡ is → (next list place : Bool) → (list ≡ true → place ≡ false)
+    by_word : (t : TableId) (s : Spot) (b : ℕ) (was is : Role) → known.roles b ≡ is → (next list place : Bool) → (list ≡ true → place ≡ false)
         → WroteSo (if next then followed_by its is else (if list then carried t is else (if place then placed s known.stored was is else [])))
         (if next then linked_on its b is known else (if place then stored_on b is known else known))
     by_word t s b was is e true list place apart = LeavesThem (linked_same its known b is e) (followed_none of_block no_block its (λ turn shape. refl) is)
@@ -109,7 +109,7 @@ module _ (known : Known) where
     list_apart : (len field : ℕ) → (field == DEFERRED) ≡ true → is_place len field ≡ false
     list_apart len field e = ap (is_place len) (eqb-true field DEFERRED e) ∙ (grind arith)
 
-    table_so : (t : Table) (len field b : ℕ) (was is : Role) → known.roles b ≡ is → WroteSo (in_table its t len field known.stored was is) (in_table_on its len field b is known)
+    table_so : (t : TableId) (len field b : ℕ) (was is : Role) → known.roles b ≡ is → WroteSo (in_table its t len field known.stored was is) (in_table_on its len field b is known)
     table_so t len field b was is e = by_word t (spot_at t field) b was is e (field == NEXT) (field == DEFERRED) (is_place len field) (list_apart len field)
 
     -- a word that names the same says nothing

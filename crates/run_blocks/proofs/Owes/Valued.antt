@@ -9,7 +9,7 @@ use Rattle.owner_calls.specs.Given.RawCall as calls
 use Rattle.owner_calls.specs.Given.RawCallFills.{fills_with}
 use Rattle.owner_calls.specs.Given.RawReplies.{value_told, value_for}
 use Rattle.run_debts.specs.Given.RawDeclared.machines.asking.Asking.TheVariants as asking
-use Rattle.run_debts.specs.Given.RawDeclared.machines.asking.Reply.TheVariants as reply
+use Rattle.run_debts.specs.Given.RawDeclared.machines.asking.MachineReply.TheVariants as reply
 use Rattle.run_debts.specs.Given.RawDeclared.machines.asking.Takes.{Takes}
 use Rattle.run_debts.specs.Given.RawDeclared.machines.asking.Takes.TheVariants as takes
 use Rattle.run_debts.specs.Given.RawDeclared.machines.asking.Told.{Told}

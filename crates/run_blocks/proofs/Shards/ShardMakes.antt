@@ -5,8 +5,8 @@ use Rattle.std.proofs.lemmas.Bool.{cases_eq}
 use Rattle.run_debts.specs.Given.SeizeWordsMem.{Mem, value_at, word_at}
 use Rattle.run_debts.specs.Given.SeizeWordsDeclared.at.At.TheVariants.{Root, Word}
 use Rattle.run_debts.specs.Given.SeizeWorld.{World, with_at}
-use Rattle.run_debts.specs.Given.SeizeDeclared.progress.Progress.{Progress}
-use Rattle.run_debts.specs.Given.SeizeDeclared.progress.Progress.TheVariants as progress
+use Rattle.run_debts.specs.Given.SeizeDeclared.advance.Advance.{Advance}
+use Rattle.run_debts.specs.Given.SeizeDeclared.advance.Advance.TheVariants as progress
 use Rattle.run_debts.specs.Given.TablesDeclared.node.Node.{Node}
 use Rattle.run_debts.specs.Given.TablesDeclared.node.Node.TheVariants as node
 use Rattle.run_debts.specs.Given.TablesDeclared.setting.Setting.{Setting}
@@ -68,7 +68,7 @@ module _ (P : ℕ → Type 0) where
   open_at K V c (at.Refused fault) so = tt
 
 module _ {K V : Type 0} (same : K → K → Bool) (hash : ℕ → K → ℕ) (name : ℕ → List ℕ) (m : Moment K V) (known : Known) (s : Scene K V) (old new : Held K V) (at_old : IsAt same hash old s)
-    (whole : ShowsWhole same name m known s) (counters : ShowsCounters name m s) (i : ℕ) (b : Beginning K) (here : s.makers i ≡ Some b) (end : NewMap) (said : Progress Setting)
+    (whole : ShowsWhole same name m known s) (counters : ShowsCounters name m s) (i : ℕ) (b : Beginning K) (here : s.makers i ≡ Some b) (end : NewMap) (said : Advance Setting)
     (steps : MakingStepsFrom b.machine old new end said)
     (did : MakingStepsAmong V same same old.batch_size old.roots slot_of s.world s.maps s.calls s.makers s.enders i b new.memory (end, said)) (of : Option ℕ) where
   abbrev w : World (Node K V)
@@ -196,10 +196,10 @@ module _ {K V : Type 0} (same : K → K → Bool) (hash : ℕ → K → ℕ) (na
           let ours : b.machine.setting.mask ≡ b.given.mask = ap (λ (z : Setting). z.mask) facts.setting_is in omega (arith, theirs, ours, few)
 
       its_steps : MakingStepsFrom b.machine old new end (progress.Done setting)
-      its_steps = subst (λ (p : Progress Setting). MakingStepsFrom b.machine old new end p) done steps
+      its_steps = subst (λ (p : Advance Setting). MakingStepsFrom b.machine old new end p) done steps
 
       its_keeps : KeepsIts V same same old.batch_size old.roots slot_of w w2 b.machine (end, progress.Done setting)
-      its_keeps = subst (λ (p : Progress Setting). KeepsIts V same same old.batch_size old.roots slot_of w w2 b.machine (end, p)) done did.step.keeps
+      its_keeps = subst (λ (p : Advance Setting). KeepsIts V same same old.batch_size old.roots slot_of w w2 b.machine (end, p)) done did.step.keeps
 
       done_zero : (shard y : ℕ) → shard ≤ setting.mask → word_at w2.memory (Word setting.counter shard) ≡ Some y → y ≡ 0
       done_zero shard y few is = by told refl (making_done w i old.roots b.machine old.memory new.memory told end setting facts.point its_steps)

@@ -4,7 +4,7 @@ use Rattle.run_debts.specs.Given.SeizeWordsDeclared.fault.Fault.{Fault}
 use Rattle.run_debts.specs.Given.SeizeWordsDeclared.fault.Fault.TheVariants.{Memory}
 use Rattle.run_debts.specs.Given.TablesDeclared.node.Node.{Node}
 use Rattle.run_debts.specs.Given.RawMachine.{machine_replied}
-use Rattle.run_debts.specs.Given.RawDeclared.machines.asking.Reply.{Reply as MachineReply}
+use Rattle.run_debts.specs.Given.RawDeclared.machines.asking.MachineReply.{MachineReply}
 use Rattle.run_debts.specs.Given.RawDeclared.machines.machine.Machine.{Machine}
 use Rattle.run_debts.specs.Given.RawDeclared.machines.machine.Machine.TheVariants as kinds
 use Rattle.run_debts.specs.Given.RawDeclared.machines.progress.Progress.{Progress}

@@ -17,7 +17,7 @@ use Rattle.run_debts.specs.Given.RawDeclared.machines.machine.Machine.TheVariant
 use Rattle.run_debts.specs.Given.RawDeclared.machines.progress.Progress.{Progress}
 use Rattle.run_debts.specs.Given.RawDeclared.machines.progress.Progress.TheVariants as progress
 use Rattle.run_debts.specs.Given.RawMachine.{machine_replied}
-use Rattle.run_debts.specs.Given.RawDeclared.machines.asking.Reply.{Reply as MachineReply}
+use Rattle.run_debts.specs.Given.RawDeclared.machines.asking.MachineReply.{MachineReply}
 use Rattle.run_debts.specs.Given.RunsDeclared.effect.Effect.{Effect}
 use Rattle.run_debts.specs.Given.RunsDeclared.effect.Effect.TheVariants.{Asked}
 use Rattle.run_debts.specs.Given.SchedulesEffects.{with_effects, AtEachEffect}

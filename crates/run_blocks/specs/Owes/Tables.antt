@@ -8,14 +8,14 @@ use Rattle.owner_calls.specs.Given.ResizeDeclared.new_table.Making.{Making}
 use Rattle.owner_calls.specs.Given.ResizeDeclared.new_table.Making.TheVariants as making
 use Rattle.owner_calls.specs.Given.ResizeDeclared.new_table.NewTable.{NewTable}
 use Rattle.run_debts.specs.Given.RawMachine.{machine_replied}
-use Rattle.run_debts.specs.Given.RawDeclared.machines.asking.Reply.{Reply as MachineReply}
+use Rattle.run_debts.specs.Given.RawDeclared.machines.asking.MachineReply.{MachineReply}
 use Rattle.run_debts.specs.Given.RawDeclared.machines.progress.Progress.{Progress}
 use Rattle.run_debts.specs.Given.RunsDeclared.shapes.TableShape.{TableShape}
 use Rattle.run_debts.specs.Given.RunsDeclared.call.Call.{Call}
 use Rattle.run_debts.specs.Given.RunsDeclared.call.Reply.{Reply}
 use Rattle.run_debts.specs.Given.RunsDeclared.effect.Effect.{Effect}
 use Rattle.run_debts.specs.Given.RunsDeclared.effect.Effect.TheVariants.{TableMade, TableGivenUp, Linked}
-use Rattle.run_debts.specs.Given.RunsDeclared.effect.Table.{Table}
+use Rattle.run_debts.specs.Given.RunsDeclared.effect.TableId.{TableId}
 use Rattle.run_debts.specs.Given.RunsDeclared.outcome.Outcome.{Outcome}
 use Rattle.run_debts.specs.Given.SchedulesBeginning.{with_call}
 use Rattle.run_debts.specs.Given.SchedulesEffects.{with_effects, AtEachEffect}
@@ -50,7 +50,7 @@ table_made None = None
 table_made (Some n) = table_in n.stands
 
 -- by its map and its turn
-abbrev pub of_map : ℕ → Planned → Table
+abbrev pub of_map : ℕ → Planned → TableId
 of_map map table = record { map = map; turn = table.turn }
 
 module _ {K V : Type 0} (s : Scene K V) where

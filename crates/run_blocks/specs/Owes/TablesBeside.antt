@@ -1,7 +1,7 @@
 -- What is promised of the tables that calls have made where another one than a call takes a step, and where walks go on or are given up.
 use Rattle.std.specs.Prelude.{◌≡◌, ℕ, Bool, true, List, [], ◌∷◌, Option, Some, None}
 use Rattle.run_debts.specs.Given.SeizeWorld.{Step, with_at}
-use Rattle.run_debts.specs.Given.SeizeDeclared.progress.Progress.{Progress}
+use Rattle.run_debts.specs.Given.SeizeDeclared.advance.Advance.{Advance}
 use Rattle.run_debts.specs.Given.SeizeDeclared.rows.settle.Settled.{Settled}
 use Rattle.run_debts.specs.Given.TablesDeclared.node.Node.{Node}
 use Rattle.run_debts.specs.Given.TablesDeclared.setting.Setting.{Setting}
@@ -82,7 +82,7 @@ module _ (K V : Type 0) (same : K → K → Bool) (hash : ℕ → K → ℕ) whe
   abbrev pub MakingsKeepTables : Type 0
   MakingsKeepTables =
       (name : ℕ → List ℕ) (m : Moment K V) (known : Known) (s : Scene K V) (old new : Held K V) → IsAt same hash old s → Shows same name m known s → ShowsTables name m known s
-      → (i : ℕ) (told : Progress Setting) (leads : MakingLeads same hash i told s old new) (b : Beginning K) (here : s.makers i ≡ Some b) (of : Option ℕ)
+      → (i : ℕ) (told : Advance Setting) (leads : MakingLeads same hash i told s old new) (b : Beginning K) (here : s.makers i ≡ Some b) (of : Option ℕ)
       → (let to = leads b here in
       let effects = effects_of (acts.Making b.map) known new.changed in
       let v = with_effects None of effects m in

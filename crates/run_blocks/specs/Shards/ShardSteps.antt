@@ -1,12 +1,12 @@
 -- What is promised of the words of maps' counts: the memory's are those of the moment, whoever takes a step.
 use Rattle.std.specs.Prelude.{◌≡◌, ℕ, ◌≤◌, Bool, true, false, List, Option, Some, None}
 use Rattle.run_debts.specs.Given.SeizeWorld.{Begin, Step, with_at}
-use Rattle.run_debts.specs.Given.SeizeDeclared.progress.Progress.{Progress as Making}
+use Rattle.run_debts.specs.Given.SeizeDeclared.advance.Advance.{Advance as Making}
 use Rattle.run_debts.specs.Given.SeizeDeclared.rows.settle.Settled.{Settled}
 use Rattle.run_debts.specs.Given.TablesDeclared.node.Node.{Node}
 use Rattle.run_debts.specs.Given.TablesDeclared.setting.Setting.{Setting}
 use Rattle.run_debts.specs.Given.RawMachine.{machine_replied}
-use Rattle.run_debts.specs.Given.RawDeclared.machines.asking.Reply.{Reply as MachineReply}
+use Rattle.run_debts.specs.Given.RawDeclared.machines.asking.MachineReply.{MachineReply}
 use Rattle.run_debts.specs.Given.RawDeclared.machines.progress.Progress.{Progress}
 use Rattle.run_debts.specs.Given.RunsDeclared.call.Call.{Call}
 use Rattle.run_debts.specs.Given.RunsDeclared.call.Reply.{Reply}

@@ -16,8 +16,8 @@ use Rattle.run_places.specs.Given.RawDeclared.machines.answer.KeyAnswer.TheVaria
 use Rattle.run_places.specs.Given.RawDeclared.machines.asking.Asking.TheVariants as asking
 use Rattle.run_places.specs.Given.RawDeclared.machines.asking.Gap.{Gap}
 use Rattle.run_places.specs.Given.RawDeclared.machines.asking.Gap.TheVariants as gaps
-use Rattle.run_places.specs.Given.RawDeclared.machines.asking.Reply.{Reply}
-use Rattle.run_places.specs.Given.RawDeclared.machines.asking.Reply.TheVariants as reply
+use Rattle.run_places.specs.Given.RawDeclared.machines.asking.MachineReply.{MachineReply}
+use Rattle.run_places.specs.Given.RawDeclared.machines.asking.MachineReply.TheVariants as reply
 use Rattle.run_places.specs.Given.RawDeclared.machines.asking.Takes.{Takes}
 use Rattle.run_places.specs.Given.RawDeclared.machines.asking.Takes.TheVariants as takes
 use Rattle.run_places.specs.Given.RawDeclared.machines.asking.Told.{Told}
@@ -69,7 +69,7 @@ module _ (known : Known) where
   asks_none : (p : Sweep) (word : ℕ) → p.stands ≡ sweeping.Asks word → NoneOfSweep p.stands
   asks_none p word is = subst NoneOfSweep (sym is) (refl, tt)
 
-  sweep_told_so : {V : Type 0} (p : Sweep) (stands : Sweeping) (told : Reply V) → p.stands ≡ stands → StaysSwept p (sweep_told stands p told).0
+  sweep_told_so : {V : Type 0} (p : Sweep) (stands : Sweeping) (told : MachineReply V) → p.stands ≡ stands → StaysSwept p (sweep_told stands p told).0
   sweep_told_so p (sweeping.Asks word) reply.Yes is = none_swept p (after_reply p true) (asks_none p word is) (replied_none p true word is)
   sweep_told_so p (sweeping.Asks word) reply.No is = none_swept p (after_reply p false) (asks_none p word is) (replied_none p false word is)
   sweep_told_so p _ told is = (refl, λ notes. notes)
@@ -104,14 +104,14 @@ module _ (known : Known) where
     gap_none p gaps.Past = (refl, tt)
     gap_none p gaps.Last = (refl, tt)
 
-    absent_none : (t : Takes) (p : KeyCall K V K) (gap : Gap) (told : Reply V) → NoneInHand p → NoneInHand (absent_told t p gap told).0
+    absent_none : (t : Takes) (p : KeyCall K V K) (gap : Gap) (told : MachineReply V) → NoneInHand p → NoneInHand (absent_told t p gap told).0
     absent_none takes.Values p gap (reply.Insert value) none = gap_none (with_absent p value) gap
     absent_none takes.Changes p gap (reply.Insert value) none = gap_none (with_absent p value) gap
     absent_none takes.Changes p gap reply.Remove none = ending_none p _
     absent_none takes.Changes p gap reply.Abort none = ending_none p (ends.Answered answers.Absent)
     absent_none _ p gap told none = none
 
-    present_none : (t : Takes) (p : KeyCall K V K) (word : ℕ) (told : Reply V) → NoneInHand p → NoneInHand (present_told t p word told).0
+    present_none : (t : Takes) (p : KeyCall K V K) (word : ℕ) (told : MachineReply V) → NoneInHand p → NoneInHand (present_told t p word told).0
     present_none takes.Values p word (reply.Insert value) none = (refl, tt)
     present_none takes.Changes p word (reply.Insert value) none = (refl, tt)
     present_none takes.Changes p word reply.Remove none = burying_none (with_present p word tells.Removes) word
@@ -126,7 +126,7 @@ module _ (known : Known) where
     none_called : (p q : KeyCall K V K) → NoneInHand p → NoneInHand q → StaysCalled p q
     none_called p q before after = (after.0 ∙ sym before.0, λ notes. after.1)
 
-    key_told : (p : KeyCall K V K) (stands : Calling) (told : Reply V) → p.stands ≡ stands → StaysCalled p (told_at stands p told).0
+    key_told : (p : KeyCall K V K) (stands : Calling) (told : MachineReply V) → p.stands ≡ stands → StaysCalled p (told_at stands p told).0
     key_told p (at.Asks (asking.Absent gap)) told is =
         let none : NoneInHand p = subst NoneOfCall (sym is) (refl, tt) in
         none_called p (absent_told p.replies.takes p gap told).0 none (absent_none p.replies.takes p gap told none)
@@ -135,7 +135,7 @@ module _ (known : Known) where
         none_called p (present_told p.replies.takes p word told).0 none (present_none p.replies.takes p word told none)
     key_told p _ told is = (refl, λ notes. notes)
 
-    pub told_stays : (machine : Machine K V K) (told : Reply V) → StaysInHand machine (machine_replied machine told).0
+    pub told_stays : (machine : Machine K V K) (told : MachineReply V) → StaysInHand machine (machine_replied machine told).0
     told_stays (kinds.Key p) told = key_told p p.stands told refl
     told_stays (kinds.Sweep c) told = sweep_told_so c c.stands told refl
     told_stays (kinds.Reserve r) told = (refl, λ notes. notes)

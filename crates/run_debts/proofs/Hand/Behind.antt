@@ -5,8 +5,8 @@ use Rattle.std.proofs.lemmas.List.{append-nil}
 use Rattle.run_places.specs.Given.SeizeWordsDeclared.at.At.{At}
 use Rattle.run_places.specs.Given.SeizeDefer.{defer_plan}
 use Rattle.run_places.specs.Given.SeizeSettle.{settle_plan}
-use Rattle.run_places.specs.Given.SeizeDeclared.progress.Progress.{Progress}
-use Rattle.run_places.specs.Given.SeizeDeclared.progress.Progress.TheVariants as progress
+use Rattle.run_places.specs.Given.SeizeDeclared.advance.Advance.{Advance}
+use Rattle.run_places.specs.Given.SeizeDeclared.advance.Advance.TheVariants as progress
 use Rattle.run_places.specs.Given.SeizeDeclared.rows.defer.Defer.{Defer}
 use Rattle.run_places.specs.Given.SeizeDeclared.rows.settle.Settle.{Settle}
 use Rattle.run_places.specs.Given.SeizeDeclared.rows.settle.Settled.{Settled}
@@ -27,8 +27,8 @@ use Rattle.run_places.specs.Given.ResizeDeclared.copier.Copying.TheVariants as c
 use Rattle.run_places.specs.Given.ResizeDeclared.dispose.Dispose.{Dispose}
 use Rattle.run_places.specs.Given.ResizeDeclared.dispose.Disposing.{Disposing}
 use Rattle.run_places.specs.Given.ResizeDeclared.dispose.Disposing.TheVariants as disposing
-use Rattle.run_places.specs.Given.ResizeDeclared.outcome.Outcome.{Outcome}
-use Rattle.run_places.specs.Given.ResizeDeclared.outcome.Outcome.TheVariants as outcome
+use Rattle.run_places.specs.Given.ResizeDeclared.yielding.Yielding.{Yielding}
+use Rattle.run_places.specs.Given.ResizeDeclared.yielding.Yielding.TheVariants as outcome
 use Rattle.run_places.specs.Given.ReservesReserve as reserves
 use Rattle.run_places.specs.Given.ReservesDeclared.reserve.Reserve.{Reserve}
 use Rattle.run_places.specs.Given.ReservesDeclared.reserve.Reserving.{Reserving}
@@ -99,7 +99,7 @@ module _ (K V : Type 0) where
   settled_alone d (s, settled.Gave value) = refl
   settled_alone d (s, settled.Done) = refl
 
-  deferred_alone : (d : Dispose) (q : Defer × Progress Unit) → AloneThen (disposes.deferred d q)
+  deferred_alone : (d : Dispose) (q : Defer × Advance Unit) → AloneThen (disposes.deferred d q)
   deferred_alone d (c, progress.Goes) = refl
   deferred_alone d (c, progress.Waits) = refl
   deferred_alone d (c, progress.Done end) = refl
@@ -155,7 +155,7 @@ module _ (known : Known) where
 
   -- a copier whose row is under way, or is to begin
   module _ (K V : Type 0) (hash : K → ℕ) (c : Copier) where
-    abbrev CopiesOn : ℕ → Copier × Outcome (Node K V) Table → Type 0
+    abbrev CopiesOn : ℕ → Copier × Yielding (Node K V) Table → Type 0
     CopiesOn rest q = GoesBehind known c rest q.0 × GoesOn q.1
 
     -- it retires a table, and has those in hand that come behind
@@ -190,7 +190,7 @@ module _ (known : Known) where
           KeepsBehind known (tables_in_hand known c c.stands) (tables_in_hand known q q.stands) (due_in_copying c.stands) (due_in_copying q.stands)
           × (GoesDue (due_in_copying c.stands) (due_in_copying q.stands) → NotesTables known q q.stands)
 
-      copier_keeps : (q : Copier × Outcome (Node K V) Table) → CopiesOn its.0 q → CopierKeeps q.0
+      copier_keeps : (q : Copier × Yielding (Node K V) Table) → CopiesOn its.0 q → CopierKeeps q.0
       copier_keeps q on = (
         Behind (tables_from known c its.0) its.2 on.0.0,
         λ goes. on.0.1 (due_noted (due_in_copying c.stands) (due_in_copying q.0.stands) its.3 goes) its.4,
@@ -211,7 +211,7 @@ module _ {K V : Type 0} (known : Known) (asks eq : K → K → Bool) (hash : K �
   key_disposed d answer row noted (d2, settled.Gave value) alone = let it = dispose_keeps known d row noted d2 alone in (it.0, it.1, λ e. absurd (cc e))
   key_disposed d answer row noted (d2, settled.Done) alone = (over_keeps known d row noted, λ goes. tt, λ e. refl)
 
-  key_helped : (c : Copier) (goal : Table) (row : IsRowOfCopier c.stands) (notes : NotesTables known c c.stands) (q : Copier × Outcome (Node K V) Table)
+  key_helped : (c : Copier) (goal : Table) (row : IsRowOfCopier c.stands) (notes : NotesTables known c c.stands) (q : Copier × Yielding (Node K V) Table)
       → CopiesOn known K V hash c (its known K V hash c row notes).0 q → KeyKeeps (calling.Helps c goal) (helped x goal q)
   key_helped c goal row notes (d, outcome.Goes) on = let it = copier_keeps known K V hash c row notes (d, outcome.Goes) on in (it.0, it.1, λ e. absurd (cc e))
   key_helped c goal row notes (d, outcome.Waits) on = let it = copier_keeps known K V hash c row notes (d, outcome.Waits) on in (it.0, it.1, λ e. absurd (cc e))
@@ -219,7 +219,7 @@ module _ {K V : Type 0} (known : Known) (asks eq : K → K → Bool) (hash : K �
   key_helped c goal row notes (d, outcome.Done table) on = absurd on.1
   key_helped c goal row notes (d, outcome.Refused fault) on = absurd on.1
 
-  key_copied : (c : Copier) (row : IsRowOfCopier c.stands) (notes : NotesTables known c c.stands) (q : Copier × Outcome (Node K V) Table)
+  key_copied : (c : Copier) (row : IsRowOfCopier c.stands) (notes : NotesTables known c c.stands) (q : Copier × Yielding (Node K V) Table)
       → CopiesOn known K V hash c (its known K V hash c row notes).0 q → KeyKeeps (calling.Copies c) (copied x q)
   key_copied c row notes (d, outcome.Goes) on = let it = copier_keeps known K V hash c row notes (d, outcome.Goes) on in (it.0, it.1, λ e. absurd (cc e))
   key_copied c row notes (d, outcome.Waits) on = let it = copier_keeps known K V hash c row notes (d, outcome.Waits) on in (it.0, it.1, λ e. absurd (cc e))
@@ -246,13 +246,13 @@ key_puts known _ notes word place e = absurd (cc e)
 
 -- a reservation
 module _ {K : Type 0} (V : Type 0) (known : Known) (hash : K → ℕ) (x : Reserve) where
-  abbrev pub RoomKeeps : Reserving → Reserve × Outcome (Node K V) Unit → Type 0
+  abbrev pub RoomKeeps : Reserving → Reserve × Yielding (Node K V) Unit → Type 0
   RoomKeeps before e =
       KeepsBehind known (in_hand_of_room known before) (in_hand_of_room known e.0.stands) (due_in_reserving before) (due_in_reserving e.0.stands)
       × (GoesDue (due_in_reserving before) (due_in_reserving e.0.stands) → NotesOfRoom known e.0.stands)
       × (has_ended (of_outcome e.1) ≡ true → in_hand_of_room known e.0.stands ≡ [])
 
-  room_copied : (c : Copier) (row : IsRowOfCopier c.stands) (notes : NotesTables known c c.stands) (q : Copier × Outcome (Node K V) Table)
+  room_copied : (c : Copier) (row : IsRowOfCopier c.stands) (notes : NotesTables known c c.stands) (q : Copier × Yielding (Node K V) Table)
       → CopiesOn known K V hash c (its known K V hash c row notes).0 q → RoomKeeps (reserving.Copies c) (reserves.copied x q)
   room_copied c row notes (d, outcome.Goes) on = let it = copier_keeps known K V hash c row notes (d, outcome.Goes) on in (it.0, it.1, λ e. absurd (cc e))
   room_copied c row notes (d, outcome.Waits) on = let it = copier_keeps known K V hash c row notes (d, outcome.Waits) on in (it.0, it.1, λ e. absurd (cc e))
@@ -301,7 +301,7 @@ module _ {K : Type 0} (V : Type 0) (known : Known) (hash : K → ℕ) (x : Sweep
     λ e. (further_none known x).0,
   )
 
-  sweep_copied : (c : Copier) (row : IsRowOfCopier c.stands) (notes : NotesTables known c c.stands) (q : Copier × Outcome (Node K V) Table)
+  sweep_copied : (c : Copier) (row : IsRowOfCopier c.stands) (notes : NotesTables known c c.stands) (q : Copier × Yielding (Node K V) Table)
       → CopiesOn known K V hash c (its known K V hash c row notes).0 q → SweepKeeps (sweeping.Copies c) (sweeps.copied x q)
   sweep_copied c row notes (d, outcome.Goes) on = let it = copier_keeps known K V hash c row notes (d, outcome.Goes) on in (it.0, it.1, λ e. absurd (cc e))
   sweep_copied c row notes (d, outcome.Waits) on = let it = copier_keeps known K V hash c row notes (d, outcome.Waits) on in (it.0, it.1, λ e. absurd (cc e))

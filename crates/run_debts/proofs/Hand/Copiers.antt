@@ -20,8 +20,8 @@ use Rattle.run_places.specs.Given.ResizeCopierStates.{standing}
 use Rattle.run_places.specs.Given.ResizeDeclared.copier.Copier.{Copier}
 use Rattle.run_places.specs.Given.ResizeDeclared.copier.Copying.{Copying}
 use Rattle.run_places.specs.Given.ResizeDeclared.copier.Copying.TheVariants as copying
-use Rattle.run_places.specs.Given.ResizeDeclared.outcome.Outcome.{Outcome}
-use Rattle.run_places.specs.Given.ResizeDeclared.outcome.Outcome.TheVariants as outcome
+use Rattle.run_places.specs.Given.ResizeDeclared.yielding.Yielding.{Yielding}
+use Rattle.run_places.specs.Given.ResizeDeclared.yielding.Yielding.TheVariants as outcome
 use Rattle.run_places.specs.Given.RawDeclared.machines.progress.Progress.{Progress}
 use Rattle.run_places.specs.Given.RunsDeclared.effect.Effect.{Effect}
 use Rattle.run_places.specs.Given.RunsDeclared.effect.Effect.TheVariants as effect
@@ -67,7 +67,7 @@ use Rattle.run_places.specs.Given.ScenesScene.{Scene, slot_of}
 use Rattle.run_places.specs.Given.ScenesStepping.{StepLeads}
 
 -- it has unlinked none, or goes on
-abbrev pub GoesOrHas : {K V : Type 0} → Copier × Outcome (Node K V) Table → Type 0
+abbrev pub GoesOrHas : {K V : Type 0} → Copier × Yielding (Node K V) Table → Type 0
 GoesOrHas e = (has_unlinked e.0.stands ≡ false) ⊎ (e.1 ≡ outcome.Goes)
 
 module _ {K V : Type 0} (same : K → K → Bool) (hash : ℕ → K → ℕ) (name : ℕ → List ℕ) (m : Moment K V) (known : Known) (s : Scene K V) (old new : Held K V) (at_old : IsAt same hash old s)
@@ -134,12 +134,12 @@ module _ {K V : Type 0} (same : K → K → Bool) (hash : ℕ → K → ℕ) (na
       let there_link = named.0 in
       is_map.map.shows.tables_apart x c.first made named.1 is named.2 (omega (arith, e, there_link))
 
-  module _ (p : Copier) (knows : KnowsTables same st.hash s.world i setting c blocks p) (end : Copier × Outcome (Node K V) Table) where
+  module _ (p : Copier) (knows : KnowsTables same st.hash s.world i setting c blocks p) (end : Copier × Yielding (Node K V) Table) where
     abbrev SteppedAt : Copying → Type 0
-    SteppedAt stands = StepsTold K V (Copier × Outcome (Node K V) Table) old.memory changed.Nothing (copiers.plan_at st.hash p stands) new.memory told end
+    SteppedAt stands = StepsTold K V (Copier × Yielding (Node K V) Table) old.memory changed.Nothing (copiers.plan_at st.hash p stands) new.memory told end
 
     -- what it had in hand at this point goes so
-    abbrev pub GoesFrom : Copying → Copier × Outcome (Node K V) Table → Type 0
+    abbrev pub GoesFrom : Copying → Copier × Yielding (Node K V) Table → Type 0
     GoesFrom stands e = OwesGo m effects (tables_in_hand known p stands) (tables_in_hand known e.0 e.0.stands) × NotesTables known e.0 e.0.stands × GoesOrHas e
 
     -- it makes its target the root, and has the tables in hand that the root has left
@@ -201,7 +201,7 @@ module _ {K V : Type 0} (same : K → K → Bool) (hash : ℕ → K → ℕ) (na
           let is : found ≡ p.source.link = took.0.1 in
           promoted_goes (took.0.0 ∙ ap Some is) (told_so ∙ ap (λ (k : ℕ). changed.Wrote (Root p.setting.root) k p.target.link) is) e
       promotes_goes (Exchanged (Err found), (took, told_so), e) =
-          slower_goes told_so (ap (λ (z : Copier × Outcome (Node K V) Table). has_unlinked z.0.stands) e
+          slower_goes told_so (ap (λ (z : Copier × Yielding (Node K V) Table). has_unlinked z.0.stands) e
           ∙ behind_none p.whole (record p { place = 0; end = 0; spent = is_incremental p.setting.mode; stands = copying.Asks }) (standing p copying.Over) refl refl)
       promotes_goes (Found found, (took, told_so), e) = absurd took.0
       promotes_goes (Stored, (took, told_so), e) = absurd took.0
@@ -290,5 +290,5 @@ module _ {K V : Type 0} (same : K → K → Bool) (hash : ℕ → K → ℕ) (na
     CopierGoes = GoesFrom p.stands end
 
     pub copier_goes : (IsRowOfCopier p.stands → ⊥) → NotesTables known p p.stands → Leaves p.stands
-        → StepsTold K V (Copier × Outcome (Node K V) Table) old.memory changed.Nothing (copier_plan st.hash p) new.memory told end → CopierGoes
+        → StepsTold K V (Copier × Yielding (Node K V) Table) old.memory changed.Nothing (copier_plan st.hash p) new.memory told end → CopierGoes
     copier_goes row notes leaves steps = goes_at p.stands refl row knows.1 notes leaves steps

@@ -6,8 +6,8 @@ use Rattle.run_places.specs.Given.TablesDeclared.node.Node.{Node}
 use Rattle.run_places.specs.Given.TablesDeclared.table.Table.{Table}
 use Rattle.run_places.specs.Given.ResizeCopier.{copier_plan}
 use Rattle.run_places.specs.Given.ResizeDeclared.copier.Copier.{Copier}
-use Rattle.run_places.specs.Given.ResizeDeclared.outcome.Outcome.{Outcome}
-use Rattle.run_places.specs.Given.ResizeDeclared.outcome.Outcome.TheVariants as outcome
+use Rattle.run_places.specs.Given.ResizeDeclared.yielding.Yielding.{Yielding}
+use Rattle.run_places.specs.Given.ResizeDeclared.yielding.Yielding.TheVariants as outcome
 use Rattle.run_places.specs.Given.ReservesReserve as reserves
 use Rattle.run_places.specs.Given.ReservesDeclared.reserve.Reserve.{Reserve}
 use Rattle.run_places.specs.Given.SweepsSweep as sweeps
@@ -26,7 +26,7 @@ use Rattle.run_places.specs.Given.RawDeclared.machines.call.KeyCall.{KeyCall}
 use Rattle.run_places.specs.Given.RawDeclared.machines.progress.Progress.{Progress}
 use Rattle.run_places.specs.Given.RunsDeclared.effect.Effect.{Effect}
 use Rattle.run_places.specs.Given.RunsDeclared.effect.Effect.TheVariants as effect
-use Rattle.run_places.specs.Given.RunsDeclared.effect.Table.{Table as TableTurn}
+use Rattle.run_places.specs.Given.RunsDeclared.effect.TableId.{TableId as TableTurn}
 use Rattle.run_places.specs.Given.RunsDeclared.effect.Thing.{Thing}
 use Rattle.run_places.specs.Given.SchedulesMoment.{Moment}
 use Rattle.run_places.specs.Given.TellerTells.{StepsTold}
@@ -70,8 +70,8 @@ module _ {K V : Type 0} (same : K → K → Bool) (hash : ℕ → K → ℕ) (na
   -- its copier has taken the step, and the call has in hand what that has, if that has tables in hand or goes on; and once it has ended, it has nothing
   pub copying_goes : IsInside (s.world.uses (slot_of i)) → OfNoRow same hash name m known s old new at_old shown map i u under_way said leads u to.4.did
       → (p : Copier) → KnowsTables same st.hash s.world i (in_slot st.setting (slot_of i)) st.chart (seen_by st.blocks (st.sights (slot_of i))) p → (IsRowOfCopier p.stands → ⊥)
-      → in_hand known (machine_of u) ≡ tables_in_hand known p p.stands → NotesTables known p p.stands → (r : Copier × Outcome (Node K V) Table)
-      → StepsTold K V (Copier × Outcome (Node K V) Table) old.memory changed.Nothing (copier_plan to.0.hash p) new.memory new.changed r
+      → in_hand known (machine_of u) ≡ tables_in_hand known p p.stands → NotesTables known p p.stands → (r : Copier × Yielding (Node K V) Table)
+      → StepsTold K V (Copier × Yielding (Node K V) Table) old.memory changed.Nothing (copier_plan to.0.hash p) new.memory new.changed r
       → (GoesOrHas r → (in_hand known to.1 ≡ tables_in_hand known r.0 r.0.stands) × (NotesTables known r.0 r.0.stands → NotesInHand known to.1))
       → (has_ended said ≡ true → in_hand known to.1 ≡ []) → ((n : ℕ) → TakesPair effects n → ⊥) → (is_promoting p.stands ≡ false → (t : TableTurn) → effects ≡ effect.Promoted t ∷ [] → ⊥)
       → HandGoes K V same hash m known s old new map i u said under_way leads
@@ -98,12 +98,12 @@ module _ (known : Known) where
 
 module _ {K V : Type 0} (known : Known) where
   -- a copier that does not go on has none
-  none_has : (p : Copier) (o : Outcome (Node K V) Table) → (o ≡ outcome.Goes → ⊥) → GoesOrHas (p, o) → (tables_in_hand known p p.stands ≡ []) × NotesTables known p p.stands
+  none_has : (p : Copier) (o : Yielding (Node K V) Table) → (o ≡ outcome.Goes → ⊥) → GoesOrHas (p, o) → (tables_in_hand known p p.stands ≡ []) × NotesTables known p p.stands
   none_has p o other (inl none) = copier_none known p p.stands none
   none_has p o other (inr goes) = absurd (other goes)
 
   -- where a call on one key has come to
-  abbrev pub KeyThen : Copier × Outcome (Node K V) Table → KeyCall K V K × Called (Node K V) → Type 0
+  abbrev pub KeyThen : Copier × Yielding (Node K V) Table → KeyCall K V K × Called (Node K V) → Type 0
   KeyThen r e =
       (GoesOrHas r → (in_hand_of_call known e.0.stands ≡ tables_in_hand known r.0 r.0.stands) × (NotesTables known r.0 r.0.stands → NotesOfCall known e.0.stands))
       × (has_ended (of_called e.1) ≡ true → in_hand_of_call known e.0.stands ≡ []) × (pair_in_calling e.0.stands ≡ None)
@@ -116,7 +116,7 @@ module _ {K V : Type 0} (known : Known) where
         by true = refl
         by false = refl
 
-    pub helped_then : (goal : Table) (r : Copier × Outcome (Node K V) Table) → KeyThen r (helped p goal r)
+    pub helped_then : (goal : Table) (r : Copier × Yielding (Node K V) Table) → KeyThen r (helped p goal r)
     helped_then goal (c, outcome.Goes) = (λ has. (refl, λ notes. notes), λ e. absurd (cc e), refl)
     helped_then goal (c, outcome.Waits) = (λ has. (refl, λ notes. notes), λ e. absurd (cc e), refl)
     helped_then goal (c, outcome.Gave value) = (λ has. (refl, λ notes. notes), λ e. absurd (cc e), refl)
@@ -125,7 +125,7 @@ module _ {K V : Type 0} (known : Known) where
         let none = ending_none known p (ends.Refused fault) in
         (λ has. (none.0 ∙ sym (none_has c (outcome.Refused fault) (λ e. cc e) has).0, λ notes. none.1), λ e. none.0, ending_pair (ends.Refused fault))
 
-    pub copied_then : (r : Copier × Outcome (Node K V) Table) → KeyThen r (copied p r)
+    pub copied_then : (r : Copier × Yielding (Node K V) Table) → KeyThen r (copied p r)
     copied_then (c, outcome.Goes) = (λ has. (refl, λ notes. notes), λ e. absurd (cc e), refl)
     copied_then (c, outcome.Waits) = (λ has. (refl, λ notes. notes), λ e. absurd (cc e), refl)
     copied_then (c, outcome.Gave value) = (λ has. (refl, λ notes. notes), λ e. absurd (cc e), refl)
@@ -135,12 +135,12 @@ module _ {K V : Type 0} (known : Known) where
         (λ has. (none.0 ∙ sym (none_has c (outcome.Refused fault) (λ e. cc e) has).0, λ notes. none.1), λ e. none.0, ending_pair (ends.Refused fault))
 
   -- a reservation
-  abbrev pub RoomThen : Copier × Outcome (Node K V) Table → Reserve × Outcome (Node K V) Unit → Type 0
+  abbrev pub RoomThen : Copier × Yielding (Node K V) Table → Reserve × Yielding (Node K V) Unit → Type 0
   RoomThen r e =
       (GoesOrHas r → (in_hand_of_room known e.0.stands ≡ tables_in_hand known r.0 r.0.stands) × (NotesTables known r.0 r.0.stands → NotesOfRoom known e.0.stands))
       × (has_ended (of_outcome e.1) ≡ true → in_hand_of_room known e.0.stands ≡ [])
 
-  pub room_then : (p : Reserve) (r : Copier × Outcome (Node K V) Table) → RoomThen r (reserves.copied p r)
+  pub room_then : (p : Reserve) (r : Copier × Yielding (Node K V) Table) → RoomThen r (reserves.copied p r)
   room_then p (c, outcome.Goes) = (λ has. (refl, λ notes. notes), λ e. absurd (cc e))
   room_then p (c, outcome.Waits) = (λ has. (refl, λ notes. notes), λ e. absurd (cc e))
   room_then p (c, outcome.Gave value) = (λ has. (refl, λ notes. notes), λ e. absurd (cc e))
@@ -148,12 +148,12 @@ module _ {K V : Type 0} (known : Known) where
   room_then p (c, outcome.Refused fault) = (λ has. (sym (none_has c (outcome.Refused fault) (λ e. cc e) has).0, λ notes. tt), λ e. refl)
 
   -- a sweep
-  abbrev pub SweepThen : Copier × Outcome (Node K V) Table → Sweep × Swept (Node K V) → Type 0
+  abbrev pub SweepThen : Copier × Yielding (Node K V) Table → Sweep × Swept (Node K V) → Type 0
   SweepThen r e =
       (GoesOrHas r → (in_hand_of_sweep known e.0.stands ≡ tables_in_hand known r.0 r.0.stands) × (NotesTables known r.0 r.0.stands → NotesOfSweep known e.0.stands))
       × (has_ended (of_swept e.1) ≡ true → in_hand_of_sweep known e.0.stands ≡ [])
 
-  pub sweep_then : (c : Sweep) (r : Copier × Outcome (Node K V) Table) → SweepThen r (sweeps.copied c r)
+  pub sweep_then : (c : Sweep) (r : Copier × Yielding (Node K V) Table) → SweepThen r (sweeps.copied c r)
   sweep_then c (p, outcome.Goes) = (λ has. (refl, λ notes. notes), λ e. absurd (cc e))
   sweep_then c (p, outcome.Waits) = (λ has. (refl, λ notes. notes), λ e. absurd (cc e))
   sweep_then c (p, outcome.Gave value) = (λ has. (refl, λ notes. notes), λ e. absurd (cc e))

@@ -4,7 +4,7 @@ use Rattle.std.proofs.Common.{refl, ap, sym, subst, ◌∙◌, inl, inr}
 use Rattle.run_places.specs.Given.TablesDeclared.node.Node.{Node}
 use Rattle.run_places.specs.Given.ResizeCopier.{copier_plan}
 use Rattle.run_places.specs.Given.ResizeDeclared.copier.Copier.{Copier}
-use Rattle.run_places.specs.Given.ResizeDeclared.outcome.Outcome.{Outcome}
+use Rattle.run_places.specs.Given.ResizeDeclared.yielding.Yielding.{Yielding}
 use Rattle.run_places.specs.Given.TablesDeclared.table.Table.{Table}
 use Rattle.run_places.specs.Given.RawCall.{call_plan, plan_at, helped, copied}
 use Rattle.run_places.specs.Given.RawMachine.{called as of_key}
@@ -105,8 +105,8 @@ module _ {K V : Type 0} (same : K → K → Bool) (hash : ℕ → K → ℕ) (na
 
   -- its copier has taken the step, and it has come to this by that
   module _ (p : Copier) (its : Knows p) (row : IsRowOfCopier p.stands → ⊥) (before : in_hand_of_call known x.call.stands ≡ tables_in_hand known p p.stands) (noted : NotesTables known p p.stands)
-      (other : is_promoting p.stands ≡ false → call_is_promoting x.call.stands ≡ false) (r : Copier × Outcome (Node K V) Table)
-      (steps : StepsTold K V (Copier × Outcome (Node K V) Table) old.memory changed.Nothing (copier_plan to.0.hash p) new.memory told r)
+      (other : is_promoting p.stands ≡ false → call_is_promoting x.call.stands ≡ false) (r : Copier × Yielding (Node K V) Table)
+      (steps : StepsTold K V (Copier × Yielding (Node K V) Table) old.memory changed.Nothing (copier_plan to.0.hash p) new.memory told r)
       (e : KeyCall K V K × Called (Node K V)) (is : inner.0 ≡ e) (came : KeyThen known r e) where
     machine_is : to.1 ≡ kinds.Key e.0
     machine_is = ap (λ (z : Machine K V K × Progress (Node K V)). z.0) inner.1 ∙ ap (λ (z : KeyCall K V K × Called (Node K V)). kinds.Key z.0) is

@@ -25,7 +25,7 @@ use Rattle.run_places.specs.Given.RawDeclared.machines.machine.Machine.TheVarian
 use Rattle.run_places.specs.Given.RawDeclared.machines.progress.Progress.{Progress}
 use Rattle.run_places.specs.Given.RunsDeclared.effect.Effect.{Effect}
 use Rattle.run_places.specs.Given.RunsDeclared.effect.Effect.TheVariants as effect
-use Rattle.run_places.specs.Given.RunsDeclared.effect.Table.{Table}
+use Rattle.run_places.specs.Given.RunsDeclared.effect.TableId.{TableId}
 use Rattle.run_places.specs.Given.RunsDeclared.effect.Thing.{Thing}
 use Rattle.run_places.specs.Given.RunsDeclared.effect.Thing.TheVariants.{APair}
 use Rattle.run_places.specs.Given.SchedulesMoment.{Moment}
@@ -164,7 +164,7 @@ module _ {K V : Type 0} (same : K → K → Bool) (hash : ℕ → K → ℕ) (na
 
   module _ (machine_is : to.1 ≡ kinds.Key p2) (told_is : said ≡ of_called end)
       (step : StepsAmong V same same old.batch_size old.roots slot_of s.world s.maps s.calls s.makers s.enders map st i x new.memory p2 end) where
-    no_promotion : (t : Table) → effects ≡ effect.Promoted t ∷ [] → ⊥
+    no_promotion : (t : TableId) → effects ≡ effect.Promoted t ∷ [] → ⊥
     no_promotion t are =
         (let none = none_promotes i map known (nothing_free s.world m.stored known shown.blocks.roles) told
         (spared_tells old.memory new.memory told (call_plan same same to.0.hash x.call) (p2, end) (spares_call same same to.0.hash x.call x.call.stands (promotes_none x.call.stands copies) step.no_row)

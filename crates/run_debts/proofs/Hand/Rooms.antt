@@ -2,8 +2,8 @@
 use Rattle.std.specs.Prelude.{◌≡◌, ◌^◌, ℕ, ◌==◌, nat_lt, Bool, true, false, List, [], Some, if◌then◌else◌}
 use Rattle.std.proofs.Common.{refl, ap, sym, subst, ◌∙◌, inl, inr}
 use Rattle.run_places.specs.Given.SeizeWordsOp.{Out, Found, Stored, Exchanged, Made, Taken, Roomed}
-use Rattle.run_places.specs.Given.SeizeDeclared.progress.Progress.{Progress as Counting}
-use Rattle.run_places.specs.Given.SeizeDeclared.progress.Progress.TheVariants as progress
+use Rattle.run_places.specs.Given.SeizeDeclared.advance.Advance.{Advance as Counting}
+use Rattle.run_places.specs.Given.SeizeDeclared.advance.Advance.TheVariants as progress
 use Rattle.run_places.specs.Given.TablesDeclared.node.Node.{Node}
 use Rattle.run_places.specs.Given.TablesDeclared.table.Table.{Table}
 use Rattle.run_places.specs.Given.ResizeCopier.{copier_plan}
@@ -14,7 +14,7 @@ use Rattle.run_places.specs.Given.TablesChunks.{is_incremental}
 use Rattle.run_places.specs.Given.TablesDeclared.setting.Setting.{Setting}
 use Rattle.run_places.specs.Given.ResizeDeclared.copier.Copier.{Copier}
 use Rattle.run_places.specs.Given.ResizeDeclared.new_table.NewTable.{NewTable}
-use Rattle.run_places.specs.Given.ResizeDeclared.outcome.Outcome.{Outcome}
+use Rattle.run_places.specs.Given.ResizeDeclared.yielding.Yielding.{Yielding}
 use Rattle.run_places.specs.Given.ResizeDeclared.sum.Sum.{Sum}
 use Rattle.run_places.specs.Given.ReservesReserve as reserves
 use Rattle.run_places.specs.Given.ReservesReserve.{reserve_plan}
@@ -80,10 +80,10 @@ module _ (known : Known) where
   copying_none c table next = copier_none known (copying_all c.setting table next) (copying_all c.setting table next).stands (begins_none c.setting table next)
 
 module _ (known : Known) (K V : Type 0) where
-  abbrev HasNone : Reserve × Outcome (Node K V) Unit → Type 0
+  abbrev HasNone : Reserve × Yielding (Node K V) Unit → Type 0
   HasNone e = NoneOfRoom known e.0.stands
 
-  either : (b : Bool) (x y : Reserve × Outcome (Node K V) Unit) → HasNone x → HasNone y → HasNone (if b then x else y)
+  either : (b : Bool) (x y : Reserve × Yielding (Node K V) Unit) → HasNone x → HasNone y → HasNone (if b then x else y)
   either true x y f g = f
   either false x y f g = g
 
@@ -156,10 +156,10 @@ module _ {K V : Type 0} (same : K → K → Bool) (hash : ℕ → K → ℕ) (na
   abbrev blocks : Blocks
   blocks = seen_by st.blocks (st.sights (slot_of i))
 
-  abbrev Stepped : Reserving → Reserve × Outcome (Node K V) Unit → Type 0
-  Stepped stands e = StepsTold K V (Reserve × Outcome (Node K V) Unit) old.memory changed.Nothing (reserves.plan_at to.0.hash x.reserve stands) new.memory told e
+  abbrev Stepped : Reserving → Reserve × Yielding (Node K V) Unit → Type 0
+  Stepped stands e = StepsTold K V (Reserve × Yielding (Node K V) Unit) old.memory changed.Nothing (reserves.plan_at to.0.hash x.reserve stands) new.memory told e
 
-  inner : (e : Reserve × Outcome (Node K V) Unit) × (◌≡◌ {A = Machine K V K × Progress (Node K V)} (to.1, said) (of_room e)) × Stepped x.reserve.stands e
+  inner : (e : Reserve × Yielding (Node K V) Unit) × (◌≡◌ {A = Machine K V K × Progress (Node K V)} (to.1, said) (of_room e)) × Stepped x.reserve.stands e
   inner = told_in old.memory new.memory told of_room (reserve_plan to.0.hash x.reserve) (to.1, said) to.3
 
   machine_is : to.1 ≡ kinds.Reserve inner.0.0
@@ -214,9 +214,9 @@ module _ {K V : Type 0} (same : K → K → Bool) (hash : ℕ → K → ℕ) (na
   goes_at (reserving.Copies copier) is =
       let d = told_in old.memory new.memory told (reserves.copied x.reserve) (copier_plan to.0.hash copier) inner.0 (subst (λ (z : Reserving). Stepped z inner.0) is inner.2) in
       let came = room_then known x.reserve d.0 in
-      let machine : to.1 ≡ kinds.Reserve (reserves.copied x.reserve d.0).0 = machine_is ∙ ap (λ (z : Reserve × Outcome (Node K V) Unit). kinds.Reserve z.0) d.1 in
+      let machine : to.1 ≡ kinds.Reserve (reserves.copied x.reserve d.0).0 = machine_is ∙ ap (λ (z : Reserve × Yielding (Node K V) Unit). kinds.Reserve z.0) d.1 in
       let says : said ≡ of_outcome (reserves.copied x.reserve d.0).1 =
-      ap (λ (z : Machine K V K × Progress (Node K V)). z.1) inner.1 ∙ ap (λ (z : Reserve × Outcome (Node K V) Unit). of_outcome z.1) d.1 in
+      ap (λ (z : Machine K V K × Progress (Node K V)). z.1) inner.1 ∙ ap (λ (z : Reserve × Yielding (Node K V) Unit). of_outcome z.1) d.1 in
       copying_goes same hash name m known s old new at_old shown map i (ForRoom x) under_way said leads
       (is_inside same hash name m known s old new at_old shown map i (ForRoom x) under_way said leads) own copier (subst KnowsOf is knows) (λ row. no_row (subst IsRowOfReserve (sym is) row))
       (ap (in_hand_of_room known) is) (subst (NotesOfRoom known) is notes) d.0 d.2

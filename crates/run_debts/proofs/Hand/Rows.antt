@@ -5,7 +5,7 @@ use Rattle.run_places.specs.Given.SeizeWordsDeclared.at.At.{At}
 use Rattle.run_places.specs.Given.SeizeWordsWord.{block_in}
 use Rattle.run_places.specs.Given.RunsDeclared.effect.Effect.{Effect}
 use Rattle.run_places.specs.Given.RunsDeclared.effect.Effect.TheVariants as effect
-use Rattle.run_places.specs.Given.RunsDeclared.effect.Table.{Table}
+use Rattle.run_places.specs.Given.RunsDeclared.effect.TableId.{TableId}
 use Rattle.run_places.specs.Given.RunsDeclared.effect.Thing.{Thing}
 use Rattle.run_places.specs.Given.RunsDeclared.effect.Thing.TheVariants.{APair, ATable}
 use Rattle.run_places.specs.Given.SchedulesMoment.{Moment}
@@ -36,7 +36,7 @@ module _ {K V : Type 0} (m : Moment K V) (known : Known) (effects : List Effect)
   retired_goes before after (role.Counter map) are is = none_goes before after are (sym is)
 
   -- it is put behind a table
-  put_goes : (before after : List Thing) (t : Table) (r : Role) → IsPairRole r → effects ≡ carried t r → before ≡ thing_as r ++ after → OwesGo m effects before after
+  put_goes : (before after : List Thing) (t : TableId) (r : Role) → IsPairRole r → effects ≡ carried t r → before ≡ thing_as r ++ after → OwesGo m effects before after
   put_goes before after t (role.Pair n) pair are is = HandsFirst (effect.Deferred n t) (APair n) are refl is
   put_goes before after t role.Free pair are is = absurd pair
   put_goes before after t (role.Table u len) pair are is = absurd pair

@@ -1,20 +1,20 @@
 -- Tables that are found at their places: another flag goes to one place, and a table that comes stands behind the others.
 use Rattle.std.specs.Prelude.{◌≡◌, ℕ, zero, suc, ◌+◌, ◌<◌, ◌&&◌, Bool, true, false, List, [], ◌∷◌, ◌++◌, length, map, Option, Some, None, is_none, slice_index_or, slice_set, if◌then◌else◌}
 use Rattle.std.proofs.Common.{refl, sym, ap, subst, ◌∙◌, arith}
-use Rattle.run_schedules.specs.declared.effect.Table.{Table}
+use Rattle.run_schedules.specs.declared.effect.TableId.{TableId}
 use Rattle.run_schedules.specs.Schedules.Things.{same_table}
 use Rattle.run_effects.specs.Tallies.Places.{AreFound, Comes, Leads, place_of, put_at}
 use Rattle.run_effects.specs.Tallies.Tally.{flagged}
-use Rattle.run_effects.specs.declared.places.Places.{Places}
+use Rattle.run_effects.specs.declared.table_index.TableIndex.{TableIndex}
 use Rattle.run_effects.specs.declared.tally.Flagged.{Flagged}
 
 -- a table that is the same stands at the same place
-same_place : (t u : Table) (places : Places) → same_table t u ≡ true → put_at t places ≡ put_at u places
+same_place : (t u : TableId) (places : TableIndex) → same_table t u ≡ true → put_at t places ≡ put_at u places
 same_place t u places same =
     let maps : t.map ≡ u.map = grind (arith, same) in let turns : t.turn ≡ u.turn = grind (arith, same) in λ i. put_at (record { map = maps i; turn = turns i }) places
 
 -- what has a place has it where no table came twice
-found_whole : (places : Places) (t : Table) (n : ℕ) → place_of t places ≡ Some n → (places.is_whole ≡ true) × (put_at t places ≡ Some n)
+found_whole : (places : TableIndex) (t : TableId) (n : ℕ) → place_of t places ≡ Some n → (places.is_whole ≡ true) × (put_at t places ≡ Some n)
 found_whole places t n = by places.is_whole
   where
     by : (b : Bool) → (if b then put_at t places else None) ≡ Some n → (b ≡ true) × (put_at t places ≡ Some n)
@@ -22,11 +22,11 @@ found_whole places t n = by places.is_whole
     by false is = absurd (cc is)
 
 -- the places and their list are the same
-pub same_leads : (old new : Places) (before after : List Flagged) → new ≡ old → after ≡ before → Leads old before → Leads new after
-same_leads old new before after places tables leads = subst (λ (p : Places). Leads p after) (sym places) (subst (Leads old) (sym tables) leads)
+pub same_leads : (old new : TableIndex) (before after : List Flagged) → new ≡ old → after ≡ before → Leads old before → Leads new after
+same_leads old new before after places tables leads = subst (λ (p : TableIndex). Leads p after) (sym places) (subst (Leads old) (sym tables) leads)
 
 -- A table that is found gets another flag.
-module _ (places : Places) (t : Table) (flag : Bool) where
+module _ (places : TableIndex) (t : TableId) (flag : Bool) where
   -- one that stands elsewhere is another one
   other : (u : Flagged) (k n : ℕ) → put_at t places ≡ Some k → put_at u.table places ≡ Some n → (k ≡ n → ⊥) → flagged t flag u ≡ u
   other u k n its found apart = by (same_table u.table t) refl
@@ -64,7 +64,7 @@ module _ (places : Places) (t : Table) (flag : Bool) where
   still_leads tables leads whole = still_found tables 0 (leads whole)
 
 -- A table comes, to stand behind the others.
-module _ (t : Table) (place : ℕ) (old new : Places) (comes : Comes t place old new) where
+module _ (t : TableId) (place : ℕ) (old new : TableIndex) (comes : Comes t place old new) where
   found_then : (tables : List Flagged) (n : ℕ) → put_at t old ≡ None → place ≡ n + length tables → AreFound old n tables → AreFound new n (tables ++ record { table = t; is_retired = false } ∷ [])
   found_then [] n none is found = (comes.here ∙ ap Some (omega (arith, is)), tt)
   found_then (u ∷ tables) n none is found = (by (same_table t u.table) refl, found_then tables (suc n) none (omega (arith, is)) found.1)

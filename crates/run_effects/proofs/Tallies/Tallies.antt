@@ -6,7 +6,7 @@ use Rattle.run_schedules.specs.declared.shapes.TableShape.{TableShape}
 use Rattle.run_schedules.specs.declared.effect.Effect.{Effect}
 use Rattle.run_schedules.specs.declared.effect.Effect.TheVariants as effect
 use Rattle.run_schedules.specs.declared.effect.Spot.{Spot}
-use Rattle.run_schedules.specs.declared.effect.Table.{Table}
+use Rattle.run_schedules.specs.declared.effect.TableId.{TableId}
 use Rattle.run_schedules.specs.declared.effect.Thing.{Thing}
 use Rattle.run_schedules.specs.Schedules.Effects.{all_at, at_stage, deferred_by, in_map, place_by, tables_by, with_effects}
 use Rattle.run_schedules.specs.Schedules.Lists.{is_among, put}
@@ -40,7 +40,7 @@ ok_four (Ok x) P Q R W Z p q s w f = f p q s w
 ok_four (Err e) P Q R W Z p q s w f = tt
 
 -- what waits behind a table, in both words
-behind_is : (t : Table) (ws : List Behind) → numbers_behind t ws ≡ behind t (map deferral ws)
+behind_is : (t : TableId) (ws : List Behind) → numbers_behind t ws ≡ behind t (map deferral ws)
 behind_is t [] = refl
 behind_is t (w ∷ ws) = by (same_table w.table t) (behind_is t ws)
   where
@@ -51,7 +51,7 @@ behind_is t (w ∷ ws) = by (same_table w.table t) (behind_is t ws)
     by false ih = ih
 
 -- and what waits behind any other one
-without_is : (t : Table) (ws : List Behind) → map deferral (filter (λ w. not (same_table w.table t)) ws) ≡ filter (λ d. not (same_table d.behind t)) (map deferral ws)
+without_is : (t : TableId) (ws : List Behind) → map deferral (filter (λ w. not (same_table w.table t)) ws) ≡ filter (λ d. not (same_table d.behind t)) (map deferral ws)
 without_is t [] = refl
 without_is t (w ∷ ws) = by (same_table w.table t) (without_is t ws)
   where
@@ -62,20 +62,20 @@ without_is t (w ∷ ws) = by (same_table w.table t) (without_is t ws)
     by false ih = ap (λ (l : List Deferral). deferral w ∷ l) ih
 
 -- a table at another stage has another flag
-flag_so : (t : Table) (stage : Stage) (flag : Bool) → is_retired stage ≡ flag → (u : TableThere) → flagged t flag (flag_of u) ≡ flag_of (at_stage t stage u)
+flag_so : (t : TableId) (stage : Stage) (flag : Bool) → is_retired stage ≡ flag → (u : TableThere) → flagged t flag (flag_of u) ≡ flag_of (at_stage t stage u)
 flag_so t stage flag is u = by (same_table u.table t)
   where
     by : (b : Bool) → (if b then record (flag_of u) { is_retired = flag } else flag_of u) ≡ flag_of (if b then record u { stage = stage } else u)
     by true = ap (λ (q : Bool). record (flag_of u) { is_retired = q }) (sym is)
     by false = refl
 
-flags_so : (t : Table) (stage : Stage) (flag : Bool) → is_retired stage ≡ flag → (tables : List TableThere) → map (flagged t flag) (map flag_of tables) ≡ map flag_of (map (at_stage t stage) tables)
+flags_so : (t : TableId) (stage : Stage) (flag : Bool) → is_retired stage ≡ flag → (tables : List TableThere) → map (flagged t flag) (map flag_of tables) ≡ map flag_of (map (at_stage t stage) tables)
 flags_so t stage flag is [] = refl
 flags_so t stage flag is (u ∷ tables) = λ i. flag_so t stage flag is u i ∷ flags_so t stage flag is tables i
 
 module _ (old new : Tally) (place : ℕ → Place) (deferred : List Deferral) (tables : List TableThere) (tells : Tells old place deferred tables) where
   -- one table has another flag
-  reflagged_leads : (t : Table) (flag : Bool) → new.tables.items ≡ map (flagged t flag) old.tables.items → new.places ≡ old.places → Leads new.places new.tables.items
+  reflagged_leads : (t : TableId) (flag : Bool) → new.tables.items ≡ map (flagged t flag) old.tables.items → new.places ≡ old.places → Leads new.places new.tables.items
   reflagged_leads t flag tables_then places_same =
       same_leads old.places new.places (map (flagged t flag) old.tables.items) new.tables.items places_same tables_then (still_leads old.places t flag old.tables.items tells.places)
 
@@ -95,7 +95,7 @@ module _ (old new : Tally) (place : ℕ → Place) (deferred : List Deferral) (t
       by false k = tells.pairs k
 
   -- or behind a table
-  pub behind_tells : (n : ℕ) (t : Table) → ((k : ℕ) → slice_index_or new.pairs.items k Unborn ≡ (if k == n then Waits else slice_index_or old.pairs.items k Unborn))
+  pub behind_tells : (n : ℕ) (t : TableId) → ((k : ℕ) → slice_index_or new.pairs.items k Unborn ≡ (if k == n then Waits else slice_index_or old.pairs.items k Unborn))
       → new.behind.items ≡ record { pair = n; table = t } ∷ old.behind.items → new.tables.items ≡ old.tables.items → new.places ≡ old.places → Tells new (put n at.Behind place) (record { pair = n; behind = t } ∷ deferred) tables
   behind_tells n t pairs behind_more tables_same places_same = record {
     pairs = λ k. pairs k ∙ by (k == n) k;
@@ -109,7 +109,7 @@ module _ (old new : Tally) (place : ℕ → Place) (deferred : List Deferral) (t
       by false k = tells.pairs k
 
   -- a table goes, with what waits behind it
-  pub gone_tells : (t : Table) (to : Place) → Waits ≡ told_of to → (stage : Stage) → is_retired stage ≡ false
+  pub gone_tells : (t : TableId) (to : Place) → Waits ≡ told_of to → (stage : Stage) → is_retired stage ≡ false
       → ((k : ℕ) → slice_index_or new.pairs.items k Unborn ≡ (if is_among k (numbers_behind t old.behind.items) then Waits else slice_index_or old.pairs.items k Unborn))
       → new.behind.items ≡ filter (λ w. not (same_table w.table t)) old.behind.items
       → (Leads old.places old.tables.items → new.tables.items ≡ map (flagged t false) old.tables.items) → new.places ≡ old.places
@@ -126,7 +126,7 @@ module _ (old new : Tally) (place : ℕ → Place) (deferred : List Deferral) (t
       by false k = tells.pairs k
 
   -- a table is retired
-  pub retired_tells : (t : Table) → new.pairs.items ≡ old.pairs.items → new.behind.items ≡ old.behind.items
+  pub retired_tells : (t : TableId) → new.pairs.items ≡ old.pairs.items → new.behind.items ≡ old.behind.items
       → (Leads old.places old.tables.items → new.tables.items ≡ map (flagged t true) old.tables.items) → new.places ≡ old.places → Tells new place deferred (map (at_stage t at.IsRetired) tables)
   retired_tells t pairs behind_same tables_then places_same = record {
     pairs = λ k. ap (λ (l : List Whereabouts). slice_index_or l k Unborn) pairs ∙ tells.pairs k;
@@ -136,7 +136,7 @@ module _ (old new : Tally) (place : ℕ → Place) (deferred : List Deferral) (t
   }
 
   -- or comes
-  pub linked_tells : (t : Table) (shape : TableShape) → new.pairs.items ≡ old.pairs.items → new.behind.items ≡ old.behind.items
+  pub linked_tells : (t : TableId) (shape : TableShape) → new.pairs.items ≡ old.pairs.items → new.behind.items ≡ old.behind.items
       → new.tables.items ≡ old.tables.items ++ record { table = t; is_retired = false } ∷ [] → Comes t (length old.tables.items) old.places new.places → Tells new place deferred (tables ++ record { table = t; shape = shape; stage = at.IsLinked } ∷ [])
   linked_tells t shape pairs behind_same tables_then comes = record {
     pairs = λ k. ap (λ (l : List Whereabouts). slice_index_or l k Unborn) pairs ∙ tells.pairs k;
@@ -153,8 +153,8 @@ stored_so None = refl
 
 -- no other effect moves a pair or a table
 pub other_tells : (map : Option ℕ) (t : Tally) (f : Effect) → ((n : ℕ) (s : Spot) → f ≡ effect.Stored n s → ⊥) → ((n : ℕ) → f ≡ effect.Replaced n → ⊥) → ((n : ℕ) → f ≡ effect.Removed n → ⊥)
-    → ((n : ℕ) (b : Table) → f ≡ effect.Deferred n b → ⊥) → ((x : Thing) → f ≡ effect.Retired x → ⊥) → ((x : Thing) → f ≡ effect.Reclaimed x → ⊥) → ((n : ℕ) → f ≡ effect.Ended n → ⊥)
-    → ((b : Table) → f ≡ effect.Taken b → ⊥) → ((b : Table) (shape : TableShape) → f ≡ effect.Linked b shape → ⊥) → TellsNext map f t t
+    → ((n : ℕ) (b : TableId) → f ≡ effect.Deferred n b → ⊥) → ((x : Thing) → f ≡ effect.Retired x → ⊥) → ((x : Thing) → f ≡ effect.Reclaimed x → ⊥) → ((n : ℕ) → f ≡ effect.Ended n → ⊥)
+    → ((b : TableId) → f ≡ effect.Taken b → ⊥) → ((b : TableId) (shape : TableShape) → f ≡ effect.Linked b shape → ⊥) → TellsNext map f t t
 other_tells map t (effect.Stored n s) a b c d e h i j k = absurd (a n s refl)
 other_tells map t (effect.Replaced n) a b c d e h i j k = absurd (b n refl)
 other_tells map t (effect.Removed n) a b c d e h i j k = absurd (c n refl)
@@ -184,7 +184,7 @@ pub told_moment : {K V : Type 0} (caller : Option (List ℕ)) (map : Option ℕ)
 told_moment caller map effects m t tells = subst (λ (so : (ℕ → Place) × List Deferral × List TableThere). Tells t so.0 so.1 so.2) (all_told caller map effects m) tells
 
 -- Those behind a table, one after another: what is left comes to all.
-module _ (t : Table) (old : ℕ → Whereabouts) (all : List Behind) where
+module _ (t : TableId) (old : ℕ → Whereabouts) (all : List Behind) where
   abbrev pub Releases : List Behind → (ℕ → Whereabouts) → Type 0
   Releases rest now = (n : ℕ) → (if is_among n (numbers_behind t rest) then Waits else now n) ≡ (if is_among n (numbers_behind t all) then Waits else old n)
 

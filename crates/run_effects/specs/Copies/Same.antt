@@ -10,8 +10,8 @@ use Rattle.run_schedules.specs.declared.setup.Setup.{Setup}
 use Rattle.run_schedules.specs.declared.key_hash.KeyHash.{KeyHash}
 use Rattle.run_schedules.specs.declared.key_hash.KeyHash.TheVariants.{Key, Zero}
 use Rattle.run_schedules.specs.declared.shapes.TableShape.{TableShape}
-use Rattle.run_schedules.specs.declared.call.Answer.{Answer}
-use Rattle.run_schedules.specs.declared.call.Answer.TheVariants as answer
+use Rattle.run_schedules.specs.declared.call.Response.{Response}
+use Rattle.run_schedules.specs.declared.call.Response.TheVariants as answer
 use Rattle.run_schedules.specs.declared.call.Call.{Call}
 use Rattle.run_schedules.specs.declared.call.Call.TheVariants.{On, Reserve, Clear, Retain, Len, Walk}
 use Rattle.run_schedules.specs.declared.call.OneKey.{OneKey}
@@ -121,7 +121,7 @@ same_shape (a ∷ tables) (b ∷ others) = (a.len == b.len) && (a.limit == b.lim
 same_shape _ _ = false
 
 module _ {V : Type 0} (value : V → V → Bool) where
-  abbrev pub same_answer : Answer V → Answer V → Bool
+  abbrev pub same_answer : Response V → Response V → Bool
   same_answer answer.Absent answer.Absent = true
   same_answer (answer.Found pair) (answer.Found n) = pair == n
   same_answer (answer.Stored pair) (answer.Stored n) = pair == n

@@ -9,7 +9,7 @@ use Rattle.run_schedules.specs.declared.effect.Effect.{Effect}
 use Rattle.run_schedules.specs.declared.effect.Effect.TheVariants as effect
 use Rattle.run_schedules.specs.declared.effect.Growth.TheVariants.{ABlock, ABucket}
 use Rattle.run_schedules.specs.declared.effect.Spot.{Spot}
-use Rattle.run_schedules.specs.declared.effect.Table.{Table}
+use Rattle.run_schedules.specs.declared.effect.TableId.{TableId}
 use Rattle.run_schedules.specs.declared.effect.Thing.TheVariants.{APair, ATable}
 use Rattle.run_effects.specs.declared.changed.Kind.{Kind}
 use Rattle.run_effects.specs.declared.changed.Kind.TheVariants as kind
@@ -34,7 +34,7 @@ caller_of (Call caller map) = caller
 caller_of _ = 0
 
 -- the table with this turn
-abbrev pub table_at : Acting → ℕ → Table
+abbrev pub table_at : Acting → ℕ → TableId
 table_at acting turn = record { map = map_of acting; turn = turn }
 
 -- Blocks that are made, and taken away
@@ -56,7 +56,7 @@ abbrev pub pair_taken : Acting → ℕ → Effect
 pair_taken (Ending map) n = effect.Ended n
 pair_taken acting n = effect.Reclaimed (APair n)
 
-abbrev pub table_taken : Acting → Table → Effect
+abbrev pub table_taken : Acting → TableId → Effect
 table_taken (Ending map) t = effect.Taken t
 table_taken acting t = effect.Reclaimed (ATable t)
 
@@ -84,7 +84,7 @@ led_to acting (role.Table t len) (role.Table u other) = effect.Promoted u ∷ []
 led_to acting _ _ = []
 
 -- the head of the list of pairs that a table carries
-abbrev pub carried : Table → Role → List Effect
+abbrev pub carried : TableId → Role → List Effect
 carried t (role.Pair n) = effect.Deferred n t ∷ []
 carried t _ = []
 
@@ -97,7 +97,7 @@ placed s stored role.Free (role.Pair n) = effect.Copied n s ∷ []
 placed s stored _ _ = []
 
 -- the place whose word has this number
-abbrev pub spot_at : Table → ℕ → Spot
+abbrev pub spot_at : TableId → ℕ → Spot
 spot_at t field = record { turn = t.turn; place = field - PLACES }
 
 -- the word of a place, in a table with so many places
@@ -105,7 +105,7 @@ abbrev pub is_place : ℕ → ℕ → Bool
 is_place len field = nat_le PLACES field && nat_lt (field - PLACES) len
 
 -- a word of a table
-abbrev pub in_table : Acting → Table → ℕ → ℕ → ℕ → Role → Role → List Effect
+abbrev pub in_table : Acting → TableId → ℕ → ℕ → ℕ → Role → Role → List Effect
 in_table acting t len field stored was is =
     if field == NEXT then followed_by acting is else
     (if field == DEFERRED then carried t is else (if is_place len field then placed (spot_at t field) stored was is else []))

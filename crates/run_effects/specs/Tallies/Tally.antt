@@ -1,7 +1,7 @@
 -- Where pairs and tables are, as what was done says, and that this tells a moment of a run.
 use Rattle.std.specs.Prelude.{◌≡◌, ℕ, suc, ◌==◌, Bool, true, false, List, [], ◌∷◌, length, filter, map, Option, Some, None, slice_index_or, if◌then◌else◌}
 use Rattle.run_schedules.specs.declared.effect.Effect.{Effect}
-use Rattle.run_schedules.specs.declared.effect.Table.{Table}
+use Rattle.run_schedules.specs.declared.effect.TableId.{TableId}
 use Rattle.run_schedules.specs.Schedules.Effects.{deferred_by, place_by, tables_by}
 use Rattle.run_schedules.specs.Schedules.Moment.{Place, Deferral, TableThere, Moment}
 use Rattle.run_schedules.specs.Schedules.Moment as at
@@ -48,11 +48,11 @@ numbers_at test n [] = []
 numbers_at test n (there ∷ pairs) = if test there then n ∷ numbers_at test (suc n) pairs else numbers_at test (suc n) pairs
 
 -- what waits behind a table
-abbrev pub numbers_behind : Table → List Behind → List ℕ
+abbrev pub numbers_behind : TableId → List Behind → List ℕ
 numbers_behind t behind = map (λ w. w.pair) (filter (λ w. same_table w.table t) behind)
 
 -- a table with another flag, if it is this one
-abbrev pub flagged : Table → Bool → Flagged → Flagged
+abbrev pub flagged : TableId → Bool → Flagged → Flagged
 flagged t flag u = if same_table u.table t then record u { is_retired = flag } else u
 
 -- how many tables are flagged

@@ -6,8 +6,8 @@ use Rattle.std.proofs.lemmas.List.{get_or-set_other, get_or-set_same, length-set
 use Rattle.seize_words.specs.OneMemory.Mem.{Mem, Can, Took, value_at}
 use Rattle.seize_words.specs.OneMemory.Plan.{May, Steps}
 use Rattle.seize.specs.World.{Row, Rests, with_at}
-use Rattle.seize.specs.declared.progress.Progress.{Progress}
-use Rattle.seize.specs.declared.progress.Progress.TheVariants as progress
+use Rattle.seize.specs.declared.advance.Advance.{Advance}
+use Rattle.seize.specs.declared.advance.Advance.TheVariants as progress
 use Rattle.papaya_raw.specs.Given.TablesNodes.{deferred_word}
 use Rattle.papaya_raw.specs.Given.TablesDeclared.node.Node.{Node}
 use Rattle.papaya_raw.specs.Given.TablesDeclared.setting.Setting.{Setting}
@@ -35,26 +35,26 @@ use Rattle.run_shows.specs.Scenes.Making.{MakingComesToThere, MakingStepsFrom}
 use Rattle.run_shows.specs.Scenes.Scene.{IsMaking, Scene, slot_of}
 
 -- the settings are as many as they were
-pub same_count : (map : ℕ) (told : Progress Setting) (maps : List (Option Setting)) → length (maps_on map told maps) ≡ length maps
+pub same_count : (map : ℕ) (told : Advance Setting) (maps : List (Option Setting)) → length (maps_on map told maps) ≡ length maps
 same_count map progress.Goes maps = refl
 same_count map progress.Waits maps = refl
 same_count map (progress.Done setting) maps = length-set maps map (Some setting)
 same_count map (progress.Refused fault) maps = refl
 
 module _ (K V : Type 0) where
-  no_call : (map m : ℕ) (opening : NewMap) (told : Progress Setting) → call_in {K = K} {V = V} (making_on map opening told) m ≡ None
+  no_call : (map m : ℕ) (opening : NewMap) (told : Advance Setting) → call_in {K = K} {V = V} (making_on map opening told) m ≡ None
   no_call map m opening progress.Goes = refl
   no_call map m opening progress.Waits = refl
   no_call map m opening (progress.Done setting) = refl
   no_call map m opening (progress.Refused fault) = refl
 
-  no_ending : (map : ℕ) (opening : NewMap) (told : Progress Setting) → ending_in {K = K} {V = V} (making_on map opening told) ≡ None
+  no_ending : (map : ℕ) (opening : NewMap) (told : Advance Setting) → ending_in {K = K} {V = V} (making_on map opening told) ≡ None
   no_ending map opening progress.Goes = refl
   no_ending map opening progress.Waits = refl
   no_ending map opening (progress.Done setting) = refl
   no_ending map opening (progress.Refused fault) = refl
 
-  no_row : (map : ℕ) (opening : NewMap) (told : Progress Setting) (row : Row) → row ≡ Rests → HasRow {K = K} {V = V} (making_on map opening told) row
+  no_row : (map : ℕ) (opening : NewMap) (told : Advance Setting) (row : Row) → row ≡ Rests → HasRow {K = K} {V = V} (making_on map opening told) row
   no_row map opening progress.Goes row is = is
   no_row map opening progress.Waits row is = is
   no_row map opening (progress.Done setting) row is = is
@@ -94,7 +94,7 @@ module _ {K V S : Type 0} (same : K → K → Bool) (hash : K → ℕ) (e : Exec
       subst (λ (x : Mem (Node K V)). May Can Took value_at x (new_map_plan {K = K} {V = V} b.machine)) at.held.memory
       (makings_stand_among {Q = K} V same same e.batch_size e.roots slot_of s.world s.maps s.calls s.makers s.enders at.held.together i b here).0
 
-  module _ (mid e2 : Executor K V S) (opening : NewMap) (told : Progress Setting) (steps : MakingStepsFrom b.machine (held_by e) (held_by e2) opening told)
+  module _ (mid e2 : Executor K V S) (opening : NewMap) (told : Advance Setting) (steps : MakingStepsFrom b.machine (held_by e) (held_by e2) opening told)
       (changes : ChangesAt (place_of i) (worker_of (slot_of i) (making_on b.map opening told)) e mid)
       (workers : e2.workers.items ≡ mid.workers.items) (slots : e2.slots.items ≡ e.slots.items) (batch_size : e2.batch_size ≡ e.batch_size) (roots : e2.roots ≡ e.roots) (maps : e2.maps.items ≡ maps_on b.map told e.maps.items) where
     pub did : MakingStepsAmong V same same e.batch_size e.roots slot_of s.world s.maps s.calls s.makers s.enders i b e2.memory.memory (opening, told)
@@ -157,7 +157,7 @@ module _ {K V S : Type 0} (same : K → K → Bool) (hash : K → ℕ) (e : Exec
             let it : record b { machine = opening } ≡ c = cc some in
             (sym (ap (λ (x : Beginning K). x.hash) it) ∙ at.held.hashes_made i b here, subst (λ (x : ℕ). x < length e.maps.items) (ap (λ (x : Beginning K). x.map) it) (at.numbers i b here))
 
-        by : (told2 : Progress Setting) → told ≡ told2 → e2.maps.items ≡ maps_on b.map told2 e.maps.items
+        by : (told2 : Advance Setting) → told ≡ told2 → e2.maps.items ≡ maps_on b.map told2 e.maps.items
             → MakingToldAmong V same same e.batch_size e.roots slot_of s.world s.maps s.calls s.makers s.enders i b did.step.w2 (opening, told2)
             → MakingComesToThere same (IsThere same hash e2) s (held_by e) i b opening did.step.w2 told2
         by progress.Goes is set together =
@@ -182,7 +182,7 @@ module _ {K V S : Type 0} (same : K → K → Bool) (hash : K → ℕ) (e : Exec
       (ap (λ (x : Worker K V). x.slot) both, parts.0, parts.1)
 
   -- and its step leads where one of the caller's does
-  pub making_leads : (e2 : Executor K V S) (opening : NewMap) (told : Progress Setting) (slot map : ℕ) (before : NewMap) → (slot ≡ slot_of i) × (map ≡ b.map) × (before ≡ b.machine)
+  pub making_leads : (e2 : Executor K V S) (opening : NewMap) (told : Advance Setting) (slot map : ℕ) (before : NewMap) → (slot ≡ slot_of i) × (map ≡ b.map) × (before ≡ b.machine)
       → place_of i < length e.workers.items → MakingStepsFrom before (held_by e) (held_by e2) opening told
       → e2.workers.items ≡ slice_set (slice_set e.workers.items (place_of i) None) (place_of i) (worker_of slot (making_on map opening told))
       → e2.hasher ≡ e.hasher → (batch_size : e2.batch_size ≡ e.batch_size) (roots : e2.roots ≡ e.roots) → e2.slots.items ≡ e.slots.items → e2.maps.items ≡ maps_on map told e.maps.items

@@ -2,7 +2,7 @@
 use Rattle.std.specs.Prelude.{◌≡◌, ℕ, Bool, Some, None, Result, slice_set}
 use Rattle.std.proofs.Common.{refl, sym, ap, subst, ◌∙◌}
 use Rattle.papaya_raw.specs.Machine.{machine_replied, machine_asked}
-use Rattle.papaya_raw.specs.declared.machines.asking.Reply.{Reply}
+use Rattle.papaya_raw.specs.declared.machines.asking.MachineReply.{MachineReply}
 use Rattle.papaya_raw.specs.declared.machines.machine.Machine.{Machine}
 use Rattle.run_shows.proofs.Given.CallersTogether.Slots.{alike_same}
 use Rattle.run_shows.specs.Given.CallersTogether.{UnderWay}
@@ -44,7 +44,7 @@ module _ {K V S : Type 0} (same : K → K → Bool) (hash : K → ℕ) (e : Exec
         (subst (λ (x : Machine K V K). ChangesAt (place_of i) (worker_with (slot_of i) m (Some x)) e e2) (sym as_after) changes)
         s.world s.maps (at.held.memory ∙ ap (λ t. t.memory) (sym memory)) (λ j ne. refl) (record { uses = λ t. alike_same (s.world.uses t); on_slot = λ on. on }) (λ none. absurd (cc none)) (λ n. refl) at.held.hashes together
 
-  pub reply_leads : (told : Reply V) (result : Result Unit (Reply V)) → (after, result) ≡ machine_replied before told → RepliesThere same hash i told result s e e2
+  pub reply_leads : (told : MachineReply V) (result : Result Unit (MachineReply V)) → (after, result) ≡ machine_replied before told → RepliesThere same hash i told result s e e2
   reply_leads told result replied = (
     λ has. memory,
     λ m u here. (

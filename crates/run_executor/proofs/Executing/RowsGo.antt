@@ -7,8 +7,8 @@ use Rattle.seize_words.specs.OneMemory.Plan.{Steps, Ends}
 use Rattle.seize_words.specs.declared.fault.Fault.{Fault}
 use Rattle.seize_words.specs.declared.fault.Fault.TheVariants.{SlotsUsedUp}
 use Rattle.seize.specs.declared.states.TheConstants.{LAST_SLOT, ACTIVE}
-use Rattle.seize.specs.declared.progress.Progress.{Progress}
-use Rattle.seize.specs.declared.progress.Progress.TheVariants as progress
+use Rattle.seize.specs.declared.advance.Advance.{Advance}
+use Rattle.seize.specs.declared.advance.Advance.TheVariants as progress
 use Rattle.seize.specs.declared.rows.enter.Enter.{Enter}
 use Rattle.seize.specs.declared.rows.enter.Unregister.{Unregister}
 use Rattle.seize.specs.declared.rows.leave.Leave.{Leave}
@@ -59,20 +59,20 @@ use Rattle.run_shows.specs.Scenes.Scene.{Scene, row_of}
 
 -- a registering answers the slot that it stands at
 module _ {T : Type 0} (shown : ℕ → Option T) (c c2 : Register) (slot : ℕ) where
-  abbrev Is : Register × Progress ℕ → Type 0
+  abbrev Is : Register × Advance ℕ → Type 0
   Is end = (c2, progress.Done slot) ≡ end
 
   by_registered : Is (register.registered c) → slot ≡ c.slot
-  by_registered is = same (ap (λ (x : Register × Progress ℕ). x.1) is)
+  by_registered is = same (ap (λ (x : Register × Advance ℕ). x.1) is)
     where
-      same : ◌≡◌ {A = Progress ℕ} (progress.Done slot) (progress.Done c.slot) → slot ≡ c.slot
+      same : ◌≡◌ {A = Advance ℕ} (progress.Done slot) (progress.Done c.slot) → slot ≡ c.slot
       same is = cc is
 
   not_going : (d : Register) → Is (d, progress.Goes) → slot ≡ c.slot
-  not_going d is = absurd (let p = ap (λ (x : Register × Progress ℕ). x.1) is in cc p)
+  not_going d is = absurd (let p = ap (λ (x : Register × Advance ℕ). x.1) is in cc p)
 
   not_refused : (d : Register) (fault : Fault) → Is (d, progress.Refused fault) → slot ≡ c.slot
-  not_refused d fault is = absurd (let p = ap (λ (x : Register × Progress ℕ). x.1) is in cc p)
+  not_refused d fault is = absurd (let p = ap (λ (x : Register × Advance ℕ). x.1) is in cc p)
 
   by_further : (b : Bool) → Is (if b then register.going (record c { slot = c.slot + 1 }) registers.Look else register.refused c SlotsUsedUp) → slot ≡ c.slot
   by_further true is = not_going _ is
@@ -116,9 +116,9 @@ module _ {T : Type 0} (c c2 : Register) (slot : ℕ) (m m2 : Mem T) where
   registered_at (registers.Widen bucket seen) st = widened_at (value_at m2) c c2 slot seen st.0 st.2
   registered_at (registers.Take seen) st = taken_at (value_at m2) c c2 slot st.0 st.2
   registered_at registers.Enter st = by_registered (value_at m2) c c2 slot st.2
-  registered_at registers.Registered st = same (ap (λ (x : Register × Progress ℕ). x.1) st.1)
+  registered_at registers.Registered st = same (ap (λ (x : Register × Advance ℕ). x.1) st.1)
     where
-      same : ◌≡◌ {A = Progress ℕ} (progress.Done slot) (progress.Done c.slot) → slot ≡ c.slot
+      same : ◌≡◌ {A = Advance ℕ} (progress.Done slot) (progress.Done c.slot) → slot ≡ c.slot
       same is = cc is
   registered_at (registers.Refused fault) st = not_refused (value_at m2) c c2 slot c fault st.1
 
@@ -161,7 +161,7 @@ module _ {K V S : Type 0} (same : K → K → Bool) (hash : K → ℕ) (e : Exec
   here row = with_here s.world.row i row
 
   module _ (m2 : Mem (Node K V)) where
-    registers_go : (c c2 : Register) (p : Progress ℕ) → c.slot < SLOTS → Steps Took value_at s.world.memory (register.register_plan c) m2 (c2, p)
+    registers_go : (c c2 : Register) (p : Advance ℕ) → c.slot < SLOTS → Steps Took value_at s.world.memory (register.register_plan c) m2 (c2, p)
         → Goes (rows.Registers c) m2 (rows.Registers c2, of_registering p)
     registers_go c c2 progress.Goes within st = record {
       w2 = registers_on s.world i c m2 (c2, progress.Goes);
@@ -197,25 +197,25 @@ module _ {K V S : Type 0} (same : K → K → Bool) (hash : K → ℕ) (e : Exec
     }
 
     -- a row of one store has ended
-    has_ended : (told : Progress Unit) (row : SlotRow) → told ≡ progress.Done tt → (it : Row) → it ≡ Rests → HasRow (row_on {K = K} {V = V} row (of_storing told)) it
-    has_ended told row is it rests = subst (λ (x : Progress Unit). HasRow (row_on {K = K} {V = V} row (of_storing x)) it) (sym is) rests
+    has_ended : (told : Advance Unit) (row : SlotRow) → told ≡ progress.Done tt → (it : Row) → it ≡ Rests → HasRow (row_on {K = K} {V = V} row (of_storing told)) it
+    has_ended told row is it rests = subst (λ (x : Advance Unit). HasRow (row_on {K = K} {V = V} row (of_storing x)) it) (sym is) rests
 
-    enters_go : (c c2 : Enter) (p : Progress Unit) → c.slot < SLOTS → Steps Took value_at s.world.memory (enter_plan c) m2 (c2, p) → Goes (rows.Enters c) m2 (rows.Enters c2, of_storing p)
+    enters_go : (c c2 : Enter) (p : Advance Unit) → c.slot < SLOTS → Steps Took value_at s.world.memory (enter_plan c) m2 (c2, p) → Goes (rows.Enters c) m2 (rows.Enters c2, of_storing p)
     enters_go c c2 p within st = record {
       w2 = with_use (after_step s.world i m2 Rests (Entered c.slot ∷ [])) c.slot (Inside 0);
       step = (m2, (c2, p), st, refl);
       memory = refl;
-      row_is = has_ended p (rows.Enters c2) (ap (λ (x : Enter × Progress Unit). x.1) st.2) _ (here Rests);
+      row_is = has_ended p (rows.Enters c2) (ap (λ (x : Enter × Advance Unit). x.1) st.2) _ (here Rests);
       on_slot = λ slot on. subst (IsRowOn slot) (sym (here Rests)) tt;
       uses = used_so c.slot within used.Inside (Inside 0) (0, refl);
     }
 
-    frees_go : (c c2 : Unregister) (p : Progress Unit) → c.slot < SLOTS → Steps Took value_at s.world.memory (unregister_plan c) m2 (c2, p) → Goes (rows.Frees c) m2 (rows.Frees c2, of_storing p)
+    frees_go : (c c2 : Unregister) (p : Advance Unit) → c.slot < SLOTS → Steps Took value_at s.world.memory (unregister_plan c) m2 (c2, p) → Goes (rows.Frees c) m2 (rows.Frees c2, of_storing p)
     frees_go c c2 p within st = record {
       w2 = with_use (after_step s.world i m2 Rests []) c.slot Vacant;
       step = (m2, (c2, p), st, refl);
       memory = refl;
-      row_is = has_ended p (rows.Frees c2) (ap (λ (x : Unregister × Progress Unit). x.1) st.2) _ (here Rests);
+      row_is = has_ended p (rows.Frees c2) (ap (λ (x : Unregister × Advance Unit). x.1) st.2) _ (here Rests);
       on_slot = λ slot on. subst (IsRowOn slot) (sym (here Rests)) tt;
       uses = used_so c.slot within used.Vacant Vacant refl;
     }

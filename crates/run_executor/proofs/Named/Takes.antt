@@ -7,7 +7,7 @@ use Rattle.papaya_raw.specs.declared.machines.answer.Missing.TheVariants as miss
 use Rattle.papaya_raw.specs.declared.machines.answer.There.TheVariants as there
 use Rattle.papaya_raw.specs.declared.machines.asking.Asking.{Asking}
 use Rattle.papaya_raw.specs.declared.machines.asking.Asking.TheVariants as asking
-use Rattle.papaya_raw.specs.declared.machines.asking.Reply.TheVariants as reply
+use Rattle.papaya_raw.specs.declared.machines.asking.MachineReply.TheVariants as reply
 use Rattle.papaya_raw.specs.declared.machines.asking.Takes.{Takes}
 use Rattle.papaya_raw.specs.declared.machines.asking.Takes.TheVariants as takes
 use Rattle.papaya_raw.specs.declared.machines.call.Calling.TheVariants as at
@@ -27,8 +27,8 @@ use Rattle.run_places.specs.Hands.Asked.{IsQuestion, as_told, given_by}
 use Rattle.run_executor.specs.Named.Machines.{IsFor, SweepIsAt}
 use Rattle.run_executor.specs.Named.Seen.{fits, is_choice, is_gift, kind_on}
 use Rattle.run_executor.specs.declared.caller.Stands.TheVariants as far
-use Rattle.run_executor.specs.declared.kind.Kind.{Kind}
-use Rattle.run_executor.specs.declared.kind.Kind.TheVariants as kind
+use Rattle.run_executor.specs.declared.kind.CallKind.{CallKind}
+use Rattle.run_executor.specs.declared.kind.CallKind.TheVariants as kind
 
 module _ {K V : Type 0} (known : Known) (c : KeyCall K V K) where
   abbrev TakesIt : Asking → Reply V → Type 0
@@ -107,7 +107,7 @@ module _ {V : Type 0} (c : Sweep) where
   by_stage stage word is Removes choice = absurd (cc choice)
   by_stage stage word is (Aborts w) choice = absurd (cc choice)
 
-  pub sweep_takes : (its : Kind) (question : Option ℕ) → IsFor its c.purpose → SweepIsAt (far.Asks question) c → (told : Reply V) → fits its told ≡ true → (sweep_told c.stands c (as_told told)).1 ≡ Ok tt
+  pub sweep_takes : (its : CallKind) (question : Option ℕ) → IsFor its c.purpose → SweepIsAt (far.Asks question) c → (told : Reply V) → fits its told ≡ true → (sweep_told c.stands c (as_told told)).1 ≡ Ok tt
   sweep_takes kind.Retains question for asks told fits = by_stage c.stands asks.0 asks.1 told fits
   sweep_takes kind.Clears question for asks told fits = absurd (cc fits)
   sweep_takes kind.Walks question for asks told fits = absurd (cc fits)

@@ -1,6 +1,6 @@
 -- What a reply to the call of a caller leads to, and what it leads to that it is asked for a pair, or given up.
 use Rattle.std.specs.Prelude.{◌≡◌, ℕ, Bool, Option, Result}
-use Rattle.papaya_raw.specs.declared.machines.asking.Reply.{Reply}
+use Rattle.papaya_raw.specs.declared.machines.asking.MachineReply.{MachineReply}
 use Rattle.run_shows.specs.Scenes.Replying.{ReplyLeadsTo, AskLeadsTo, StopLeadsTo}
 use Rattle.run_shows.specs.Scenes.Scene.{Scene, HasCall}
 use Rattle.run_executor.specs.declared.executor.Executor.{Executor}
@@ -14,7 +14,7 @@ module _ {K V S : Type 0} where
 
 module _ {K V S : Type 0} (same : K → K → Bool) (hash : K → ℕ) where
   -- A reply to a call leads where one does to what is held: the executor is there, and its memory as it was.
-  abbrev pub RepliesThere : ℕ → Reply V → Result Unit (Reply V) → Scene K V → Executor K V S → Executor K V S → Type 0
+  abbrev pub RepliesThere : ℕ → MachineReply V → Result Unit (MachineReply V) → Scene K V → Executor K V S → Executor K V S → Type 0
   RepliesThere i told result s old new =
       (HasCall s i → new.memory ≡ old.memory) × ReplyLeadsTo same (IsThere same hash new) i told result s (held_by old) (held_by new)
 

@@ -24,8 +24,8 @@ use Rattle.run_schedules.specs.declared.call.Reply.{Reply}
 use Rattle.run_schedules.specs.declared.call.Reply.TheVariants.{Aborts}
 use Rattle.run_executor.specs.declared.caller.Stands.{Stands as HowFar}
 use Rattle.run_executor.specs.declared.caller.Stands.TheVariants as far
-use Rattle.run_executor.specs.declared.kind.Kind.{Kind}
-use Rattle.run_executor.specs.declared.kind.Kind.TheVariants as kind
+use Rattle.run_executor.specs.declared.kind.CallKind.{CallKind}
+use Rattle.run_executor.specs.declared.kind.CallKind.TheVariants as kind
 
 module _ {K V : Type 0} (setting : Setting) (hash : K → ℕ) where
   -- the machine with which a call begins
@@ -60,7 +60,7 @@ aborted_by (Aborts v) = Some v
 aborted_by _ = None
 
 -- what a sweep is for, by its call
-abbrev pub IsFor : Kind → Purpose → Type 0
+abbrev pub IsFor : CallKind → Purpose → Type 0
 IsFor kind.Clears purpose = purpose ≡ Clears
 IsFor kind.Retains purpose = purpose ≡ Retains
 IsFor kind.Walks purpose = purpose ≡ Walks
@@ -80,7 +80,7 @@ SweepIsAt (far.Asks question) sweep = (word : ℕ) × (sweep.stands ≡ at.Asks 
 SweepIsAt far.Ready sweep = sweep.stands ≡ at.Ready
 
 -- A machine is that of its call, and as far. Of a call on one key that asks, the moment says where it stands; other calls neither ask nor show.
-abbrev pub IsAsFar : {K V : Type 0} → Kind → HowFar → Machine K V K → Type 0
+abbrev pub IsAsFar : {K V : Type 0} → CallKind → HowFar → Machine K V K → Type 0
 IsAsFar kind how (kinds.Sweep sweep) = IsFor kind sweep.purpose × SweepIsAt how sweep
 IsAsFar kind far.Ready machine = ⊥
 IsAsFar kind (far.Asks question) (kinds.Key call) = Unit {0}

@@ -11,16 +11,16 @@ use Rattle.run_schedules.specs.declared.call.OneKey.TheVariants.{Get, GetKeyValu
 use Rattle.run_schedules.specs.declared.call.Reply.{Reply}
 use Rattle.run_schedules.specs.declared.call.Reply.TheVariants.{Gives, Decides}
 use Rattle.run_schedules.specs.Schedules.Moment.{Stands, Going, Asking, Told, IsReady, UnderWay, MapThere}
-use Rattle.run_executor.specs.declared.caller.Caller.{Caller}
+use Rattle.run_executor.specs.declared.caller.NamedCaller.{NamedCaller}
 use Rattle.run_executor.specs.declared.caller.Stands.{Stands as HowFar}
 use Rattle.run_executor.specs.declared.caller.Stands.TheVariants as far
-use Rattle.run_executor.specs.declared.kind.Kind.{Kind}
-use Rattle.run_executor.specs.declared.kind.Kind.TheVariants as kind
+use Rattle.run_executor.specs.declared.kind.CallKind.{CallKind}
+use Rattle.run_executor.specs.declared.kind.CallKind.TheVariants as kind
 use Rattle.run_executor.specs.declared.named_map.NamedMap.{NamedMap}
 
 -- what a call is, without its keys and values
 module _ {K V : Type 0} where
-  abbrev pub kind_on : OneKey K V → Kind
+  abbrev pub kind_on : OneKey K V → CallKind
   kind_on (Get k) = kind.Finds
   kind_on (GetKeyValue k) = kind.Finds
   kind_on (ContainsKey k) = kind.Finds
@@ -37,7 +37,7 @@ module _ {K V : Type 0} where
   kind_on (RemoveEntry k) = kind.Finds
   kind_on (RemoveIf k) = kind.RemovesIf
 
-  abbrev pub kind_of : Call K V → Kind
+  abbrev pub kind_of : Call K V → CallKind
   kind_of (On one) = kind_on one
   kind_of (Reserve more) = kind.Reserves
   kind_of Clear = kind.Clears
@@ -55,7 +55,7 @@ module _ {V : Type 0} where
   is_choice _ = false
 
   -- whether a reply is of the kind that such a call asks for
-  abbrev pub fits : Kind → Reply V → Bool
+  abbrev pub fits : CallKind → Reply V → Bool
   fits kind.Computes reply = not (is_choice reply)
   fits kind.RemovesIf reply = is_choice reply
   fits kind.Retains reply = is_choice reply
@@ -85,42 +85,42 @@ pub record Seen : Type 0 where
   pub name : List ℕ
   pub guard : List ℕ
   pub map : ℕ
-  pub kind : Kind
+  pub kind : CallKind
   pub far : HowFar
 
 abbrev pub seen : {K V : Type 0} → UnderWay K V → Seen
 seen c = record { name = c.caller; guard = c.guard; map = c.map; kind = kind_of c.call; far = far_of c.stands }
 
-abbrev pub seen_of : {V : Type 0} → Caller V → Seen
+abbrev pub seen_of : {V : Type 0} → NamedCaller V → Seen
 seen_of d = record { name = d.name; guard = d.guard; map = d.map; kind = d.kind; far = d.stands }
 
 module _ {V : Type 0} where
-  abbrev pub is_named : List ℕ → Caller V → Bool
+  abbrev pub is_named : List ℕ → NamedCaller V → Bool
   is_named own d = is_same d.name own
 
   -- it asks, and the reply is of the kind that it asks for
-  abbrev pub takes : Caller V → Reply V → Bool
+  abbrev pub takes : NamedCaller V → Reply V → Bool
   takes d reply = asks d.stands && fits d.kind reply
 
   -- it is a walk that shows pairs
-  abbrev pub is_ready : Option (Caller V) → Bool
+  abbrev pub is_ready : Option (NamedCaller V) → Bool
   is_ready None = false
   is_ready (Some d) = shows d.stands
 
   -- the place of a caller, if its call is one
-  abbrev pub if_ready : List (Caller V) → Option ℕ → Option ℕ
+  abbrev pub if_ready : List (NamedCaller V) → Option ℕ → Option ℕ
   if_ready calls None = None
   if_ready calls (Some place) = if is_ready (slice_get calls place) then Some place else None
 
-  abbrev pub ready_place : List ℕ → List (Caller V) → Option ℕ
+  abbrev pub ready_place : List ℕ → List (NamedCaller V) → Option ℕ
   ready_place own calls = if_ready calls (position (is_named own) calls)
 
   -- the walk of this name has this number, and shows pairs
-  abbrev pub IsReadyAt : List ℕ → List (Caller V) → ℕ → Type 0
-  IsReadyAt own calls number = (place : ℕ) × (whose : Caller V) × (ready_place own calls ≡ Some place) × (slice_get calls place ≡ Some whose) × (number ≡ whose.number)
+  abbrev pub IsReadyAt : List ℕ → List (NamedCaller V) → ℕ → Type 0
+  IsReadyAt own calls number = (place : ℕ) × (whose : NamedCaller V) × (ready_place own calls ≡ Some place) × (slice_get calls place ≡ Some whose) × (number ≡ whose.number)
 
   -- the slot of a guard that lives, and that no call uses
-  abbrev pub free_slot : List ℕ → Present → List (Caller V) → Option ℕ
+  abbrev pub free_slot : List ℕ → Present → List (NamedCaller V) → Option ℕ
   free_slot guard there calls = if list_any (λ d. is_same d.guard guard) calls then None else living_slot (guard_of guard there.guards)
 
 -- of maps: their names and numbers

@@ -7,15 +7,15 @@ use Rattle.papaya_raw.specs.declared.machines.answer.KeyAnswer.{KeyAnswer}
 use Rattle.papaya_raw.specs.declared.machines.answer.KeyAnswer.TheVariants as says
 use Rattle.papaya_raw.specs.declared.machines.progress.Answer.{Answer as Said}
 use Rattle.papaya_raw.specs.declared.machines.progress.Answer.TheVariants as said
-use Rattle.run_schedules.specs.declared.call.Answer.{Answer}
-use Rattle.run_schedules.specs.declared.call.Answer.TheVariants as answer
+use Rattle.run_schedules.specs.declared.call.Response.{Response}
+use Rattle.run_schedules.specs.declared.call.Response.TheVariants as answer
 use Rattle.run_schedules.specs.declared.outcome.Outcome.{Outcome}
 use Rattle.run_schedules.specs.declared.outcome.Outcome.TheVariants as outcome
 use Rattle.run_effects.specs.Effects.Known.{Known}
 use Rattle.run_effects.specs.declared.role.Role.{Role}
 use Rattle.run_effects.specs.declared.role.Role.TheVariants as role
-use Rattle.run_executor.specs.declared.kind.Kind.{Kind}
-use Rattle.run_executor.specs.declared.kind.Kind.TheVariants as kind
+use Rattle.run_executor.specs.declared.kind.CallKind.{CallKind}
+use Rattle.run_executor.specs.declared.kind.CallKind.TheVariants as kind
 use Rattle.run_executor.specs.declared.callers.Keeps.{Keeps}
 use Rattle.run_executor.specs.declared.callers.Keeps.TheVariants as keeps
 
@@ -33,12 +33,12 @@ value_of (node.Pair k v) = Some v
 value_of _ = None
 
 -- the value that a call keeps once its pair was not stored: one that tells it
-abbrev pub kept : {K V : Type 0} → Kind → Node K V → Option V → Option V
+abbrev pub kept : {K V : Type 0} → CallKind → Node K V → Option V → Option V
 kept kind.TriesToInsert unstored value = value_of unstored
 kept _ unstored value = value
 
 -- what becomes of the value that a call keeps
-abbrev pub kept_by : {V : Type 0} → Keeps V → Kind → Option V → Option V
+abbrev pub kept_by : {V : Type 0} → Keeps V → CallKind → Option V → Option V
 kept_by keeps.Same kind value = value
 kept_by (keeps.Is other) kind value = other
 kept_by (keeps.Unstored unstored) kind.TriesToInsert value = unstored
@@ -51,18 +51,18 @@ goes_on _ = false
 
 module _ {V : Type 0} where
   -- the pair is there, and this value was not stored
-  abbrev pub occupied_by : ℕ → Option V → Answer V
+  abbrev pub occupied_by : ℕ → Option V → Response V
   occupied_by there (Some value) = answer.Occupied there value
   occupied_by there None = answer.Found there
 
   -- a closure aborted with this
-  abbrev pub aborted_with : Option V → Answer V
+  abbrev pub aborted_with : Option V → Response V
   aborted_with (Some value) = answer.Aborted value
   aborted_with None = answer.Absent
 
   module _ (known : Known) where
     -- what a call on one key answers, where it kept this value
-    abbrev pub answer_on : Kind → Option V → KeyAnswer → Answer V
+    abbrev pub answer_on : CallKind → Option V → KeyAnswer → Response V
     answer_on kind.Computes value says.Absent = aborted_with value
     answer_on kind.Computes value (says.Found word) = aborted_with value
     answer_on kind.Computes value (says.Stored new) = answer.Inserted (number_by known new)
@@ -80,12 +80,12 @@ module _ {V : Type 0} where
     answer_on _ value (says.Replaced old new) = answer.Found (number_by known old)
 
     -- a sweep that is over
-    abbrev pub swept : Kind → Answer V
+    abbrev pub swept : CallKind → Response V
     swept kind.Walks = answer.Absent
     swept _ = answer.Completed
 
     -- what any call answers
-    abbrev pub answer_of : Kind → Option V → Said → Answer V
+    abbrev pub answer_of : CallKind → Option V → Said → Response V
     answer_of kind value (said.Key a) = answer_on kind value a
     answer_of kind value said.Reserved = answer.Completed
     answer_of kind value said.Swept = swept kind

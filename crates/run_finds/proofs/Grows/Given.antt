@@ -7,7 +7,7 @@ use Rattle.run_blocks.specs.Given.TablesDeclared.node.Node.{Node}
 use Rattle.run_blocks.specs.Given.TablesDeclared.setting.Setting.{Setting}
 use Rattle.run_blocks.specs.Given.ResizeDeclared.new_table.NewTable.{NewTable}
 use Rattle.run_executor.specs.Given.RawDeclared.machines.answer.Missing.TheVariants as missing
-use Rattle.run_executor.specs.Given.RawDeclared.machines.asking.Reply.TheVariants as reply
+use Rattle.run_executor.specs.Given.RawDeclared.machines.asking.MachineReply.TheVariants as reply
 use Rattle.run_executor.specs.Given.RawDeclared.machines.asking.Told.{Told}
 use Rattle.run_executor.specs.Given.RawDeclared.machines.asking.Told.TheVariants as tells
 use Rattle.run_executor.specs.Given.RawDeclared.machines.call.Calling.{Calling}

@@ -6,8 +6,8 @@ use Rattle.run_executor.specs.Given.SeizeWordsOp.{Out, Load, Exchange, Found, Ex
 use Rattle.run_executor.specs.Given.SeizeWordsPlan.{Now, Seeing, Ends}
 use Rattle.run_executor.specs.Given.SeizeWordsWord.{block_in}
 use Rattle.run_executor.specs.Given.SeizeWordsDeclared.fault.Fault.TheVariants.{RemoveNothing}
-use Rattle.run_executor.specs.Given.SeizeDeclared.progress.Progress.{Progress}
-use Rattle.run_executor.specs.Given.SeizeDeclared.progress.Progress.TheVariants as progress
+use Rattle.run_executor.specs.Given.SeizeDeclared.advance.Advance.{Advance}
+use Rattle.run_executor.specs.Given.SeizeDeclared.advance.Advance.TheVariants as progress
 use Rattle.run_executor.specs.Given.SeizeDeclared.rows.settle.Settled.{Settled}
 use Rattle.run_executor.specs.Given.SeizeDeclared.rows.settle.Settled.TheVariants as settling
 use Rattle.run_blocks.specs.Given.TablesChunks.{is_incremental}
@@ -32,8 +32,8 @@ use Rattle.run_blocks.specs.Given.ResizeDeclared.copier.Copier.{Copier}
 use Rattle.run_blocks.specs.Given.ResizeDeclared.dispose.Dispose.{Dispose}
 use Rattle.run_blocks.specs.Given.ResizeDeclared.lookup.Lookup.{Lookup}
 use Rattle.run_blocks.specs.Given.ResizeDeclared.new_table.NewTable.{NewTable}
-use Rattle.run_blocks.specs.Given.ResizeDeclared.outcome.Outcome.{Outcome}
-use Rattle.run_blocks.specs.Given.ResizeDeclared.outcome.Outcome.TheVariants as outcome
+use Rattle.run_blocks.specs.Given.ResizeDeclared.yielding.Yielding.{Yielding}
+use Rattle.run_blocks.specs.Given.ResizeDeclared.yielding.Yielding.TheVariants as outcome
 use Rattle.run_executor.specs.Given.RawCall.{have_one_key, made, makes_of, root_found, next_read, next_found, dropped, key_read, pair_read, word_read, word_found, tried, looked, looks_for, first_made, next_made, disposed, helped, copied, plan_at}
 use Rattle.run_executor.specs.Given.RawCallAsks.{with_absent, with_present, absent_told, present_told, told_at, replied}
 use Rattle.run_executor.specs.Given.RawCallFills.{filled, putting_by, fill_by, emptied, fills_with, given_up}
@@ -52,8 +52,8 @@ use Rattle.run_executor.specs.Given.RawDeclared.machines.answer.There.TheVariant
 use Rattle.run_executor.specs.Given.RawDeclared.machines.asking.Asking.TheVariants as asking
 use Rattle.run_executor.specs.Given.RawDeclared.machines.asking.Gap.{Gap}
 use Rattle.run_executor.specs.Given.RawDeclared.machines.asking.Gap.TheVariants as gaps
-use Rattle.run_executor.specs.Given.RawDeclared.machines.asking.Reply.{Reply as MachineReply}
-use Rattle.run_executor.specs.Given.RawDeclared.machines.asking.Reply.TheVariants as replies
+use Rattle.run_executor.specs.Given.RawDeclared.machines.asking.MachineReply.{MachineReply}
+use Rattle.run_executor.specs.Given.RawDeclared.machines.asking.MachineReply.TheVariants as replies
 use Rattle.run_executor.specs.Given.RawDeclared.machines.asking.Takes.{Takes}
 use Rattle.run_executor.specs.Given.RawDeclared.machines.asking.Takes.TheVariants as takes
 use Rattle.run_executor.specs.Given.RawDeclared.machines.asking.Told.{Told}
@@ -220,20 +220,20 @@ module _ {K V : Type 0} (many : ℕ) where
 
     -- by a step of a machine within it
 
-    looked_so : (e : Lookup × Progress (Option ℕ)) → GrowsSo (looked p e)
+    looked_so : (e : Lookup × Advance (Option ℕ)) → GrowsSo (looked p e)
     looked_so (lookup, progress.Goes) = tt
     looked_so (lookup, progress.Waits) = tt
     looked_so (lookup, progress.Done (Some found)) = tt
     looked_so (lookup, progress.Done None) = tt
     looked_so (lookup, progress.Refused fault) = tt
 
-    first_so : HasForNone p → (n : NewTable) (e : NewTable × Progress Table) → FirstGoes n e → GrowsSo (first_made p e)
+    first_so : HasForNone p → (n : NewTable) (e : NewTable × Advance Table) → FirstGoes n e → GrowsSo (first_made p e)
     first_so has n (making, progress.Goes) so = (has, so.1)
     first_so has n (making, progress.Waits) so = (has, so.1)
     first_so has n (making, progress.Done table) so = tt
     first_so has n (making, progress.Refused fault) so = ending_so p (ends.Refused fault)
 
-    next_so : HasForNone p → (n : NewTable) → n.setting ≡ p.setting → (e : NewTable × Progress Table) → NextGoes p.setting p.trial.table p.trial.met n e → GrowsSo (next_made p e)
+    next_so : HasForNone p → (n : NewTable) → n.setting ≡ p.setting → (e : NewTable × Advance Table) → NextGoes p.setting p.trial.table p.trial.met n e → GrowsSo (next_made p e)
     next_so has n setting_is (making, progress.Goes) so = (has, (so.0 ∙ setting_is, so.1))
     next_so has n setting_is (making, progress.Waits) so = (has, (so.0 ∙ setting_is, so.1))
     next_so has n setting_is (making, progress.Done table) so = on_so table
@@ -245,14 +245,14 @@ module _ {K V : Type 0} (many : ℕ) where
     disposed_so answer (dispose, settling.Gave value) = tt
     disposed_so answer (dispose, settling.Done) = tt
 
-    helped_so : (goal : Table) (e : Copier × Outcome (Node K V) Table) → GrowsSo (helped p goal e)
+    helped_so : (goal : Table) (e : Copier × Yielding (Node K V) Table) → GrowsSo (helped p goal e)
     helped_so goal (copier, outcome.Goes) = tt
     helped_so goal (copier, outcome.Waits) = tt
     helped_so goal (copier, outcome.Gave value) = tt
     helped_so goal (copier, outcome.Done table) = tt
     helped_so goal (copier, outcome.Refused fault) = ending_so p (ends.Refused fault)
 
-    copied_so : (e : Copier × Outcome (Node K V) Table) → GrowsSo (copied p e)
+    copied_so : (e : Copier × Yielding (Node K V) Table) → GrowsSo (copied p e)
     copied_so (copier, outcome.Goes) = tt
     copied_so (copier, outcome.Waits) = tt
     copied_so (copier, outcome.Gave value) = tt

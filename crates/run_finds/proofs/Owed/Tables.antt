@@ -4,7 +4,7 @@ use Rattle.std.specs.List.{list_any}
 use Rattle.std.proofs.Common.{refl, ap, sym, subst, ◌∙◌, arith, inl, inr}
 use Rattle.std.proofs.lemmas.Bool.{cases_eq, or_left, or_right, le-ltb}
 use Rattle.run_executor.specs.Given.RunsSame.{is_same}
-use Rattle.run_executor.specs.Given.RunsDeclared.effect.Table.{Table}
+use Rattle.run_executor.specs.Given.RunsDeclared.effect.TableId.{TableId}
 use Rattle.run_executor.specs.Given.RunsDeclared.effect.Thing.{Thing}
 use Rattle.run_executor.specs.Given.RunsDeclared.effect.Thing.TheVariants.{APair, ATable}
 use Rattle.run_executor.specs.Given.SchedulesEffects.{passed}
@@ -16,7 +16,7 @@ use Rattle.run_executor.proofs.Given.SpotsUnreclaimed.{table_is, same_itself}
 
 -- among things
 
-pub still_in : (t : Table) (xs ys : List Thing) → is_in same_thing (ATable t) xs ≡ true → is_in same_thing (ATable t) (xs ++ ys) ≡ true
+pub still_in : (t : TableId) (xs ys : List Thing) → is_in same_thing (ATable t) xs ≡ true → is_in same_thing (ATable t) (xs ++ ys) ≡ true
 still_in t [] ys e = absurd (cc e)
 still_in t (x ∷ xs) ys e = by (same_thing (ATable t) x) e (still_in t xs ys)
   where
@@ -25,12 +25,12 @@ still_in t (x ∷ xs) ys e = by (same_thing (ATable t) x) e (still_in t xs ys)
     by true e rest = refl
     by false e rest = rest e
 
-pub then_in : (t : Table) (xs ys : List Thing) → is_in same_thing (ATable t) ys ≡ true → is_in same_thing (ATable t) (xs ++ ys) ≡ true
+pub then_in : (t : TableId) (xs ys : List Thing) → is_in same_thing (ATable t) ys ≡ true → is_in same_thing (ATable t) (xs ++ ys) ≡ true
 then_in t [] ys e = e
 then_in t (x ∷ xs) ys e = or_right (same_thing (ATable t) x) (is_in same_thing (ATable t) (xs ++ ys)) (then_in t xs ys e)
 
 -- a table that is not the thing stays where that goes
-pub in_without : (t : Table) (y : Thing) (things : List Thing) → (y ≡ ATable t → ⊥) → is_in same_thing (ATable t) things ≡ true → is_in same_thing (ATable t) (without_one same_thing y things) ≡ true
+pub in_without : (t : TableId) (y : Thing) (things : List Thing) → (y ≡ ATable t → ⊥) → is_in same_thing (ATable t) things ≡ true → is_in same_thing (ATable t) (without_one same_thing y things) ≡ true
 in_without t y [] apart e = absurd (cc e)
 in_without t y (z ∷ things) apart e = by (same_thing y z) refl (same_thing (ATable t) z) refl (in_without t y things apart)
   where
@@ -42,7 +42,7 @@ in_without t y (z ∷ things) apart e = by (same_thing y z) refl (same_thing (AT
 
     one_thing : (a b c : Thing) → same_thing a c ≡ true → same_thing b c ≡ true → a ≡ b
     one_thing (APair n) (APair k) (APair p) e f = ap (λ (q : ℕ). APair q) (let one : n ≡ k = grind (arith, e, f) in one)
-    one_thing (ATable a) (ATable b) (ATable c) e f = ap (λ (q : Table). ATable q) (table_is a c e ∙ sym (table_is b c f))
+    one_thing (ATable a) (ATable b) (ATable c) e f = ap (λ (q : TableId). ATable q) (table_is a c e ∙ sym (table_is b c f))
     one_thing (APair n) b (ATable c) e f = absurd (cc e)
     one_thing (ATable a) b (APair p) e f = absurd (cc e)
     one_thing a (APair k) (ATable c) e f = absurd (cc f)
@@ -60,7 +60,7 @@ pub passed_in : (map first turn u : ℕ) → first ≤ u → u < turn → is_in 
 passed_in map first zero u l below = absurd (omega (arith, below))
 passed_in map first (suc n) u l below = subst Goal (sym (le-ltb n first (omega (arith, l, below)))) (by (cases_eq u n) (passed_in map first n u l))
   where
-    it : Table
+    it : TableId
     it = record { map = map; turn = u }
 
     Goal : Bool → Type 0
@@ -73,7 +73,7 @@ passed_in map first (suc n) u l below = subst Goal (sym (le-ltb n first (omega (
 
 -- among what calls owe
 
-module _ {K V : Type 0} (own : List ℕ) (change : UnderWay K V → UnderWay K V) (same : (c : UnderWay K V) → IsOfSame c (change c)) (t : Table) where
+module _ {K V : Type 0} (own : List ℕ) (change : UnderWay K V → UnderWay K V) (same : (c : UnderWay K V) → IsOfSame c (change c)) (t : TableId) where
   abbrev pub owes_it : UnderWay K V → Bool
   owes_it c = is_in same_thing (ATable t) c.owes
 

@@ -10,8 +10,8 @@ use Rattle.run_executor.specs.Given.SeizeWordsWord.{block_in}
 use Rattle.run_executor.specs.Given.SeizeWordsDeclared.at.At.TheVariants.{Root}
 use Rattle.run_executor.specs.Given.SeizeSettle.{settle_plan}
 use Rattle.run_executor.specs.Given.SeizeDefer.{defer_plan}
-use Rattle.run_executor.specs.Given.SeizeDeclared.progress.Progress.{Progress}
-use Rattle.run_executor.specs.Given.SeizeDeclared.progress.Progress.TheVariants as progress
+use Rattle.run_executor.specs.Given.SeizeDeclared.advance.Advance.{Advance}
+use Rattle.run_executor.specs.Given.SeizeDeclared.advance.Advance.TheVariants as progress
 use Rattle.run_executor.specs.Given.SeizeDeclared.rows.defer.Defer.{Defer}
 use Rattle.run_executor.specs.Given.SeizeDeclared.rows.settle.Settle.{Settle}
 use Rattle.run_executor.specs.Given.SeizeDeclared.rows.settle.Settled.{Settled}
@@ -65,7 +65,7 @@ module _ {K V : Type 0} (d : Dispose) (m m2 : Mem (Node K V)) (told : Changed) w
   settled_goes settle is (next, settled.Gave value) = WaitsAlike (in_row (at.Settles settle) is tt) (was_at (at.Settles settle) is None refl)
   settled_goes settle is (next, settled.Done) = WaitsOver refl
 
-  deferred_goes : (defer : Defer) → d.stands ≡ at.Defers defer → (e : Defer × Progress Unit) → Goes (disposes.deferred d e)
+  deferred_goes : (defer : Defer) → d.stands ≡ at.Defers defer → (e : Defer × Advance Unit) → Goes (disposes.deferred d e)
   deferred_goes defer is (next, progress.Goes) = WaitsAlike (in_row (at.Defers defer) is tt) (was_at (at.Defers defer) is (Some d.table.turn) refl)
   deferred_goes defer is (next, progress.Waits) = WaitsAlike (in_row (at.Defers defer) is tt) (was_at (at.Defers defer) is (Some d.table.turn) refl)
   deferred_goes defer is (next, progress.Done end) = WaitsOver refl

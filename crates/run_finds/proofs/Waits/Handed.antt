@@ -8,7 +8,7 @@ use Rattle.run_blocks.specs.Given.TablesDeclared.node.Node.{Node}
 use Rattle.run_executor.specs.Given.RawDeclared.machines.progress.Progress.{Progress}
 use Rattle.run_executor.specs.Given.RunsDeclared.effect.Effect.{Effect}
 use Rattle.run_executor.specs.Given.RunsDeclared.effect.Effect.TheVariants as effect
-use Rattle.run_executor.specs.Given.RunsDeclared.effect.Table.{Table}
+use Rattle.run_executor.specs.Given.RunsDeclared.effect.TableId.{TableId}
 use Rattle.run_executor.specs.Given.RunsDeclared.effect.Thing.TheVariants.{APair, ATable}
 use Rattle.run_executor.specs.Given.SchedulesEffects.{call_by, with_effect}
 use Rattle.run_executor.specs.Given.SchedulesEntry.{ByCall, acting}
@@ -111,7 +111,7 @@ module _ {K V : Type 0} (same : K → K → Bool) (hash : ℕ → K → ℕ) (na
   retired word due (role.OwnTable turn shape) is = tt
   retired word due (role.Counter of) is = tt
 
-  deferred : (word : ℕ) (place : At) (t : Table) → is_stage is_there t m ≡ true → due_in_row (machine_of u) ≡ Some (ToPut word place) → (r : Role) → known.roles (block_in word) ≡ r → Finds (carried t r)
+  deferred : (word : ℕ) (place : At) (t : TableId) → is_stage is_there t m ≡ true → due_in_row (machine_of u) ≡ Some (ToPut word place) → (r : Role) → known.roles (block_in word) ≡ r → Finds (carried t r)
   deferred word place t there due (role.Pair n) is =
       let has = row_due known (ToPut word place) n is (machine_of u) (owes.noted map i u here) due in
       let lies = (subst (IsHeldPast map m n) has.2.1 (held (ToPut word place) n is has)).1 in

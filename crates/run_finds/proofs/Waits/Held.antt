@@ -5,7 +5,7 @@ use Rattle.std.proofs.lemmas.Bool.{cases_eq}
 use Rattle.run_executor.specs.Given.RunsDeclared.effect.Effect.{Effect}
 use Rattle.run_executor.specs.Given.RunsDeclared.effect.Effect.TheVariants.{Deferred, Stored, Replaced, Removed}
 use Rattle.run_executor.specs.Given.RunsDeclared.effect.Spot.{Spot}
-use Rattle.run_executor.specs.Given.RunsDeclared.effect.Table.{Table}
+use Rattle.run_executor.specs.Given.RunsDeclared.effect.TableId.{TableId}
 use Rattle.run_executor.specs.Given.SchedulesEffects.{with_effect, with_effects, AtEachEffect}
 use Rattle.run_executor.specs.Given.SchedulesLives.{IsPast}
 use Rattle.run_executor.specs.Given.SchedulesMoment.{Behind, Out, Moment}
@@ -27,8 +27,8 @@ module _ {K V : Type 0} (map : ℕ) (m v : Moment K V) (k : ℕ) where
       → LiesFor map m k waits → LiesFor map v k waits
   lies_same None born spot later chunks lies =
       subst (λ (s : Spot). IsPast (v.born k).turn s.turn (first_of map v)) (sym spot)
-      (subst (λ (b : Table). IsPast b.turn (m.spot k).turn (first_of map v)) (sym born) (past_on (m.born k).turn (m.spot k).turn (first_of map m) (first_of map v) later lies))
-  lies_same (Some turn) born spot later chunks lies = (ap (λ (s : Spot). s.turn) spot ∙ lies.0, subst (λ (b : Table). b.turn < turn) (sym born) lies.1, chunks ∙ lies.2)
+      (subst (λ (b : TableId). IsPast b.turn (m.spot k).turn (first_of map v)) (sym born) (past_on (m.born k).turn (m.spot k).turn (first_of map m) (first_of map v) later lies))
+  lies_same (Some turn) born spot later chunks lies = (ap (λ (s : Spot). s.turn) spot ∙ lies.0, subst (λ (b : TableId). b.turn < turn) (sym born) lies.1, chunks ∙ lies.2)
 
 module _ {K V : Type 0} (who : Option (List ℕ)) (acted : Option ℕ) where
   -- by one effect
@@ -53,11 +53,11 @@ module _ {K V : Type 0} (own : List ℕ) (acts_on : ℕ) where
       → first_of map m ≤ first_of map (Then f m) → LiesFor map m k waits → IsHeldPast map (Then f m) k waits
   aside_held f m map k waits left born spot later lies = (left, lies_same map m (Then f m) k waits born spot later (effect_leaves grows_in_chunks (λ g n. refl) (Some own) (Some acts_on) f m map) lies)
 
-  put_behind : (n : ℕ) (t : Table) (m : Moment K V) (map k : ℕ) (waits : Option ℕ) → IsHeldPast map m k waits → IsHeldPast map (Then (Deferred n t) m) k waits
+  put_behind : (n : ℕ) (t : TableId) (m : Moment K V) (map k : ℕ) (waits : Option ℕ) → IsHeldPast map m k waits → IsHeldPast map (Then (Deferred n t) m) k waits
   put_behind n t m map k waits held =
       let aside = aside_all (Some own) (Some acts_on) (Deferred n t ∷ []) m (refl, tt) in
       let more : length m.stored ≤ length (Then (Deferred n t) m).stored = stored_grows (Some own) (Some acts_on) (Deferred n t ∷ []) m in
-      aside_held (Deferred n t) m map k waits ((let l = held.0.0 in omega (arith, l, more)), out) (ap (λ (g : ℕ → Table). g k) aside.born) (ap (λ (g : ℕ → Spot). g k) aside.spot)
+      aside_held (Deferred n t) m map k waits ((let l = held.0.0 in omega (arith, l, more)), out) (ap (λ (g : ℕ → TableId). g k) aside.born) (ap (λ (g : ℕ → Spot). g k) aside.spot)
       (itself (first_of map m)) held.1
     where
       out : is_in_a_map ((Then (Deferred n t) m).place k) ≡ false
@@ -82,14 +82,14 @@ module _ {K V : Type 0} (own : List ℕ) (acts_on : ℕ) where
     removed_held =
         let aside = aside_all (Some own) (Some acts_on) (Removed k ∷ []) m (refl, tt) in
         let more : length m.stored ≤ length (Then (Removed k) m).stored = stored_grows (Some own) (Some acts_on) (Removed k ∷ []) m in
-        aside_held (Removed k) m map k waits (omega (arith, stored, more), ap is_in_a_map (put_here k Out m.place k refl)) (ap (λ (g : ℕ → Table). g k) aside.born)
+        aside_held (Removed k) m map k waits (omega (arith, stored, more), ap is_in_a_map (put_here k Out m.place k refl)) (ap (λ (g : ℕ → TableId). g k) aside.born)
         (ap (λ (g : ℕ → Spot). g k) aside.spot) (itself (first_of map m)) lies
 
     replaced_held : IsHeldPast map (Then (Replaced k) m) k waits
     replaced_held =
         let aside = aside_all (Some own) (Some acts_on) (Replaced k ∷ []) m (refl, tt) in
         let more : length m.stored ≤ length (Then (Replaced k) m).stored = stored_grows (Some own) (Some acts_on) (Replaced k ∷ []) m in
-        aside_held (Replaced k) m map k waits (omega (arith, stored, more), ap is_in_a_map (put_here k Out m.place k refl)) (ap (λ (g : ℕ → Table). g k) aside.born)
+        aside_held (Replaced k) m map k waits (omega (arith, stored, more), ap is_in_a_map (put_here k Out m.place k refl)) (ap (λ (g : ℕ → TableId). g k) aside.born)
         (ap (λ (g : ℕ → Spot). g k) aside.spot) (itself (first_of map m)) lies
 
     -- by what takes it out

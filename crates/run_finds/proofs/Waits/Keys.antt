@@ -6,8 +6,8 @@ use Rattle.run_executor.specs.Given.SeizeWordsOp.{Out, Exchange, Found, Exchange
 use Rattle.run_executor.specs.Given.SeizeWordsPlan.{Now, Seeing, Ends}
 use Rattle.run_executor.specs.Given.SeizeWordsWord.{block_in}
 use Rattle.run_executor.specs.Given.SeizeWordsDeclared.at.At.TheVariants.{Root}
-use Rattle.run_executor.specs.Given.SeizeDeclared.progress.Progress.{Progress}
-use Rattle.run_executor.specs.Given.SeizeDeclared.progress.Progress.TheVariants as progress
+use Rattle.run_executor.specs.Given.SeizeDeclared.advance.Advance.{Advance}
+use Rattle.run_executor.specs.Given.SeizeDeclared.advance.Advance.TheVariants as progress
 use Rattle.run_executor.specs.Given.SeizeDeclared.rows.settle.Settled.{Settled}
 use Rattle.run_executor.specs.Given.SeizeDeclared.rows.settle.Settled.TheVariants as settling
 use Rattle.run_blocks.specs.Given.TablesChunks.{is_incremental}
@@ -31,8 +31,8 @@ use Rattle.run_blocks.specs.Given.ResizeDeclared.dispose.Dispose.{Dispose}
 use Rattle.run_blocks.specs.Given.ResizeDeclared.dispose.Disposing.TheVariants as disposal
 use Rattle.run_blocks.specs.Given.ResizeDeclared.lookup.Lookup.{Lookup}
 use Rattle.run_blocks.specs.Given.ResizeDeclared.new_table.NewTable.{NewTable}
-use Rattle.run_blocks.specs.Given.ResizeDeclared.outcome.Outcome.{Outcome}
-use Rattle.run_blocks.specs.Given.ResizeDeclared.outcome.Outcome.TheVariants as outcome
+use Rattle.run_blocks.specs.Given.ResizeDeclared.yielding.Yielding.{Yielding}
+use Rattle.run_blocks.specs.Given.ResizeDeclared.yielding.Yielding.TheVariants as outcome
 use Rattle.run_executor.specs.Given.RawCall.{have_one_key, made, makes_of, root_found, next_found, dropped, key_read, pair_read, word_read, word_found, tried, looked, looks_for, first_made, next_made, disposed, helped, copied, plan_at}
 use Rattle.run_executor.specs.Given.RawCallFills.{filled, putting_by, fill_by, emptied, fills_with, given_up}
 use Rattle.run_executor.specs.Given.RawCallPoints.{aim_of, standing, going, having_met, over, ending, following_made, storing, burying, at_gap, gap_by, asking_at, pair_by, tableless, at_free, at_end, at_last, at_pair, passed, told_of, told, entering, went_on, changed, counted}
@@ -161,33 +161,33 @@ module _ {K V : Type 0} where
 
     -- by a step of a machine within it
 
-    looked_none : (e : Lookup × Progress (Option ℕ)) → NoneSo (looked p e)
+    looked_none : (e : Lookup × Advance (Option ℕ)) → NoneSo (looked p e)
     looked_none (lookup, progress.Goes) = refl
     looked_none (lookup, progress.Waits) = refl
     looked_none (lookup, progress.Done (Some found)) = refl
     looked_none (lookup, progress.Done None) = refl
     looked_none (lookup, progress.Refused fault) = refl
 
-    first_none : (e : NewTable × Progress Table) → NoneSo (first_made p e)
+    first_none : (e : NewTable × Advance Table) → NoneSo (first_made p e)
     first_none (making, progress.Goes) = refl
     first_none (making, progress.Waits) = refl
     first_none (making, progress.Done table) = refl
     first_none (making, progress.Refused fault) = ending_none p (ends.Refused fault)
 
-    next_none : (e : NewTable × Progress Table) → NoneSo (next_made p e)
+    next_none : (e : NewTable × Advance Table) → NoneSo (next_made p e)
     next_none (making, progress.Goes) = refl
     next_none (making, progress.Waits) = refl
     next_none (making, progress.Done table) = on_none table
     next_none (making, progress.Refused fault) = ending_none p (ends.Refused fault)
 
-    helped_none : (goal : Table) (e : Copier × Outcome (Node K V) Table) → NoneSo (helped p goal e)
+    helped_none : (goal : Table) (e : Copier × Yielding (Node K V) Table) → NoneSo (helped p goal e)
     helped_none goal (copier, outcome.Goes) = refl
     helped_none goal (copier, outcome.Waits) = refl
     helped_none goal (copier, outcome.Gave value) = refl
     helped_none goal (copier, outcome.Done table) = refl
     helped_none goal (copier, outcome.Refused fault) = ending_none p (ends.Refused fault)
 
-    copied_none : (e : Copier × Outcome (Node K V) Table) → NoneSo (copied p e)
+    copied_none : (e : Copier × Yielding (Node K V) Table) → NoneSo (copied p e)
     copied_none (copier, outcome.Goes) = refl
     copied_none (copier, outcome.Waits) = refl
     copied_none (copier, outcome.Gave value) = refl

@@ -10,7 +10,7 @@ use Rattle.run_blocks.specs.Given.TablesDeclared.node.Node.{Node}
 use Rattle.run_executor.specs.Given.RawDeclared.machines.progress.Progress.{Progress}
 use Rattle.run_executor.specs.Given.RunsDeclared.effect.Effect.{Effect}
 use Rattle.run_executor.specs.Given.RunsDeclared.effect.Effect.TheVariants as effect
-use Rattle.run_executor.specs.Given.RunsDeclared.effect.Table.{Table}
+use Rattle.run_executor.specs.Given.RunsDeclared.effect.TableId.{TableId}
 use Rattle.run_executor.specs.Given.RunsDeclared.effect.Thing.TheVariants.{APair, ATable}
 use Rattle.run_executor.specs.Given.SchedulesEffects.{call_by, with_effect}
 use Rattle.run_executor.specs.Given.SchedulesEntry.{ByCall}
@@ -91,7 +91,7 @@ module _ {K V : Type 0} (same : K → K → Bool) (hash : ℕ → K → ℕ) (na
   retired (role.Counter of) = tt
 
   -- the block that it is put behind is that of the table just before its own
-  put_behind : (word block : ℕ) (place : At) (t : Table) (len : ℕ) → due_in_row (machine_of u) ≡ Some (ToPut word place) → IsWordOf block place → known.roles block ≡ role.Table t len
+  put_behind : (word block : ℕ) (place : At) (t : TableId) (len : ℕ) → due_in_row (machine_of u) ≡ Some (ToPut word place) → IsWordOf block place → known.roles block ≡ role.Table t len
       → (n : ℕ) → known.roles (block_in word) ≡ role.Pair n → FindsBehind m (effect.Deferred n t) c
   put_behind word block place t len due its_word noted n is =
       let has = row_due known (ToPut word place) n is (machine_of u) (owes.noted map i u here) due in
@@ -100,10 +100,10 @@ module _ {K V : Type 0} (same : K → K → Bool) (hash : ℕ → K → ℕ) (na
       let lies = (subst (IsHeldPast map m n) b.4 held).1.0 in
       let table : ◌≡◌ {A = Role} (role.Table t len) (role.Table (record { map = map; turn = b.1 }) b.2) = sym noted ∙ ap known.roles (same_block block b.0 place its_word b.3) ∙ b.5 in
       let one_table : t ≡ record { map = map; turn = b.1 } = cc table in
-      let turn = ap (λ (x : Table). x.turn) one_table in
-      (ap (λ (x : Table). x.map) one_table ∙ sym its.2, omega (arith, lies, turn))
+      let turn = ap (λ (x : TableId). x.turn) one_table in
+      (ap (λ (x : TableId). x.map) one_table ∙ sym its.2, omega (arith, lies, turn))
 
-  deferred : (word block : ℕ) (place : At) (t : Table) (len : ℕ) → due_in_row (machine_of u) ≡ Some (ToPut word place) → IsWordOf block place → known.roles block ≡ role.Table t len
+  deferred : (word block : ℕ) (place : At) (t : TableId) (len : ℕ) → due_in_row (machine_of u) ≡ Some (ToPut word place) → IsWordOf block place → known.roles block ≡ role.Table t len
       → (r : Role) → known.roles (block_in word) ≡ r → Finds (carried t r)
   deferred word block place t len due its_word noted (role.Pair n) is = one (effect.Deferred n t) (put_behind word block place t len due its_word noted n is)
   deferred word block place t len due its_word noted (role.Table u2 len2) is = tt

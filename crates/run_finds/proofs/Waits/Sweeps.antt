@@ -20,8 +20,8 @@ use Rattle.run_blocks.specs.Given.ResizeDispose.{disposing, dispose_plan}
 use Rattle.run_blocks.specs.Given.ResizeDeclared.copier.Copier.{Copier}
 use Rattle.run_blocks.specs.Given.ResizeDeclared.dispose.Dispose.{Dispose}
 use Rattle.run_blocks.specs.Given.ResizeDeclared.dispose.Disposing.TheVariants as disposal
-use Rattle.run_blocks.specs.Given.ResizeDeclared.outcome.Outcome.{Outcome}
-use Rattle.run_blocks.specs.Given.ResizeDeclared.outcome.Outcome.TheVariants as outcome
+use Rattle.run_blocks.specs.Given.ResizeDeclared.yielding.Yielding.{Yielding}
+use Rattle.run_blocks.specs.Given.ResizeDeclared.yielding.Yielding.TheVariants as outcome
 use Rattle.run_executor.specs.Given.SweepsSweep as sweeps
 use Rattle.run_executor.specs.Given.SweepsSweepPoints as points
 use Rattle.run_executor.specs.Given.ReservesDeclared.sweep.Purpose.{Purpose}
@@ -84,7 +84,7 @@ module _ (K V : Type 0) where
         (if block_in word == 0 then points.telling (points.further c) else points.at_pair c.purpose c word) (further_none (record c { met = true }))
         (by_test (block_in word == 0) (points.telling (points.further c)) (points.at_pair c.purpose c word) (further_none c) (pair_none c.purpose word))
 
-    copied_none : (e : Copier × Outcome (Node K V) Table) → NoneSo (sweeps.copied c e)
+    copied_none : (e : Copier × Yielding (Node K V) Table) → NoneSo (sweeps.copied c e)
     copied_none (copier, outcome.Goes) = refl
     copied_none (copier, outcome.Waits) = refl
     copied_none (copier, outcome.Gave value) = refl

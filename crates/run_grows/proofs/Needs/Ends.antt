@@ -7,7 +7,7 @@ use Rattle.papaya_raw.specs.Given.SeizeWorld.{times}
 use Rattle.papaya_raw.specs.Given.TablesChunks.{is_incremental}
 use Rattle.run_schedules.specs.declared.effect.Effect.{Effect}
 use Rattle.run_schedules.specs.declared.effect.Effect.TheVariants.{Ended, Taken}
-use Rattle.run_schedules.specs.declared.effect.Table.{Table}
+use Rattle.run_schedules.specs.declared.effect.TableId.{TableId}
 use Rattle.run_schedules.specs.Schedules.Effects.{AtEachEffect, at_stage, with_effect}
 use Rattle.run_schedules.specs.Schedules.Lives.{EventFinds}
 use Rattle.run_schedules.specs.Schedules.Moment.{Place, InMap, GivenBack, IsTaken, TableThere, Moment}
@@ -38,7 +38,7 @@ times_first : (n : ℕ) (ps : List ℕ) → times n (n ∷ ps) ≡ 1 + times n p
 times_first n ps = ap (λ (q : Bool). (if q then 1 else 0) + times n ps) (eq-eqb n n refl)
 
 -- a table of which another one is not taken is linked still
-module _ (t u : Table) (apart : t ≡ u → ⊥) where
+module _ (t u : TableId) (apart : t ≡ u → ⊥) where
   still_linked : (xs : List TableThere) → list_any (λ x. same_table x.table u && is_linked x.stage) xs ≡ true → list_any (λ x. same_table x.table u && is_linked x.stage) (map (at_stage t IsTaken) xs) ≡ true
   still_linked [] is = is
   still_linked (x ∷ xs) is = by (same_table x.table t) (same_table x.table u) refl refl is (still_linked xs)
@@ -66,7 +66,7 @@ module _ {K V : Type 0} (of : ℕ) (number : ℕ → ℕ) where
   tables_find t (suc more) v linked = (
     (refl, linked t (omega arith) (omega arith)),
     tables_find (suc t) more (with_effect None (Some of) (Taken (table_of of t)) v)
-        (λ u l r. still_linked (table_of of t) (table_of of u) (λ e. (let one = ap (λ (x : Table). x.turn) e in omega (arith, one, l))) v.tables (linked u (omega (arith, l)) (omega (arith, r)))),
+        (λ u l r. still_linked (table_of of t) (table_of of u) (λ e. (let one = ap (λ (x : TableId). x.turn) e in omega (arith, one, l))) v.tables (linked u (omega (arith, l)) (omega (arith, r)))),
   )
 
   -- pairs end that are in the map, each once, and then the rest finds what it must

@@ -9,8 +9,8 @@ use Rattle.run_executor.specs.Given.SeizeWordsDeclared.at.At.TheVariants.{Root}
 use Rattle.run_executor.specs.Given.SeizeWordsDeclared.fault.Fault.{Fault}
 use Rattle.run_executor.specs.Given.SeizeWordsDeclared.fault.Fault.TheVariants.{Capacity, RootsUsedUp}
 use Rattle.papaya_raw.specs.Given.SeizeWorld.{World, with_at}
-use Rattle.papaya_raw.specs.Given.SeizeDeclared.progress.Progress.{Progress}
-use Rattle.papaya_raw.specs.Given.SeizeDeclared.progress.Progress.TheVariants as progress
+use Rattle.papaya_raw.specs.Given.SeizeDeclared.advance.Advance.{Advance}
+use Rattle.papaya_raw.specs.Given.SeizeDeclared.advance.Advance.TheVariants as progress
 use Rattle.papaya_raw.specs.Given.TablesLengths.{places_for, len_of}
 use Rattle.papaya_raw.specs.Given.TablesPowers.{next_power}
 use Rattle.papaya_raw.specs.Given.TablesProbes.{limit_of}
@@ -81,10 +81,10 @@ first_opens setting places = by (nat_le (max places 8) (2 ^ 48))
     by false = tt
 
 module _ (c : NewMap) where
-  abbrev GoesSo : NewMap × Progress Setting → Type 0
+  abbrev GoesSo : NewMap × Advance Setting → Type 0
   GoesSo e = (e.0.len ≡ c.len) × OpensFor c.len e.0.stands
 
-  by_test : (b : Bool) (x y : NewMap × Progress Setting) → GoesSo x → GoesSo y → GoesSo (if b then x else y)
+  by_test : (b : Bool) (x y : NewMap × Advance Setting) → GoesSo x → GoesSo y → GoesSo (if b then x else y)
   by_test true x y f g = f
   by_test false x y f g = g
 
@@ -96,10 +96,10 @@ module _ (c : NewMap) where
   abbrev counted : ℕ → NewMap
   counted block = record c { setting = with_counter c.setting block }
 
-  abbrev TableGoesSo : NewTable → NewTable × Progress Planned → Type 0
+  abbrev TableGoesSo : NewTable → NewTable × Advance Planned → Type 0
   TableGoesSo n e = (e.0.setting ≡ n.setting) × ShapedAt (λ before reason. ⊥) (IsForPlaces c.len) e.0.stands
 
-  opened_so : (n : NewTable) (e : NewTable × Progress Planned) → TableGoesSo n e → GoesSo (opened c e)
+  opened_so : (n : NewTable) (e : NewTable × Advance Planned) → TableGoesSo n e → GoesSo (opened c e)
   opened_so n (making, progress.Goes) so = (refl, so.1)
   opened_so n (making, progress.Waits) so = (refl, so.1)
   opened_so n (making, progress.Done table) so = (refl, tt)
@@ -131,8 +131,8 @@ module _ (c : NewMap) where
     by_point (at.Refused fault) so stays = (refl, stays)
 
   module _ {K V : Type 0} where
-    step_opens : (m m2 : Mem (Node K V)) (told : Changed) (end : NewMap × Progress Setting) → OpensFor c.len c.stands
-        → StepsTold K V (NewMap × Progress Setting) m changed.Nothing (new_map_plan c) m2 told end → GoesSo end
+    step_opens : (m m2 : Mem (Node K V)) (told : Changed) (end : NewMap × Advance Setting) → OpensFor c.len c.stands
+        → StepsTold K V (NewMap × Advance Setting) m changed.Nothing (new_map_plan c) m2 told end → GoesSo end
     step_opens m m2 told end so s =
         always_steps GoesSo m m2 (new_map_plan c) end (by_point K V c.stands so so) (as_step m changed.Nothing (new_map_plan c) m2 told end s)
 
@@ -159,7 +159,7 @@ makings_open K V s shows i b given roots places opens = one_so s shows i b (subs
 
 module _ {K V : Type 0} (same : K → K → Bool) (hash : ℕ → K → ℕ) (s : Scene K V) (old new : Held K V) (shows : ShowsOpenings s) (i : ℕ) (b : Beginning K) (end : NewMap)
     (so : OpensFor end.len end.stands) (w2 : World (Node K V)) where
-  goes_then : (told : Progress Setting) (comes : MakingComesTo same hash s old new i b end w2 told) → ShowsOpenings (making_after same hash s old new i b end w2 told comes)
+  goes_then : (told : Advance Setting) (comes : MakingComesTo same hash s old new i b end w2 told) → ShowsOpenings (making_after same hash s old new i b end w2 told comes)
   goes_then progress.Goes comes = λ j d is. one_so s shows i (record b { machine = end }) so j d is
   goes_then progress.Waits comes = absurd comes
   goes_then (progress.Done setting) comes = λ j d is. gone_so s shows i j d is
@@ -228,7 +228,7 @@ has_len f none places len places_are some len_is =
     subst (λ (r : Result ℕ Fault). Has r len) (sym lens) (len_is ∙ ap (λ (n : ℕ). max n 8) power)
 
 module _ {K V : Type 0} (same : K → K → Bool) (hash : ℕ → K → ℕ) (name : ℕ → List ℕ) (m : Moment K V) (known : Known) (s : Scene K V) (old new : Held K V) (at_s : IsAt same hash old s)
-    (shown : Shows same name m known s) (tables : ShowsTables name m known s) (shows : ShowsOpenings s) (i : ℕ) (told : Progress Setting) (leads : MakingLeads same hash i told s old new)
+    (shown : Shows same name m known s) (tables : ShowsTables name m known s) (shows : ShowsOpenings s) (i : ℕ) (told : Advance Setting) (leads : MakingLeads same hash i told s old new)
     (b : Beginning K) (here : s.makers i ≡ Some b) (of : Option ℕ) (f : MapThere) (f_is : map_at b.map m ≡ Some f) (none_yet : tables_of b.map m ≡ [])
     (faultless : map_fault f.mode f.capacity ≡ None) (places_are : b.places ≡ first_places f.capacity) where
   abbrev its : Acting

@@ -10,7 +10,7 @@ use Rattle.run_executor.specs.Given.SeizeWordsOp.{Out, Found, Stored, Exchanged,
 use Rattle.run_executor.specs.Given.SeizeWordsPlan.{plan_as}
 use Rattle.run_executor.specs.Given.SeizeWordsWord.{block_in}
 use Rattle.papaya_raw.specs.Given.SeizeWorld.{World}
-use Rattle.papaya_raw.specs.Given.SeizeDeclared.progress.Progress.{Progress}
+use Rattle.papaya_raw.specs.Given.SeizeDeclared.advance.Advance.{Advance}
 use Rattle.papaya_raw.specs.Given.TablesDeclared.node.Node.{Node}
 use Rattle.papaya_raw.specs.Given.TablesDeclared.node.Node.TheVariants as node
 use Rattle.papaya_raw.specs.Given.TablesDeclared.setting.Setting.{Setting}
@@ -124,8 +124,8 @@ module _ {K V : Type 0} (map : ℕ) (known : Known) where
 
     -- the making of a first table
     module _ (m m2 : Mem (Node K V)) (told : Changed) (setting : Setting) (n : NewTable) (link_is : n.link ≡ Root setting.root) where
-      sums_do : (before : Table) (reason : Reason) (sum : Sum) (at : Summing) (end : NewTable × Progress Table)
-          → StepsTold K V (NewTable × Progress Table) m changed.Nothing (plan_as (new_table.counted n before reason) (sums.plan_at sum at)) m2 told end → Firsts map known told
+      sums_do : (before : Table) (reason : Reason) (sum : Sum) (at : Summing) (end : NewTable × Advance Table)
+          → StepsTold K V (NewTable × Advance Table) m changed.Nothing (plan_as (new_table.counted n before reason) (sums.plan_at sum at)) m2 told end → Firsts map known told
       sums_do before reason sum (summing.Adds shard total) end s = subst (Firsts map known) (sym s.1.1) refl
       sums_do before reason sum (summing.Over count) end s = subst (Firsts map known) (sym s.2) refl
 
@@ -133,8 +133,8 @@ module _ {K V : Type 0} (map : ℕ) (known : Known) where
       links_do link to out is took =
           subst (λ (l : At). Firsts map known (told_as m (Exchange l 0 to) out)) (sym is) (links_table m m2 setting.root to out (subst (λ (l : At). Took m (Exchange l 0 to) out m2) is took))
 
-      table_does : (stands : Making) (end : NewTable × Progress Table) → MakingFacts w i setting no_table no_blocks (Root setting.root) 0 stands
-          → StepsTold K V (NewTable × Progress Table) m changed.Nothing (new_table.plan_at n stands) m2 told end → Firsts map known told
+      table_does : (stands : Making) (end : NewTable × Advance Table) → MakingFacts w i setting no_table no_blocks (Root setting.root) 0 stands
+          → StepsTold K V (NewTable × Advance Table) m changed.Nothing (new_table.plan_at n stands) m2 told end → Firsts map known told
       table_does (makes.Sums before reason sum) end facts s = sums_do before reason sum sum.stands end s
       table_does (makes.Makes table) end facts s =
           subst (Firsts map known) (sym s.1.1)
@@ -147,9 +147,9 @@ module _ {K V : Type 0} (map : ℕ) (known : Known) where
       table_does (makes.Refused fault) end facts s = subst (Firsts map known) (sym s.2) refl
 
     -- and of the map
-    module _ (m m2 : Mem (Node K V)) (told : Changed) (roots : ℕ) (n : NewMap) (end : NewMap × Progress Setting) where
+    module _ (m m2 : Mem (Node K V)) (told : Changed) (roots : ℕ) (n : NewMap) (end : NewMap × Advance Setting) where
       map_does : (stands : Opening) → OpeningFacts w roots i n stands → (HasMade stands → known.roles n.setting.counter ≡ role.Counter map)
-          → StepsTold K V (NewMap × Progress Setting) m changed.Nothing (new_map.plan_at n stands) m2 told end → Firsts map known told
+          → StepsTold K V (NewMap × Advance Setting) m changed.Nothing (new_map.plan_at n stands) m2 told end → Firsts map known told
       map_does opens.Takes facts noted s = subst (Firsts map known) (sym s.1.1) (takes_root m n.setting.root 0 1 s.0)
       map_does opens.Shards facts noted s = subst (Firsts map known) (sym s.1.1) (makes_shards m ((n.setting.mask + 1) % 2 ^ 64) s.0)
       map_does (opens.Tables making) facts noted s =

@@ -6,8 +6,8 @@ use Rattle.run_executor.specs.Given.SeizeWordsDeclared.fault.Fault.TheVariants.{
 use Rattle.run_executor.specs.Given.SeizeWordsMem.{Mem, value_at}
 use Rattle.run_executor.specs.Given.SeizeWordsOp.{Out, Found, Stored, Exchanged, Made, Taken, Roomed, Exchange}
 use Rattle.run_executor.specs.Given.SeizeWordsPlan.{Ends}
-use Rattle.papaya_raw.specs.Given.SeizeDeclared.progress.Progress.{Progress}
-use Rattle.papaya_raw.specs.Given.SeizeDeclared.progress.Progress.TheVariants as progress
+use Rattle.papaya_raw.specs.Given.SeizeDeclared.advance.Advance.{Advance}
+use Rattle.papaya_raw.specs.Given.SeizeDeclared.advance.Advance.TheVariants as progress
 use Rattle.papaya_raw.specs.Given.TablesDeclared.node.Node.{Node}
 use Rattle.papaya_raw.specs.Given.TablesDeclared.setting.Setting.{Setting}
 use Rattle.papaya_raw.specs.Given.TablesDeclared.table.Table.{Table}
@@ -37,7 +37,7 @@ MayBeRefused did (opens.Frees fault) = fault ≡ Memory
 MayBeRefused did _ = ⊥
 
 -- So it goes on, or is refused.
-abbrev pub IsRefusedSo : List Effect → NewMap × Progress Setting → Type 0
+abbrev pub IsRefusedSo : List Effect → NewMap × Advance Setting → Type 0
 IsRefusedSo did (n, progress.Goes) = MayBeRefused did n.stands
 IsRefusedSo did (n, progress.Refused fault) = (fault ≡ Memory) ⊎ (did ≡ [])
 IsRefusedSo did (n, _) = Unit {0}
@@ -57,10 +57,10 @@ module _ {K V : Type 0} (map : ℕ) (known : Known) where
     abbrev did2 : List Effect
     did2 = did ++ effects_of (acts.Making map) known told
 
-    abbrev Then : NewMap × Progress Setting → Type 0
+    abbrev Then : NewMap × Advance Setting → Type 0
     Then = IsRefusedSo did2
 
-    takes_then : n.stands ≡ opens.Takes → did2 ≡ [] → (end : NewMap × Progress Setting) (out : Out (Node K V)) → Ends (value_at m2) (new_map.taken n out) end → Then end
+    takes_then : n.stands ≡ opens.Takes → did2 ≡ [] → (end : NewMap × Advance Setting) (out : Out (Node K V)) → Ends (value_at m2) (new_map.taken n out) end → Then end
     takes_then is none end out ends = by out ends
       where
         still : MayBeRefused did2 n.stands
@@ -83,7 +83,7 @@ module _ {K V : Type 0} (map : ℕ) (known : Known) where
     abbrev counted : ℕ → NewMap
     counted b = record n { setting = new_map.with_counter n.setting b }
 
-    shards_then : n.stands ≡ opens.Shards → (end : NewMap × Progress Setting) (out : Out (Node K V)) → Ends (value_at m2) (new_map.made n out) end → Then end
+    shards_then : n.stands ≡ opens.Shards → (end : NewMap × Advance Setting) (out : Out (Node K V)) → Ends (value_at m2) (new_map.made n out) end → Then end
     shards_then is end out ends = by out ends
       where
         still : MayBeRefused did2 n.stands
@@ -102,14 +102,14 @@ module _ {K V : Type 0} (map : ℕ) (known : Known) where
         by (Taken value) e = subst Then (sym e) still
         by (Roomed roomed) e = subst Then (sym e) still
 
-    opened_then : (inner : NewTable × Progress Table) → TableThen map known told inner → (end : NewMap × Progress Setting) → end ≡ new_map.opened n inner → Then end
+    opened_then : (inner : NewTable × Advance Table) → TableThen map known told inner → (end : NewMap × Advance Setting) → end ≡ new_map.opened n inner → Then end
     opened_then (t, progress.Goes) so end e = subst Then (sym e) so
     opened_then (t, progress.Waits) so end e = absurd so
     opened_then (t, progress.Done table) so end e = subst Then (sym e) tt
     opened_then (t, progress.Refused fault) so end e = subst Then (sym e) so.0
 
-    point_then : (stands : Opening) → n.stands ≡ stands → MayBeRefused did stands → (end : NewMap × Progress Setting)
-        → StepsTold K V (NewMap × Progress Setting) m changed.Nothing (new_map.plan_at n stands) m2 told end → Then end
+    point_then : (stands : Opening) → n.stands ≡ stands → MayBeRefused did stands → (end : NewMap × Advance Setting)
+        → StepsTold K V (NewMap × Advance Setting) m changed.Nothing (new_map.plan_at n stands) m2 told end → Then end
     point_then opens.Takes is so end s =
         let none = ap (effects_of (acts.Making map) known) s.1.1 ∙ takes_nothing m n.setting.root s.0 in takes_then is (ap (λ (l : List Effect). l ++ effects_of (acts.Making map) known told) so ∙ none) end s.0 s.2
     point_then opens.Shards is so end s = shards_then is end s.0 s.2
@@ -121,5 +121,5 @@ module _ {K V : Type 0} (map : ℕ) (known : Known) where
     point_then (opens.Refused fault) is so end s = absurd so
 
     -- so it is by each step
-    pub refused_so : MayBeRefused did n.stands → (end : NewMap × Progress Setting) → StepsTold K V (NewMap × Progress Setting) m changed.Nothing (new_map.new_map_plan n) m2 told end → Then end
+    pub refused_so : MayBeRefused did n.stands → (end : NewMap × Advance Setting) → StepsTold K V (NewMap × Advance Setting) m changed.Nothing (new_map.new_map_plan n) m2 told end → Then end
     refused_so so end s = point_then n.stands refl so end s

@@ -10,8 +10,8 @@ use Rattle.run_executor.specs.Given.SeizeWordsOp.{Out, Exchange, Room, Found, St
 use Rattle.run_schedules.specs.Given.SeizeWordsPlace.{capacity}
 use Rattle.run_executor.specs.Given.SeizeWordsPlan.{May, Steps}
 use Rattle.run_executor.proofs.Given.SeizeWordsPlaces.Words.{capacity_le_capacity}
-use Rattle.papaya_raw.specs.Given.SeizeDeclared.progress.Progress.{Progress}
-use Rattle.papaya_raw.specs.Given.SeizeDeclared.progress.Progress.TheVariants as progress
+use Rattle.papaya_raw.specs.Given.SeizeDeclared.advance.Advance.{Advance}
+use Rattle.papaya_raw.specs.Given.SeizeDeclared.advance.Advance.TheVariants as progress
 use Rattle.papaya_raw.specs.Given.SeizeDeclared.rows.register.Register.{Register}
 use Rattle.papaya_raw.specs.Given.SeizeDeclared.rows.register.Registering.{Registering}
 use Rattle.papaya_raw.specs.Given.SeizeDeclared.rows.register.Registering.TheVariants as at
@@ -90,7 +90,7 @@ module _ {K V : Type 0} (m m2 : Mem (Node K V)) (known : Known) (noted : SlotsNo
   exchange_tells place old new (Taken value) told_is = cc (told_is, is)
   exchange_tells place old new (Roomed roomed) told_is = cc (told_is, is)
 
-  pub lacks_at : (c : Register) (p : Registering) (end : Register × Progress ℕ) → StepsTold K V (Register × Progress ℕ) m changed.Nothing (plan_at c p) m2 told end → May Can Took value_at m (plan_at {T = Node K V} c p)
+  pub lacks_at : (c : Register) (p : Registering) (end : Register × Advance ℕ) → StepsTold K V (Register × Advance ℕ) m changed.Nothing (plan_at c p) m2 told end → May Can Took value_at m (plan_at {T = Node K V} c p)
       → AsksAt p bucket × Lacks
   lacks_at c at.Begin end s may = let r = room_lacks 0 s.0 s.1.0 s.1.1 may.0 in (sym r.0, r.1)
   lacks_at c at.Look end s may = none_told s.1.1
@@ -134,11 +134,11 @@ module _ {K V : Type 0} (same : K → K → Bool) (hash : ℕ → K → ℕ) (i 
         (refused_at now.memory bucket lacks c c.stands asks) refl
 
     needs_by : Comes s.world.uses enters i (registers_on now i c now.memory (refused c Memory)) (refused c Memory) → NeedsSlot s.world.uses now.memory
-    needs_by (GoesOn c2 is row2 on2) = absurd (let told = ap (λ (q : Register × Progress ℕ). q.1) is in cc told)
-    needs_by (TakesFirst c2 slot is row2 first used2) = absurd (let told = ap (λ (q : Register × Progress ℕ). q.1) is in cc told)
+    needs_by (GoesOn c2 is row2 on2) = absurd (let told = ap (λ (q : Register × Advance ℕ). q.1) is in cc told)
+    needs_by (TakesFirst c2 slot is row2 first used2) = absurd (let told = ap (λ (q : Register × Advance ℕ). q.1) is in cc told)
     needs_by (IsRefused c2 fault is row2 used2 (inl (memory, needs))) = (needs.0, needs.1, needs.2, few needs.0 needs.4)
     needs_by (IsRefused c2 fault is row2 used2 (inr (used_up, none))) =
-        absurd (let told : progress.Refused Memory ≡ progress.Refused fault = ap (λ (q : Register × Progress ℕ). q.1) is in let memory : Memory ≡ fault = cc told in cc (memory, used_up))
+        absurd (let told : progress.Refused Memory ≡ progress.Refused fault = ap (λ (q : Register × Advance ℕ). q.1) is in let memory : Memory ≡ fault = cc told in cc (memory, used_up))
 
     -- where a bucket is asked for that is not known
     pub asks_in_need : (m2 : Mem (Node K V)) (told : Changed) (after : SlotRow) (said : RowTold (Node K V)) → RowSteps K V (rows.Registers c) e.memory m2 told (after, said)
@@ -149,5 +149,5 @@ module _ {K V : Type 0} (same : K → K → Bool) (hash : ℕ → K → ℕ) (i 
         lacks : AsksAt c.stands bucket × (length now.memory.slots + 32 ≡ capacity bucket)
         lacks =
             lacks_at now.memory m2 known (subst (λ (m : Mem (Node K V)). SlotsNoted known m) (sym here.memory) noted) told bucket had is unknown c c.stands went.0
-            (subst (λ (m : Mem (Node K V)). StepsTold K V (Register × Progress ℕ) m changed.Nothing (register_plan c) m2 told went.0) (sym here.memory) went.1)
+            (subst (λ (m : Mem (Node K V)). StepsTold K V (Register × Advance ℕ) m changed.Nothing (register_plan c) m2 told went.0) (sym here.memory) went.1)
             (row_may deferred_word (LAST_SLOT + 1) size refl now good i (Registers c) here.row)

@@ -4,15 +4,15 @@ use Rattle.std.specs.List.{list_all}
 use Rattle.std.proofs.Common.{refl, ap, sym, subst, ◌∙◌, arith, length-append}
 use Rattle.std.proofs.lemmas.Bool.{and_parts, eq-eqb}
 use Rattle.std.proofs.lemmas.List.Elements.{filter-append}
-use Rattle.papaya_raw.specs.Given.SeizeDeclared.progress.Progress.{Progress}
-use Rattle.papaya_raw.specs.Given.SeizeDeclared.progress.Progress.TheVariants as progress
+use Rattle.papaya_raw.specs.Given.SeizeDeclared.advance.Advance.{Advance}
+use Rattle.papaya_raw.specs.Given.SeizeDeclared.advance.Advance.TheVariants as progress
 use Rattle.papaya_raw.specs.Given.TablesDeclared.setting.Setting.{Setting}
 use Rattle.papaya_raw.specs.Given.TablesDeclared.table.Table.{Table as Planned}
 use Rattle.run_schedules.specs.declared.shapes.TableShape.{TableShape}
 use Rattle.run_schedules.specs.declared.effect.Effect.{Effect}
 use Rattle.run_schedules.specs.declared.effect.Effect.TheVariants as effect
 use Rattle.run_schedules.specs.declared.effect.Growth.TheVariants.{ABlock}
-use Rattle.run_schedules.specs.declared.effect.Table.{Table}
+use Rattle.run_schedules.specs.declared.effect.TableId.{TableId}
 use Rattle.run_schedules.specs.Schedules.Effects.{with_effect, with_effects}
 use Rattle.run_schedules.specs.Schedules.Handing.{is_first_making, is_table_made}
 use Rattle.run_schedules.specs.Schedules.Moment.{IsLinked as AtLinked, TableThere, Moment}
@@ -35,7 +35,7 @@ use Rattle.run_executor.specs.Given.ScenesHeld.{Held, IsAt}
 use Rattle.run_executor.specs.Given.ScenesMaking.{MakingLeads}
 use Rattle.run_executor.specs.Given.ScenesScene.{Scene}
 
-abbrev linked : Table → TableShape → TableThere
+abbrev linked : TableId → TableShape → TableThere
 linked t shape = record { table = t; shape = shape; stage = AtLinked }
 
 -- Of the effects of a making those that say nothing of tables make none, and the map has as many as before.
@@ -56,14 +56,14 @@ module _ {K V : Type 0} (map : ℕ) (of : Option ℕ) where
       by _ first quiet rest = absurd (cc first)
 
   -- one that links a table brings it to the map
-  one_more : (t : Table) (shape : TableShape) (m : Moment K V) → t.map ≡ map → length (tables_of map (with_effects None of (effect.Linked t shape ∷ []) m)) ≡ length (tables_of map m) + 1
+  one_more : (t : TableId) (shape : TableShape) (m : Moment K V) → t.map ≡ map → length (tables_of map (with_effects None of (effect.Linked t shape ∷ []) m)) ≡ length (tables_of map m) + 1
   one_more t shape m its =
       ap length (filter-append (λ (u : TableThere). u.table.map == map) m.tables (linked t shape ∷ []))
       ∙ length-append (tables_of map m) (filter (λ (u : TableThere). u.table.map == map) (linked t shape ∷ []))
       ∙ ap (λ (q : Bool). length (tables_of map m) + length (if q then linked t shape ∷ [] else [])) (eq-eqb t.map map its)
 
 module _ {K V : Type 0} (same : K → K → Bool) (hash : ℕ → K → ℕ) (name : ℕ → List ℕ) (m : Moment K V) (known : Known) (s : Scene K V) (old new : Held K V) (at_s : IsAt same hash old s)
-    (shown : Shows same name m known s) (tables : ShowsTables name m known s) (i : ℕ) (told : Progress Setting) (leads : MakingLeads same hash i told s old new)
+    (shown : Shows same name m known s) (tables : ShowsTables name m known s) (i : ℕ) (told : Advance Setting) (leads : MakingLeads same hash i told s old new)
     (b : Beginning K) (here : s.makers i ≡ Some b) (noted : NotesCounter known b) (of : Option ℕ) (done : List Effect) (counts : CountsTables b.map done m (table_left b.machine progress.Goes)) where
   abbrev its : Acting
   its = acts.Making b.map

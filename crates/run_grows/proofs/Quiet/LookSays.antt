@@ -3,8 +3,8 @@ use Rattle.std.specs.Prelude.{◌≡◌, ℕ, Bool}
 use Rattle.std.proofs.Common.{refl, sym, ap, ◌∙◌}
 use Rattle.run_schedules.specs.Given.SeizeWordsMem.{Mem, Took, value_at}
 use Rattle.run_schedules.specs.Given.SeizeWordsPlan.{Steps, plan_as}
-use Rattle.papaya_raw.specs.Given.SeizeDeclared.progress.Progress.{Progress as Counted}
-use Rattle.papaya_raw.specs.Given.SeizeDeclared.progress.Progress.TheVariants as counts
+use Rattle.papaya_raw.specs.Given.SeizeDeclared.advance.Advance.{Advance as Counted}
+use Rattle.papaya_raw.specs.Given.SeizeDeclared.advance.Advance.TheVariants as counts
 use Rattle.run_executor.proofs.Given.SeizeRuleRows.Leaving.{steps_back}
 use Rattle.papaya_raw.specs.Given.TablesDeclared.node.Node.{Node}
 use Rattle.run_logged.specs.Given.ResizeSum.{sum_plan}

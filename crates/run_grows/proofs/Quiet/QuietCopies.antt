@@ -19,8 +19,8 @@ use Rattle.run_logged.specs.Given.ResizeDeclared.copier.Copier.{Copier}
 use Rattle.run_logged.specs.Given.ResizeDeclared.copier.Copying.{Copying}
 use Rattle.run_logged.specs.Given.ResizeDeclared.copier.Copying.TheVariants as copies
 use Rattle.run_logged.specs.Given.ResizeDeclared.dispose.Dispose.{Dispose}
-use Rattle.run_logged.specs.Given.ResizeDeclared.outcome.Outcome.{Outcome}
-use Rattle.run_logged.specs.Given.ResizeDeclared.outcome.Outcome.TheVariants as outcome
+use Rattle.run_logged.specs.Given.ResizeDeclared.yielding.Yielding.{Yielding}
+use Rattle.run_logged.specs.Given.ResizeDeclared.yielding.Yielding.TheVariants as outcome
 use Rattle.papaya_raw.specs.Given.ReservesReserve as rooms
 use Rattle.papaya_raw.specs.Given.ReservesDeclared.reserve.Reserve.{Reserve}
 use Rattle.papaya_raw.specs.Given.ReservesDeclared.reserve.Reserving.{Reserving}
@@ -44,7 +44,7 @@ use Rattle.run_executor.specs.Given.EffectsDeclared.acting.Acting.{Acting}
 use Rattle.run_executor.specs.Given.EffectsDeclared.role.Role.{Role}
 use Rattle.run_executor.specs.Given.EffectsDeclared.role.Role.TheVariants as role
 use Rattle.run_executor.proofs.Given.OthersOutcomes.{told_in}
-use Rattle.run_schedules.specs.declared.effect.Table.{Table as Numbered}
+use Rattle.run_schedules.specs.declared.effect.TableId.{TableId as Numbered}
 use Rattle.run_logged.proofs.Given.OwesTables.Hosts.{Step}
 use Rattle.run_logged.proofs.Given.WaitsCopyings.{SweepsOn, telling_goes}
 use Rattle.run_logged.specs.Given.WaitsWaits.{CopierAwaits}
@@ -79,12 +79,12 @@ quiet_does acting known incremental told b table (inr (mode, (field, old, is))) 
 
 module _ {K V : Type 0} (m m2 : Mem (Node K V)) (told : Changed) (hash : K → ℕ) where
   -- within a copier
-  marks_told : (p : Copier) (end : Copier × Outcome (Node K V) Table) → Step m m2 told (copiers.plan_at hash p copies.Marks) end → Marked told (block_in p.source.link)
+  marks_told : (p : Copier) (end : Copier × Yielding (Node K V) Table) → Step m m2 told (copiers.plan_at hash p copies.Marks) end → Marked told (block_in p.source.link)
   marks_told p end (Found word, (took, is), ends) = ((p.place + PLACES) % 2 ^ 64, word, is)
   marks_told p end (_, (took, is), ends) = absurd took.0
 
   pub copier_told : (c : Chart K) (incremental : Bool) (p : Copier) (stands : Copying) → p.stands ≡ stands → CopierAwaits c incremental p stands
-      → (end : Copier × Outcome (Node K V) Table) → Step m m2 told (copier_plan hash p) end → IsQuiet incremental told (block_in p.source.link)
+      → (end : Copier × Yielding (Node K V) Table) → Step m m2 told (copier_plan hash p) end → IsQuiet incremental told (block_in p.source.link)
   copier_told c incremental p copies.Asks here awaits end s = inl (read (subst (λ (q : Copying). Step m m2 told (copiers.plan_at hash p q) end) here s))
     where
       read : Step m m2 told (copiers.plan_at hash p copies.Asks) end → told ≡ changed.Nothing
@@ -94,21 +94,21 @@ module _ {K V : Type 0} (m m2 : Mem (Node K V)) (told : Changed) (hash : K → �
 
   -- a reservation
   module _ (r : Reserve) where
-    room_within : (to : Copier × Outcome (Node K V) Table) → (rooms.copied r to).1 ≡ outcome.Waits → to.1 ≡ outcome.Waits
+    room_within : (to : Copier × Yielding (Node K V) Table) → (rooms.copied r to).1 ≡ outcome.Waits → to.1 ≡ outcome.Waits
     room_within (next, outcome.Waits) e = refl
     room_within (next, outcome.Goes) e = absurd (cc e)
     room_within (next, outcome.Gave value) e = absurd (cc e)
     room_within (next, outcome.Done table) e = absurd (cc e)
     room_within (next, outcome.Refused fault) e = absurd (cc e)
 
-    pub room_row_quiet : (stands : Reserving) → IsRowOfReserve stands → (to : Reserve × Outcome (Node K V) Unit) → Step m m2 told (rooms.plan_at hash r stands) to → to.1 ≡ outcome.Waits
+    pub room_row_quiet : (stands : Reserving) → IsRowOfReserve stands → (to : Reserve × Yielding (Node K V) Unit) → Step m m2 told (rooms.plan_at hash r stands) to → to.1 ≡ outcome.Waits
         → told ≡ changed.Nothing
     room_row_quiet (reserves.Copies copier) row to s e =
         let it = told_in m m2 told (rooms.copied r) (copier_plan hash copier) to s in
-        copier_quiet m m2 told hash copier copier.stands row it.0 it.2 (room_within it.0 (ap (λ (x : Reserve × Outcome (Node K V) Unit). x.1) (sym it.1) ∙ e))
+        copier_quiet m m2 told hash copier copier.stands row it.0 it.2 (room_within it.0 (ap (λ (x : Reserve × Yielding (Node K V) Unit). x.1) (sym it.1) ∙ e))
     room_row_quiet _ row to s e = absurd row
 
-    pub room_copier_told : (c : Chart K) (incremental : Bool) (copier : Copier) → CopierAwaits c incremental copier copier.stands → (to : Reserve × Outcome (Node K V) Unit)
+    pub room_copier_told : (c : Chart K) (incremental : Bool) (copier : Copier) → CopierAwaits c incremental copier copier.stands → (to : Reserve × Yielding (Node K V) Unit)
         → Step m m2 told (rooms.plan_at hash r (reserves.Copies copier)) to → IsQuiet incremental told (block_in copier.source.link)
     room_copier_told c incremental copier awaits to s =
         let it = told_in m m2 told (rooms.copied r) (copier_plan hash copier) to s in copier_told c incremental copier copier.stands refl awaits it.0 it.2
@@ -118,7 +118,7 @@ module _ {K V : Type 0} (m m2 : Mem (Node K V)) (told : Changed) (hash : K → �
     goes_not : (x : Sweep × Swept (Node K V)) → SweepsOn x → x.1 ≡ swept.Waits → ⊥
     goes_not (q, said) on e = subst (λ (y : Swept (Node K V)). SweepsOn {S = Sweep} (q, y)) e on
 
-    sweep_within : (to : Copier × Outcome (Node K V) Table) → (plans.copied o to).1 ≡ swept.Waits → to.1 ≡ outcome.Waits
+    sweep_within : (to : Copier × Yielding (Node K V) Table) → (plans.copied o to).1 ≡ swept.Waits → to.1 ≡ outcome.Waits
     sweep_within (next, outcome.Waits) e = refl
     sweep_within (next, outcome.Goes) e = absurd (cc e)
     sweep_within (next, outcome.Gave value) e = absurd (cc e)

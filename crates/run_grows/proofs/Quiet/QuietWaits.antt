@@ -4,8 +4,8 @@ use Rattle.run_schedules.specs.Given.SeizeWordsMem.{Mem}
 use Rattle.papaya_raw.specs.Given.SeizeDefer.{defer_plan}
 use Rattle.papaya_raw.specs.Given.SeizeSettle.{settle_plan}
 use Rattle.papaya_raw.specs.Given.SeizeSettle as settles
-use Rattle.papaya_raw.specs.Given.SeizeDeclared.progress.Progress.{Progress as Counted}
-use Rattle.papaya_raw.specs.Given.SeizeDeclared.progress.Progress.TheVariants as counts
+use Rattle.papaya_raw.specs.Given.SeizeDeclared.advance.Advance.{Advance as Counted}
+use Rattle.papaya_raw.specs.Given.SeizeDeclared.advance.Advance.TheVariants as counts
 use Rattle.papaya_raw.specs.Given.SeizeDeclared.rows.defer.Defer.{Defer}
 use Rattle.papaya_raw.specs.Given.SeizeDeclared.rows.settle.Settle.{Settle}
 use Rattle.papaya_raw.specs.Given.SeizeDeclared.rows.settle.Settled.{Settled}
@@ -28,8 +28,8 @@ use Rattle.run_logged.specs.Given.ResizeDeclared.copier.Copying.TheVariants as c
 use Rattle.run_logged.specs.Given.ResizeDeclared.dispose.Dispose.{Dispose}
 use Rattle.run_logged.specs.Given.ResizeDeclared.dispose.Disposing.{Disposing}
 use Rattle.run_logged.specs.Given.ResizeDeclared.dispose.Disposing.TheVariants as disposing
-use Rattle.run_logged.specs.Given.ResizeDeclared.outcome.Outcome.{Outcome}
-use Rattle.run_logged.specs.Given.ResizeDeclared.outcome.Outcome.TheVariants as outcome
+use Rattle.run_logged.specs.Given.ResizeDeclared.yielding.Yielding.{Yielding}
+use Rattle.run_logged.specs.Given.ResizeDeclared.yielding.Yielding.TheVariants as outcome
 use Rattle.papaya_raw.specs.Call as calls
 use Rattle.papaya_raw.specs.CallPoints.{ending}
 use Rattle.papaya_raw.specs.declared.machines.answer.Called.{Called}
@@ -93,10 +93,10 @@ module _ {K V : Type 0} (m m2 : Mem (Node K V)) (told : Changed) where
     by_retired settle rest (next, settled.Gave value) s e = absurd (cc e)
     by_retired settle rest (next, settled.Done) s e = absurd (cc e)
 
-    pub copier_quiet : (stands : Copying) → IsRowOfCopier stands → (to : Copier × Outcome (Node K V) Table) → Step m m2 told (copiers.plan_at hash p stands) to → to.1 ≡ outcome.Waits → told ≡ changed.Nothing
+    pub copier_quiet : (stands : Copying) → IsRowOfCopier stands → (to : Copier × Yielding (Node K V) Table) → Step m m2 told (copiers.plan_at hash p stands) to → to.1 ≡ outcome.Waits → told ≡ changed.Nothing
     copier_quiet (copies.Retires settle rest) row to s e =
         let it = told_in m m2 told (retired p rest) (settle_plan deferred_word settle) to s in
-        by_retired settle rest it.0 it.2 (ap (λ (x : Copier × Outcome (Node K V) Table). x.1) (sym it.1) ∙ e)
+        by_retired settle rest it.0 it.2 (ap (λ (x : Copier × Yielding (Node K V) Table). x.1) (sym it.1) ∙ e)
     copier_quiet _ row to s e = absurd row
 
   -- a call on one key, at a row within it
@@ -120,7 +120,7 @@ module _ {K V : Type 0} (m m2 : Mem (Node K V)) (told : Changed) where
     by_dispose dispose answer row (next, settled.Gave value) s e = absurd (cc e)
     by_dispose dispose answer row (next, settled.Done) s e = absurd (cc e)
 
-    by_help : (copier : Copier) (goal : Table) → IsRowOfCopier copier.stands → (to : Copier × Outcome (Node K V) Table) → Step m m2 told (copier_plan hash copier) to
+    by_help : (copier : Copier) (goal : Table) → IsRowOfCopier copier.stands → (to : Copier × Yielding (Node K V) Table) → Step m m2 told (copier_plan hash copier) to
         → (calls.helped p goal to).1 ≡ says.Waits → told ≡ changed.Nothing
     by_help copier goal row (next, outcome.Waits) s e = copier_quiet hash copier copier.stands row (next, outcome.Waits) s refl
     by_help copier goal row (next, outcome.Goes) s e = absurd (cc e)
@@ -128,7 +128,7 @@ module _ {K V : Type 0} (m m2 : Mem (Node K V)) (told : Changed) where
     by_help copier goal row (next, outcome.Done table) s e = absurd (cc e)
     by_help copier goal row (next, outcome.Refused fault) s e = absurd (not_ending (ends.Refused fault) e)
 
-    by_copy : (copier : Copier) → IsRowOfCopier copier.stands → (to : Copier × Outcome (Node K V) Table) → Step m m2 told (copier_plan hash copier) to
+    by_copy : (copier : Copier) → IsRowOfCopier copier.stands → (to : Copier × Yielding (Node K V) Table) → Step m m2 told (copier_plan hash copier) to
         → (calls.copied p to).1 ≡ says.Waits → told ≡ changed.Nothing
     by_copy copier row (next, outcome.Waits) s e = copier_quiet hash copier copier.stands row (next, outcome.Waits) s refl
     by_copy copier row (next, outcome.Goes) s e = absurd (cc e)
@@ -160,5 +160,5 @@ module _ {K V : Type 0} (m m2 : Mem (Node K V)) (told : Changed) where
         let it = told_in m m2 told (calls.copied p) (copier_plan hash copier) to s in
         read it.0 (subst (λ (q : Copying). Step m m2 told (copiers.plan_at hash copier q) it.0) here it.2)
       where
-        read : (end : Copier × Outcome (Node K V) Table) → Step m m2 told (copiers.plan_at hash copier copies.Asks) end → told ≡ changed.Nothing
+        read : (end : Copier × Yielding (Node K V) Table) → Step m m2 told (copiers.plan_at hash copier copies.Asks) end → told ≡ changed.Nothing
         read end t = t.1.1

@@ -3,13 +3,13 @@ use Rattle.std.specs.Prelude.{ℕ, Bool}
 use Rattle.std.proofs.Common.{sym, subst}
 use Rattle.run_schedules.specs.Given.SeizeWordsMem.{Mem}
 use Rattle.run_schedules.specs.Given.SeizeWordsPlan.{plan_as}
-use Rattle.papaya_raw.specs.Given.SeizeDeclared.progress.Progress.{Progress as Counted}
-use Rattle.papaya_raw.specs.Given.SeizeDeclared.progress.Progress.TheVariants as counts
+use Rattle.papaya_raw.specs.Given.SeizeDeclared.advance.Advance.{Advance as Counted}
+use Rattle.papaya_raw.specs.Given.SeizeDeclared.advance.Advance.TheVariants as counts
 use Rattle.run_executor.proofs.Given.SeizeRuleRows.Leaving.{steps_back}
 use Rattle.papaya_raw.specs.Given.TablesDeclared.node.Node.{Node}
 use Rattle.run_logged.specs.Given.ResizeSum.{sum_plan}
-use Rattle.run_logged.specs.Given.ResizeDeclared.outcome.Outcome.{Outcome}
-use Rattle.run_logged.specs.Given.ResizeDeclared.outcome.Outcome.TheVariants as outcome
+use Rattle.run_logged.specs.Given.ResizeDeclared.yielding.Yielding.{Yielding}
+use Rattle.run_logged.specs.Given.ResizeDeclared.yielding.Yielding.TheVariants as outcome
 use Rattle.run_logged.specs.Given.ResizeDeclared.sum.Sum.{Sum}
 use Rattle.papaya_raw.specs.Given.ReservesReserve.{reserve_plan}
 use Rattle.papaya_raw.specs.Given.ReservesDeclared.reserve.Reserve.{Reserve}
@@ -39,7 +39,7 @@ module _ {K V : Type 0} where
   SaysRoom (progress.Refused fault) = IsRoom fault
   SaysRoom _ = Unit {0}
 
-  outcome_room : (end : Outcome (Node K V) Unit) → RefusesRoom end → SaysRoom (of_outcome end)
+  outcome_room : (end : Yielding (Node K V) Unit) → RefusesRoom end → SaysRoom (of_outcome end)
   outcome_room outcome.Goes so = tt
   outcome_room outcome.Waits so = tt
   outcome_room (outcome.Gave value) so = tt

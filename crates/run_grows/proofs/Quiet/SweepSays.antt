@@ -16,8 +16,8 @@ use Rattle.papaya_raw.specs.Given.ResizeCopier.{copier_plan}
 use Rattle.papaya_raw.specs.Given.ResizeDispose.{dispose_plan}
 use Rattle.run_logged.specs.Given.ResizeDeclared.copier.Copier.{Copier}
 use Rattle.run_logged.specs.Given.ResizeDeclared.dispose.Dispose.{Dispose}
-use Rattle.run_logged.specs.Given.ResizeDeclared.outcome.Outcome.{Outcome}
-use Rattle.run_logged.specs.Given.ResizeDeclared.outcome.Outcome.TheVariants as outcome
+use Rattle.run_logged.specs.Given.ResizeDeclared.yielding.Yielding.{Yielding}
+use Rattle.run_logged.specs.Given.ResizeDeclared.yielding.Yielding.TheVariants as outcome
 use Rattle.papaya_raw.specs.Given.SweepsSweep.{copied, disposed, next_read, plan_at, root_read, tried, word_found}
 use Rattle.papaya_raw.specs.Given.SweepsSweepPoints.{at_pair, beginning, entering, further, past, removes, seen, tableless, told, telling}
 use Rattle.papaya_raw.specs.Given.ReservesDeclared.sweep.Purpose.{Purpose}
@@ -82,7 +82,7 @@ module _ (K V : Type 0) (p : Sweep) (walks : p.purpose ≡ Walks) where
   next_says (Taken value) before = before
   next_says (Roomed r) before = before
 
-  copied_says : (end : Copier × Outcome (Node K V) Table) → SaysSo (copied p end)
+  copied_says : (end : Copier × Yielding (Node K V) Table) → SaysSo (copied p end)
   copied_says (c, outcome.Goes) = tt
   copied_says (c, outcome.Waits) = tt
   copied_says (c, outcome.Gave value) = tt
@@ -173,7 +173,7 @@ module _ (K V : Type 0) (p : Sweep) (takes : removes p.purpose ≡ true) where
   next_not (Taken value) = tt
   next_not (Roomed r) = tt
 
-  copied_not : (end : Copier × Outcome (Node K V) Table) → ShowsSo (copied p end)
+  copied_not : (end : Copier × Yielding (Node K V) Table) → ShowsSo (copied p end)
   copied_not (c, outcome.Goes) = tt
   copied_not (c, outcome.Waits) = tt
   copied_not (c, outcome.Gave value) = tt

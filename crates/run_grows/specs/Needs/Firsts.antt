@@ -2,7 +2,7 @@
 use Rattle.std.specs.Prelude.{◌≡◌, ℕ, Bool, true, List, [], max, Option, Some, None}
 use Rattle.std.specs.List.{list_all}
 use Rattle.papaya_raw.specs.Given.SeizeWorld.{with_at}
-use Rattle.papaya_raw.specs.Given.SeizeDeclared.progress.Progress.{Progress}
+use Rattle.papaya_raw.specs.Given.SeizeDeclared.advance.Advance.{Advance}
 use Rattle.papaya_raw.specs.Given.TablesProbes.{limit_of}
 use Rattle.papaya_raw.specs.Given.TablesDeclared.setting.Setting.{Setting}
 use Rattle.papaya_raw.specs.Given.TablesDeclared.table.Table.{Table as Planned}
@@ -64,14 +64,14 @@ module _ (K V : Type 0) (same : K → K → Bool) (hash : ℕ → K → ℕ) whe
   -- So it is after each step of a making, too.
   abbrev pub MakingsGoOn : Type 0
   MakingsGoOn =
-      (s : Scene K V) (old new : Held K V) → ShowsOpenings s → (i : ℕ) (told : Progress Setting) (leads : MakingLeads same hash i told s old new) (b : Beginning K) (here : s.makers i ≡ Some b)
+      (s : Scene K V) (old new : Held K V) → ShowsOpenings s → (i : ℕ) (told : Advance Setting) (leads : MakingLeads same hash i told s old new) (b : Beginning K) (here : s.makers i ≡ Some b)
       → (let to = leads b here in ShowsOpenings (making_after same hash s old new i b to.0 to.2.step.w2 told to.3))
 
   -- So the table that a step of the making of a map links, which is there without a table and is to have the places of its capacity, is the first that it must have.
   abbrev pub MakingsLinkFirst : Type 0
   MakingsLinkFirst =
       (name : ℕ → List ℕ) (m : Moment K V) (known : Known) (s : Scene K V) (old new : Held K V) → IsAt same hash old s → Shows same name m known s → ShowsTables name m known s → ShowsOpenings s
-      → (i : ℕ) (told : Progress Setting) (leads : MakingLeads same hash i told s old new) (b : Beginning K) (here : s.makers i ≡ Some b) (of : Option ℕ)
+      → (i : ℕ) (told : Advance Setting) (leads : MakingLeads same hash i told s old new) (b : Beginning K) (here : s.makers i ≡ Some b) (of : Option ℕ)
       → (f : MapThere) → map_at b.map m ≡ Some f → tables_of b.map m ≡ [] → map_fault f.mode f.capacity ≡ None → b.places ≡ first_places f.capacity
       → (let to = leads b here in
       let effects = effects_of (acts.Making b.map) known new.changed in

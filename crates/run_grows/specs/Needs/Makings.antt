@@ -1,8 +1,8 @@
 -- What the making of a map does: it asks for blocks, makes the map's first table, and links it.
 use Rattle.std.specs.Prelude.{◌≡◌, ℕ, ◌+◌, Bool, true, false, List, [], ◌++◌, length, filter, Option, Some, None}
 use Rattle.std.specs.List.{list_all}
-use Rattle.papaya_raw.specs.Given.SeizeDeclared.progress.Progress.{Progress}
-use Rattle.papaya_raw.specs.Given.SeizeDeclared.progress.Progress.TheVariants as progress
+use Rattle.papaya_raw.specs.Given.SeizeDeclared.advance.Advance.{Advance}
+use Rattle.papaya_raw.specs.Given.SeizeDeclared.advance.Advance.TheVariants as progress
 use Rattle.papaya_raw.specs.Given.TablesDeclared.setting.Setting.{Setting}
 use Rattle.papaya_raw.specs.Given.TablesDeclared.table.Table.{Table as Planned}
 use Rattle.run_logged.specs.Given.ResizeDeclared.new_map.NewMap.{NewMap}
@@ -28,7 +28,7 @@ use Rattle.run_executor.specs.Given.ScenesMaking.{MakingLeads}
 use Rattle.run_executor.specs.Given.ScenesScene.{Scene}
 
 -- the table that a making has made and not linked, by what it has told: one that is over has none
-abbrev pub table_left : NewMap → Progress Setting → Option Planned
+abbrev pub table_left : NewMap → Advance Setting → Option Planned
 table_left n progress.Goes = table_made (making_in_opening n.stands)
 table_left n _ = None
 
@@ -45,14 +45,14 @@ module _ (K V : Type 0) (same : K → K → Bool) (hash : ℕ → K → ℕ) whe
   abbrev pub MakingsDoTheirs : Type 0
   MakingsDoTheirs =
       (name : ℕ → List ℕ) (m : Moment K V) (known : Known) (s : Scene K V) (old new : Held K V) → IsAt same hash old s → Shows same name m known s
-      → (i : ℕ) (told : Progress Setting) → MakingLeads same hash i told s old new → (b : Beginning K) → s.makers i ≡ Some b → NotesCounter known b
+      → (i : ℕ) (told : Advance Setting) → MakingLeads same hash i told s old new → (b : Beginning K) → s.makers i ≡ Some b → NotesCounter known b
       → list_all is_first_making (effects_of (acts.Making b.map) known new.changed) ≡ true
 
   -- So it finds what it must where the map is there without a table, and is to have the places of its capacity, if the moment after the step shows it.
   abbrev pub MakingsFindTheirs : Type 0
   MakingsFindTheirs =
       (name : ℕ → List ℕ) (m : Moment K V) (known : Known) (s : Scene K V) (old new : Held K V) → IsAt same hash old s → Shows same name m known s → ShowsTables name m known s → ShowsOpenings s
-      → (i : ℕ) (told : Progress Setting) (leads : MakingLeads same hash i told s old new) (b : Beginning K) (here : s.makers i ≡ Some b) → NotesCounter known b → (of : Option ℕ)
+      → (i : ℕ) (told : Advance Setting) (leads : MakingLeads same hash i told s old new) (b : Beginning K) (here : s.makers i ≡ Some b) → NotesCounter known b → (of : Option ℕ)
       → (f : MapThere) → map_at b.map m ≡ Some f → tables_of b.map m ≡ [] → map_fault f.mode f.capacity ≡ None → b.places ≡ first_places f.capacity
       → (let to = leads b here in
       let effects = effects_of (acts.Making b.map) known new.changed in
@@ -63,7 +63,7 @@ module _ (K V : Type 0) (same : K → K → Bool) (hash : ℕ → K → ℕ) whe
   abbrev pub MakingsCountTables : Type 0
   MakingsCountTables =
       (name : ℕ → List ℕ) (m : Moment K V) (known : Known) (s : Scene K V) (old new : Held K V) → IsAt same hash old s → Shows same name m known s → ShowsTables name m known s
-      → (i : ℕ) (told : Progress Setting) (leads : MakingLeads same hash i told s old new) (b : Beginning K) (here : s.makers i ≡ Some b) → NotesCounter known b → (of : Option ℕ)
+      → (i : ℕ) (told : Advance Setting) (leads : MakingLeads same hash i told s old new) (b : Beginning K) (here : s.makers i ≡ Some b) → NotesCounter known b → (of : Option ℕ)
       → (done : List Effect) → CountsTables b.map done m (table_left b.machine progress.Goes)
       → (let to = leads b here in
       let effects = effects_of (acts.Making b.map) known new.changed in

@@ -13,7 +13,7 @@ use Rattle.run_places.specs.Given.RawDeclared.machines.call.KeyCall.{KeyCall}
 use Rattle.run_places.specs.Given.RawDeclared.machines.progress.Answer.TheVariants.{Key}
 use Rattle.run_places.specs.Given.RawDeclared.machines.progress.Progress.{Progress}
 use Rattle.run_places.specs.Given.RawDeclared.machines.progress.Progress.TheVariants.{Done}
-use Rattle.run_places.specs.Given.RunsDeclared.call.Answer.{Answer}
+use Rattle.run_places.specs.Given.RunsDeclared.call.Response.{Response}
 use Rattle.run_places.specs.Given.RunsDeclared.call.Call.TheVariants.{On}
 use Rattle.run_places.specs.Given.RunsDeclared.call.OneKey.{OneKey}
 use Rattle.run_places.specs.Given.SchedulesLinearizable.{meaning_at}
@@ -170,7 +170,7 @@ module _ {K V : Type 0} (same : K → K → Bool) (hash : ℕ → K → ℕ) (na
     (at : IsAt same hash old s) (whole : ShowsWhole same name m known s) (history : ShowsHistory same name log m known s) (map i : ℕ) (x : CallOnKey K V K)
     (here : s.calls map i ≡ Some (OnKey x)) (answer : KeyAnswer) (leads : StepLeads same hash i (Done (Key answer)) s old new)
     (c : CallThere K V) (c_is : call_of (name i) m ≡ Some c) (one : OneKey K V) (one_is : c.call ≡ On one)
-    (still : finite_map same map m (key_of one) ≡ finite_map same map log.now (key_of one)) (a : Answer V) where
+    (still : finite_map same map m (key_of one) ≡ finite_map same map log.now (key_of one)) (a : Response V) where
   abbrev said : Progress (Node K V)
   said = Done (Key answer)
 

@@ -6,7 +6,7 @@ use Rattle.run_places.specs.Given.TablesChunks.{is_incremental}
 use Rattle.run_places.specs.Given.TablesDeclared.node.Node.{Node}
 use Rattle.run_places.specs.Given.RawDeclared.machines.progress.Progress.{Progress}
 use Rattle.run_places.specs.Given.RunsSame.{is_same}
-use Rattle.run_places.specs.Given.RunsDeclared.call.Answer.{Answer}
+use Rattle.run_places.specs.Given.RunsDeclared.call.Response.{Response}
 use Rattle.run_places.specs.Given.RunsDeclared.call.Call.{Call}
 use Rattle.run_places.specs.Given.RunsDeclared.call.Call.TheVariants.{On}
 use Rattle.run_places.specs.Given.RunsDeclared.call.OneKey.{OneKey}
@@ -83,7 +83,7 @@ module _ {K V : Type 0} (number number2 : ℕ → ℕ) (stored stored2 : ℕ) (n
       (omega (arith, l, more), a, new, said_on (Some (number o)) (Some (number2 o)) new new (Answers a Takes) (ap Some (numbers o l)) refl said, due_is ∙ due)
 
 -- of what a call means, what it owes
-due_of : {V : Type 0} (meaning : Meaning V) (a : Answer V) (d : Deed V) → meaning ≡ Answers a d → answer_due meaning ≡ Some a
+due_of : {V : Type 0} (meaning : Meaning V) (a : Response V) (d : Deed V) → meaning ≡ Answers a d → answer_due meaning ≡ Some a
 due_of meaning a d is = ap (λ (z : Meaning _). answer_due z) is
 
 due_when : {K V : Type 0} (its : Call K V) (c : CallThere K V) (one : OneKey K V) (old : Option ℕ) (new : ℕ) → its ≡ On one → (due_for its c old new).due ≡ answer_due (means one (reply_to old c.replies) old new)

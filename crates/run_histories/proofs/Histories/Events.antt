@@ -8,7 +8,7 @@ use Rattle.run_places.specs.Given.RawDeclared.machines.answer.KeyAnswer.{KeyAnsw
 use Rattle.run_places.specs.Given.RawDeclared.machines.progress.Answer.TheVariants as machine
 use Rattle.run_places.specs.Given.RawDeclared.machines.progress.Progress.{Progress}
 use Rattle.run_places.specs.Given.RawDeclared.machines.progress.Progress.TheVariants as progress
-use Rattle.run_places.specs.Given.RunsDeclared.call.Answer.{Answer}
+use Rattle.run_places.specs.Given.RunsDeclared.call.Response.{Response}
 use Rattle.run_places.specs.Given.RunsDeclared.call.Call.{Call}
 use Rattle.run_places.specs.Given.RunsDeclared.call.Call.TheVariants.{On}
 use Rattle.run_places.specs.Given.RunsDeclared.call.OneKey.{OneKey}
@@ -90,19 +90,19 @@ module _ {K V : Type 0} (same : K → K → Bool) (hash : ℕ → K → ℕ) (na
       ∙ is) so)
 
   -- what is answered is due
-  answered : (answer : KeyAnswer) (leads : StepLeads same hash i (progress.Done (machine.Key answer)) s old new) (a : Answer V)
+  answered : (answer : KeyAnswer) (leads : StepLeads same hash i (progress.Done (machine.Key answer)) s old new) (a : Response V)
       → IsToldAs known2 one there.replies answer a ⊎ IsToldDone known2 one there.replies answer a
       → AnswersDue same one (call_then (progress.Done (machine.Key answer)) leads) (log.since (call_then (progress.Done (machine.Key answer)) leads).begun)
       (call_then (progress.Done (machine.Key answer)) leads).due a
   answered answer leads a (inl told) =
-      subst (λ (o : Option (Answer V)). AnswersDue same one (call_then (progress.Done (machine.Key answer)) leads) (log.since (call_then (progress.Done (machine.Key answer)) leads).begun) o a)
+      subst (λ (o : Option (Response V)). AnswersDue same one (call_then (progress.Done (machine.Key answer)) leads) (log.since (call_then (progress.Done (machine.Key answer)) leads).begun) o a)
       (sym (due_none same hash name log m known s old new at midst.whole midst.dues map i u midst.here answer leads there midst.there_is one there_one (call_then (progress.Done (machine.Key answer)) leads) (call_is (progress.Done (machine.Key answer)) leads) a told))
       (means_on there (call_then (progress.Done (machine.Key answer)) leads) midst.same_call (call_same (progress.Done (machine.Key answer)) leads) (Answers a Leaves)
       (answers_were_so K V same hash name log m known s old new at midst.whole midst.dues.history map i u midst.here answer leads there midst.there_is one there_one
       (still (progress.Done (machine.Key answer)) leads
       (change_none same hash name log m known s old new at midst.whole midst.dues map i u midst.here answer leads there midst.there_is one there_one (call_then (progress.Done (machine.Key answer)) leads) (call_is (progress.Done (machine.Key answer)) leads) a told)) a told))
   answered answer leads a (inr told) =
-      subst (λ (o : Option (Answer V)). AnswersDue same one (call_then (progress.Done (machine.Key answer)) leads) (log.since (call_then (progress.Done (machine.Key answer)) leads).begun) o a)
+      subst (λ (o : Option (Response V)). AnswersDue same one (call_then (progress.Done (machine.Key answer)) leads) (log.since (call_then (progress.Done (machine.Key answer)) leads).begun) o a)
       (sym (answers_are_owed K V same hash name log m known s old new at midst.whole midst.dues map i u midst.here answer leads there midst.there_is one there_one (call_then (progress.Done (machine.Key answer)) leads) (call_is (progress.Done (machine.Key answer)) leads) a told)) refl
 
   -- what is refused is due to no change

@@ -9,7 +9,7 @@ use Rattle.run_places.specs.Given.RawDeclared.machines.answer.KeyAnswer.TheVaria
 use Rattle.run_places.specs.Given.RawDeclared.machines.progress.Answer.TheVariants.{Key}
 use Rattle.run_places.specs.Given.RawDeclared.machines.progress.Progress.{Progress}
 use Rattle.run_places.specs.Given.RawDeclared.machines.progress.Progress.TheVariants.{Done}
-use Rattle.run_places.specs.Given.RunsDeclared.call.Answer.{Answer}
+use Rattle.run_places.specs.Given.RunsDeclared.call.Response.{Response}
 use Rattle.run_places.specs.Given.RunsDeclared.call.Call.TheVariants.{On}
 use Rattle.run_places.specs.Given.RunsDeclared.call.OneKey.{OneKey}
 use Rattle.run_places.specs.Given.RunsDeclared.call.Reply.{Reply}
@@ -67,7 +67,7 @@ module _ {K V : Type 0} (same : K → K → Bool) (hash : ℕ → K → ℕ) (na
   abbrev st2 : Standing K
   st2 = record st { chart = went.4.its_map.0; blocks = went.4.its_map.1; sights = went.4.its_map.2 }
 
-  module _ (d : CallThere K V) (d_is : call_of (name i) (v same hash name m known s old new at whole shown map i (OnKey z) here said leads) ≡ Some d) (a : Answer V) where
+  module _ (d : CallThere K V) (d_is : call_of (name i) (v same hash name m known s old new at whole shown map i (OnKey z) here said leads) ≡ Some d) (a : Response V) where
     replies_are : d.replies ≡ c.replies
     replies_are = (was_there same hash name log m known s old new at whole dues map i (OnKey z) here said leads i c d c_is d_is).1
 
@@ -78,7 +78,7 @@ module _ {K V : Type 0} (same : K → K → Bool) (hash : ℕ → K → ℕ) (na
           sym names ∙ ap known2.roles (named_by same st.hash (at.together.makings.standing.fit map st went.2).0 c2 seen word n Still borrowed word_is) ∙ roles n there.0 there.1 in cc pairs
 
       -- of one meaning there is one answer
-      one_answer : (o p : Option ℕ) (n q : ℕ) (b : Answer V) (e f : Deed V) → p ≡ o → q ≡ n → means one (reply_to o d.replies) o n ≡ Answers b e → means one (reply_to p c.replies) p q ≡ Answers a f → b ≡ a
+      one_answer : (o p : Option ℕ) (n q : ℕ) (b : Response V) (e f : Deed V) → p ≡ o → q ≡ n → means one (reply_to o d.replies) o n ≡ Answers b e → means one (reply_to p c.replies) p q ≡ Answers a f → b ≡ a
       one_answer o p n q b e f same_old same_new owed told =
           let both : Answers b e ≡ Answers a f = sym owed ∙ ap (λ (r : List (Option ℕ × Reply V)). means one (reply_to o r) o n) replies_are
           ∙ ap (λ (x : Option ℕ). means one (reply_to x c.replies) x n) (sym same_old) ∙ ap (λ (x : ℕ). means one (reply_to p c.replies) p x) (sym same_new) ∙ told in cc both

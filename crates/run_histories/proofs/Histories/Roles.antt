@@ -6,7 +6,7 @@ use Rattle.run_places.specs.Given.SeizeWorld.{World, with_at}
 use Rattle.run_places.specs.Given.TablesDeclared.setting.Setting.{Setting}
 use Rattle.run_places.specs.Given.RawDeclared.machines.answer.KeyAnswer.{KeyAnswer}
 use Rattle.run_places.specs.Given.RawDeclared.machines.answer.KeyAnswer.TheVariants as answers
-use Rattle.run_places.specs.Given.RunsDeclared.call.Answer.{Answer}
+use Rattle.run_places.specs.Given.RunsDeclared.call.Response.{Response}
 use Rattle.run_places.specs.Given.RunsDeclared.call.OneKey.{OneKey}
 use Rattle.run_places.specs.Given.RunsDeclared.call.Reply.{Reply}
 use Rattle.run_places.specs.Given.PointsFactsCalls.{Change, Unchanged, Stored, Replaced, Removed, Tells}
@@ -45,7 +45,7 @@ named_by same hash lawful c blocks word n phase borrowed is =
 
 -- an answer that tells a change is not told as one without
 module _ {K V Q : Type 0} (same : K → K → Bool) (hash : K → ℕ) (asks : Q → K → Bool) (w : World (Node K V)) (i : ℕ) (setting : Setting) (c : Chart K) (seen : Blocks) (keys : K → Bool) (known : Change)
-    (noted : Known) (one : OneKey K V) (replies : List (Option ℕ × Reply V)) (a : Answer V) where
+    (noted : Known) (one : OneKey K V) (replies : List (Option ℕ × Reply V)) (a : Response V) where
   pub no_change : (change : Change) (an : KeyAnswer) → Tells same hash asks w i setting c seen keys known change an → IsToldAs noted one replies an a → ⊥
   no_change Unchanged an tells told = tells
   no_change (Stored n) (answers.Found word) tells told = tells

@@ -4,7 +4,7 @@ use Rattle.std.proofs.Common.{refl, arith}
 use Rattle.run_places.specs.Given.SeizeWordsDeclared.fault.Fault.TheVariants.{Busy}
 use Rattle.run_places.specs.Given.ReservesDeclared.sweep.Purpose.TheVariants.{Clears}
 use Rattle.run_places.specs.Given.RawDeclared.machines.progress.Progress.TheVariants as progress
-use Rattle.run_places.specs.Given.RunsDeclared.call.Answer.TheVariants as answer
+use Rattle.run_places.specs.Given.RunsDeclared.call.Response.TheVariants as answer
 use Rattle.run_places.specs.Given.RunsDeclared.call.Call.TheVariants.{Len, Walk}
 use Rattle.run_places.specs.Given.RunsDeclared.call.Reply.TheVariants.{Decides}
 use Rattle.run_places.specs.Given.RunsDeclared.outcome.Outcome.TheVariants as outcome

@@ -8,7 +8,7 @@ use Rattle.run_places.specs.Given.RawDeclared.machines.answer.There.TheVariants 
 use Rattle.run_places.specs.Given.RawDeclared.machines.asking.Asking.{Asking as AskingAt}
 use Rattle.run_places.specs.Given.RawDeclared.machines.asking.Asking.TheVariants as asking
 use Rattle.run_places.specs.Given.RawDeclared.machines.asking.Gap.{Gap}
-use Rattle.run_places.specs.Given.RawDeclared.machines.asking.Reply.{Reply as MachineReply}
+use Rattle.run_places.specs.Given.RawDeclared.machines.asking.MachineReply.{MachineReply}
 use Rattle.run_places.specs.Given.RawDeclared.machines.call.Calling.TheVariants as at
 use Rattle.run_places.specs.Given.RawDeclared.machines.call.KeyCall.{KeyCall}
 use Rattle.run_places.specs.Given.RunsDeclared.call.OneKey.{OneKey}

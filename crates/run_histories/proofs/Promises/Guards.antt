@@ -10,7 +10,7 @@ use Rattle.run_places.specs.Given.SeizeWorld.{World, IsInside}
 use Rattle.run_places.specs.Given.TablesDeclared.node.Node.{Node}
 use Rattle.run_places.specs.Given.RunsPresent.{Present, guard_of, guards_on, slot_of_registration, enters_slot, drops, forgotten_as, forgotten_if, forgets}
 use Rattle.run_places.specs.Given.RunsSame.{is_same}
-use Rattle.run_places.specs.Given.RunsDeclared.holders.Guard.{Guard}
+use Rattle.run_places.specs.Given.RunsDeclared.holders.NamedGuard.{NamedGuard}
 use Rattle.run_places.proofs.Given.RunsLaws.{same_tells, drops_counts}
 use Rattle.run_places.specs.Given.RunsDeclared.event.Event.{Event}
 use Rattle.run_places.specs.Given.RunsDeclared.event.Event.TheVariants.{Register, Unregister, Enter, Own, Refresh, DropGuard, Forget, ReclaimAll, Close}
@@ -24,15 +24,15 @@ use Rattle.run_histories.specs.Promises.Guards.{EntersInside, GuardsComeAndGo, O
 use Rattle.run_histories.specs.Promises.Sheltered.{GuardsAreInside, IsSheltered, AreSheltered}
 use Rattle.run_histories.proofs.Promises.Lists.{all_of}
 
-pub no_guard : {A : Type 0} (g : Guard) → None ≡ Some g → A
+pub no_guard : {A : Type 0} (g : NamedGuard) → None ≡ Some g → A
 no_guard g e = absurd (cc e)
 
 -- guards by name, where those of one name are there no more
 
-abbrev without : List ℕ → List Guard → List Guard
+abbrev without : List ℕ → List NamedGuard → List NamedGuard
 without guard guards = filter (λ g. not (is_same g.name guard)) guards
 
-none_left : (guard : List ℕ) (guards : List Guard) → guard_of guard (without guard guards) ≡ None
+none_left : (guard : List ℕ) (guards : List NamedGuard) → guard_of guard (without guard guards) ≡ None
 none_left guard [] = refl
 none_left guard (g ∷ guards) = by (is_same g.name guard) refl (none_left guard guards)
   where
@@ -48,7 +48,7 @@ not_own x own guard e apart = by (is_same x own) refl
     by false f = refl
     by true f = absurd (let is = sym (ap (λ (y : List ℕ). is_same y guard) ((same_tells x own).0 f)) ∙ e in cc (is, apart))
 
-as_before : (own guard : List ℕ) → is_same own guard ≡ false → (guards : List Guard) → guard_of own (without guard guards) ≡ guard_of own guards
+as_before : (own guard : List ℕ) → is_same own guard ≡ false → (guards : List NamedGuard) → guard_of own (without guard guards) ≡ guard_of own guards
 as_before own guard apart [] = refl
 as_before own guard apart (g ∷ guards) = by (is_same g.name guard) refl (as_before own guard apart guards)
   where
@@ -58,7 +58,7 @@ as_before own guard apart (g ∷ guards) = by (is_same g.name guard) refl (as_be
     by false e later = ap (cond (is_same g.name own) (Some g)) later
 
 -- one that is there then has another name, and was there
-was_there : (own guard : List ℕ) (guards : List Guard) (g : Guard) → guard_of own (without guard guards) ≡ Some g → (is_same own guard ≡ false) × (guard_of own guards ≡ Some g)
+was_there : (own guard : List ℕ) (guards : List NamedGuard) (g : NamedGuard) → guard_of own (without guard guards) ≡ Some g → (is_same own guard ≡ false) × (guard_of own guards ≡ Some g)
 was_there own guard guards g is = by (is_same own guard) refl
   where
     by : (q : Bool) → is_same own guard ≡ q → (is_same own guard ≡ false) × (guard_of own guards ≡ Some g)
@@ -67,14 +67,14 @@ was_there own guard guards g is = by (is_same own guard) refl
 
 -- forgotten ones are found as they were
 
-forgotten_same : (name : List ℕ) (g : Guard) → ((forgotten_as name g).name ≡ g.name) × ((forgotten_as name g).slot ≡ g.slot)
+forgotten_same : (name : List ℕ) (g : NamedGuard) → ((forgotten_as name g).name ≡ g.name) × ((forgotten_as name g).slot ≡ g.slot)
 forgotten_same name g = by (is_same g.name name)
   where
     by : (q : Bool) → ((cond q (record g { forgotten = true }) g).name ≡ g.name) × ((cond q (record g { forgotten = true }) g).slot ≡ g.slot)
     by true = (refl, refl)
     by false = (refl, refl)
 
-forgotten_found : (own name : List ℕ) (guards : List Guard) → guard_of own (forgotten_if name guards) ≡ option_map (forgotten_as name) (guard_of own guards)
+forgotten_found : (own name : List ℕ) (guards : List NamedGuard) → guard_of own (forgotten_if name guards) ≡ option_map (forgotten_as name) (guard_of own guards)
 forgotten_found own name [] = refl
 forgotten_found own name (g ∷ guards) =
     ap (λ (x : List ℕ). cond (is_same x own) (Some (forgotten_as name g)) (guard_of own (forgotten_if name guards))) (forgotten_same name g).0
@@ -97,7 +97,7 @@ left_apart P guard (x ∷ xs) all = by (is_same x.guard guard) refl (left_apart 
 
 module _ {K V : Type 0} (w : World (Node K V)) (known : Known) (there : Present) where
   -- it is sheltered by a guard that is found there, too
-  elsewhere : (there2 : Present) (x : Sheltered) → ((g : Guard) → guard_of x.guard there.guards ≡ Some g → (h : Guard) × (guard_of x.guard there2.guards ≡ Some h) × (g.slot ≡ h.slot))
+  elsewhere : (there2 : Present) (x : Sheltered) → ((g : NamedGuard) → guard_of x.guard there.guards ≡ Some g → (h : NamedGuard) × (guard_of x.guard there2.guards ≡ Some h) × (g.slot ≡ h.slot))
       → IsSheltered there w known x → IsSheltered there2 w known x
   elsewhere there2 x finds (come, g, is, inside, each) =
       let it = finds g is in (
@@ -133,22 +133,22 @@ module _ {K V : Type 0} (w : World (Node K V)) (known : Known) (there : Present)
     pub enters_stay : (guard : List ℕ) (slot : ℕ) → IsInside (w.uses slot) → Stay (enters_slot guard slot there) xs
     enters_stay guard slot in_it = (guards, all_of (IsSheltered there w known) (IsSheltered (enters_slot guard slot there) w known) xs still all)
       where
-        new : Guard
+        new : NamedGuard
         new = record { name = guard; slot = slot; forgotten = false }
 
         found : (own : List ℕ) → guard_of own (there.guards ++ new ∷ []) ≡ option_or (guard_of own there.guards) (cond (is_same guard own) (Some new) None)
-        found own = find-append (λ (g : Guard). is_same g.name own) there.guards (new ∷ [])
+        found own = find-append (λ (g : NamedGuard). is_same g.name own) there.guards (new ∷ [])
 
         still : (x : Sheltered) → IsSheltered there w known x → IsSheltered (enters_slot guard slot there) w known x
         still x = elsewhere (enters_slot guard slot there) x
-            (λ g is. (g, found x.guard ∙ ap (λ (o : Option Guard). option_or o (cond (is_same guard x.guard) (Some new) None)) is, refl))
+            (λ g is. (g, found x.guard ∙ ap (λ (o : Option NamedGuard). option_or o (cond (is_same guard x.guard) (Some new) None)) is, refl))
 
         guards : GuardsAreInside (enters_slot guard slot there) w
         guards own g is = by (guard_of own there.guards) refl (is_same guard own) (sym (found own) ∙ is)
           where
-            by : (o : Option Guard) → guard_of own there.guards ≡ o → (q : Bool) → option_or o (cond q (Some new) None) ≡ Some g → IsInside (w.uses g.slot)
-            by (Some y) e q f = subst (λ (z : Guard). IsInside (w.uses z.slot)) (one_of y g f) (inside own y e)
-            by None e true f = subst (λ (z : Guard). IsInside (w.uses z.slot)) (one_of new g f) in_it
+            by : (o : Option NamedGuard) → guard_of own there.guards ≡ o → (q : Bool) → option_or o (cond q (Some new) None) ≡ Some g → IsInside (w.uses g.slot)
+            by (Some y) e q f = subst (λ (z : NamedGuard). IsInside (w.uses z.slot)) (one_of y g f) (inside own y e)
+            by None e true f = subst (λ (z : NamedGuard). IsInside (w.uses z.slot)) (one_of new g f) in_it
             by None e false f = no_guard g f
 
     -- one was forgotten
@@ -162,9 +162,9 @@ module _ {K V : Type 0} (w : World (Node K V)) (known : Known) (there : Present)
         guards : GuardsAreInside (forgets name there) w
         guards own g is = by (guard_of own there.guards) refl (sym (forgotten_found own name there.guards) ∙ is)
           where
-            by : (o : Option Guard) → guard_of own there.guards ≡ o → option_map (forgotten_as name) o ≡ Some g → IsInside (w.uses g.slot)
+            by : (o : Option NamedGuard) → guard_of own there.guards ≡ o → option_map (forgotten_as name) o ≡ Some g → IsInside (w.uses g.slot)
             by (Some y) e f =
-                subst (λ (z : Guard). IsInside (w.uses z.slot)) (one_of (forgotten_as name y) g f)
+                subst (λ (z : NamedGuard). IsInside (w.uses z.slot)) (one_of (forgotten_as name y) g f)
                 (subst (λ (t : ℕ). IsInside (w.uses t)) (sym (forgotten_same name y).1) (inside own y e))
             by None e f = no_guard g f
 
@@ -181,13 +181,13 @@ module _ {K V : Type 0} (w : World (Node K V)) (known : Known) (there : Present)
     come_and_go _ _ in_it = (inside, all)
 
   -- a guard whose section is open again
-  module _ (guard : List ℕ) (g : Guard) (is_g : guard_of guard there.guards ≡ Some g) (in_it : IsInside (w.uses g.slot)) (inside : GuardsAreInside (drops guard there) w) where
+  module _ (guard : List ℕ) (g : NamedGuard) (is_g : guard_of guard there.guards ≡ Some g) (in_it : IsInside (w.uses g.slot)) (inside : GuardsAreInside (drops guard there) w) where
     again_inside : GuardsAreInside there w
     again_inside own h is = by (is_same own guard) refl
       where
         by : (q : Bool) → is_same own guard ≡ q → IsInside (w.uses h.slot)
         by true e =
-            subst (λ (z : Guard). IsInside (w.uses z.slot)) (one_of g h (sym is_g ∙ sym (ap (λ (x : List ℕ). guard_of x there.guards) ((same_tells own guard).0 e)) ∙ is)) in_it
+            subst (λ (z : NamedGuard). IsInside (w.uses z.slot)) (one_of g h (sym is_g ∙ sym (ap (λ (x : List ℕ). guard_of x there.guards) ((same_tells own guard).0 e)) ∙ is)) in_it
         by false e = inside own h (as_before own guard e there.guards ∙ is)
 
 module _ {K V : Type 0} (w : World (Node K V)) (known : Known) (there : Present) (guard : List ℕ) where
@@ -198,13 +198,13 @@ module _ {K V : Type 0} (w : World (Node K V)) (known : Known) (there : Present)
 
 -- slots without guards
 
-free_has_nobody : (slot : ℕ) (guards : List Guard) → guards_on slot guards ≡ 0 → (own : List ℕ) (g : Guard) → guard_of own guards ≡ Some g → g.slot ≡ slot → ⊥
+free_has_nobody : (slot : ℕ) (guards : List NamedGuard) → guards_on slot guards ≡ 0 → (own : List ℕ) (g : NamedGuard) → guard_of own guards ≡ Some g → g.slot ≡ slot → ⊥
 free_has_nobody slot [] none own g is on = no_guard g is
 free_has_nobody slot (x ∷ guards) none own g is on = by (is_same x.name own) is (free_has_nobody slot guards (omega (arith, none)) own g)
   where
     by : (q : Bool) → cond q (Some x) (guard_of own guards) ≡ Some g → (guard_of own guards ≡ Some g → g.slot ≡ slot → ⊥) → ⊥
     by true e later =
-        let here : x.slot ≡ slot = ap (λ (y : Guard). y.slot) (one_of x g e) ∙ on in
+        let here : x.slot ≡ slot = ap (λ (y : NamedGuard). y.slot) (one_of x g e) ∙ on in
         let counted : ◌≡◌ {A = ℕ} (cond (x.slot == slot) 1 0) 1 = ap (λ (q : Bool). cond q 1 0) (eq-eqb x.slot slot here) in
         absurd (omega (arith, none, counted))
     by false e later = later e on

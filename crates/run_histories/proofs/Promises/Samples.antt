@@ -6,7 +6,7 @@ use Rattle.run_places.specs.Given.SeizeLaw.{Entered, Linked, holds}
 use Rattle.run_places.specs.Given.SeizeWorld.{World, Inside}
 use Rattle.run_places.specs.Given.TablesDeclared.node.Node.{Node}
 use Rattle.run_places.specs.Given.RunsPresent.{Present, drops}
-use Rattle.run_places.specs.Given.RunsDeclared.holders.Guard.{Guard}
+use Rattle.run_places.specs.Given.RunsDeclared.holders.NamedGuard.{NamedGuard}
 use Rattle.run_places.specs.Given.RunsDeclared.effect.Effect.TheVariants.{Reclaimed}
 use Rattle.run_places.specs.Given.RunsDeclared.effect.Thing.TheVariants.{APair}
 use Rattle.run_places.specs.Given.RunsDeclared.event.Event.TheVariants.{Refresh, Flush}
@@ -28,7 +28,7 @@ use Rattle.run_places.specs.Given.ScenesScene.{at_first}
 abbrev name : List ℕ
 name = 103 ∷ []
 
-abbrev guard : Guard
+abbrev guard : NamedGuard
 guard = record { name = name; slot = 0; forgotten = false }
 
 abbrev there : Present

@@ -4,7 +4,7 @@ use Rattle.std.proofs.Common.{refl, arith}
 use Rattle.std.proofs.lemmas.List.Sums.{sum_by-append}
 use Rattle.run_places.specs.Given.RunsDeclared.effect.Effect.{Effect}
 use Rattle.run_places.specs.Given.RunsDeclared.effect.Effect.TheVariants.{Asked, PairMade, PairGivenUp, TableMade, TableGivenUp, Linked, Promoted, Copied, Stored, Replaced, Removed, Counted, Deferred, Retired, Reclaimed, Ended, Taken}
-use Rattle.run_places.specs.Given.RunsDeclared.effect.Table.{Table}
+use Rattle.run_places.specs.Given.RunsDeclared.effect.TableId.{TableId}
 use Rattle.run_places.specs.Given.SchedulesHanding.{is_granted}
 use Rattle.run_places.specs.Given.SchedulesSteps.{weight}
 use Rattle.run_places.specs.Given.EffectsEffects.{pair_taken, table_taken}
@@ -38,7 +38,7 @@ pair_one : (acting : Acting) (n : ℕ) → IsOne (pair_taken acting n ∷ [])
 pair_one (Ending map) n = (omega arith, refl)
 pair_one _ n = (omega arith, refl)
 
-table_one : (acting : Acting) (t : Table) → IsOne (table_taken acting t ∷ [])
+table_one : (acting : Acting) (t : TableId) → IsOne (table_taken acting t ∷ [])
 table_one (Ending map) t = (omega arith, refl)
 table_one _ t = (omega arith, refl)
 

@@ -7,7 +7,7 @@ use Rattle.run_places.specs.Given.RawDeclared.machines.answer.KeyAnswer.{KeyAnsw
 use Rattle.run_places.specs.Given.RawDeclared.machines.answer.KeyAnswer.TheVariants as answers
 use Rattle.run_places.specs.Given.RawDeclared.machines.progress.Answer.TheVariants.{Key}
 use Rattle.run_places.specs.Given.RawDeclared.machines.progress.Progress.TheVariants.{Done, Refused}
-use Rattle.run_places.specs.Given.RunsDeclared.call.Answer.{Answer}
+use Rattle.run_places.specs.Given.RunsDeclared.call.Response.{Response}
 use Rattle.run_places.specs.Given.RunsDeclared.call.Call.TheVariants.{On}
 use Rattle.run_places.specs.Given.RunsDeclared.call.OneKey.{OneKey}
 use Rattle.run_places.specs.Given.RunsDeclared.call.Reply.{Reply}
@@ -35,13 +35,13 @@ abbrev pub NamesPair : Known → ℕ → ℕ → Type 0
 NamesPair known word n = known.roles (block_in word) ≡ role.Pair n
 
 -- An answer that tells no change is told as what the call means, by the last reply for that, where its key's class has the pair that was found, or none.
-abbrev pub IsToldAs : {K V : Type 0} → Known → OneKey K V → List (Option ℕ × Reply V) → KeyAnswer → Answer V → Type 0
+abbrev pub IsToldAs : {K V : Type 0} → Known → OneKey K V → List (Option ℕ × Reply V) → KeyAnswer → Response V → Type 0
 IsToldAs known one replies (answers.Found word) a = (n : ℕ) × NamesPair known word n × ((new : ℕ) → means one (reply_to (Some n) replies) (Some n) new ≡ Answers a Leaves)
 IsToldAs known one replies answers.Absent a = (new : ℕ) → means one (reply_to None replies) None new ≡ Answers a Leaves
 IsToldAs known one replies _ a = ⊥
 
 -- One that tells a change is told as what the call means, by the last reply for what its key's class had, where it stores the pair of this number, or removes one.
-abbrev pub IsToldDone : {K V : Type 0} → Known → OneKey K V → List (Option ℕ × Reply V) → KeyAnswer → Answer V → Type 0
+abbrev pub IsToldDone : {K V : Type 0} → Known → OneKey K V → List (Option ℕ × Reply V) → KeyAnswer → Response V → Type 0
 IsToldDone {K} {V} known one replies (answers.Stored word) a = (n : ℕ) × NamesPair known word n × (v : V) × (means one (reply_to None replies) None n ≡ Answers a (Puts v))
 IsToldDone {K} {V} known one replies (answers.Replaced old new) a =
     (o : ℕ) × (n : ℕ) × NamesPair known old o × NamesPair known new n × (v : V) × (means one (reply_to (Some o) replies) (Some o) n ≡ Answers a (Puts v))
@@ -57,7 +57,7 @@ module _ (K V : Type 0) (same : K → K → Bool) (hash : ℕ → K → ℕ) whe
       → ShowsWhole same name m known s → ShowsHistory same name log m known s
       → (map i : ℕ) (u : CallOnKey K V K) (here : s.calls map i ≡ Some (OnKey u)) (answer : KeyAnswer) (leads : StepLeads same hash i (Done (Key answer)) s old new)
       → (c : CallThere K V) → call_of (name i) m ≡ Some c → (one : OneKey K V) → c.call ≡ On one → finite_map same map m (key_of one) ≡ finite_map same map log.now (key_of one)
-      → (a : Answer V) → IsToldAs (known_after (acts.Call i map) new.changed known) one c.replies answer a
+      → (a : Response V) → IsToldAs (known_after (acts.Call i map) new.changed known) one c.replies answer a
       → OneOf (λ v. meaning_at same one c v ≡ Answers a Leaves) (log.since c.begun)
 
   -- The promise: an answer that tells a change is the one that the call owes since it has changed its map.
@@ -68,7 +68,7 @@ module _ (K V : Type 0) (same : K → K → Bool) (hash : ℕ → K → ℕ) whe
       → (map i : ℕ) (u : CallOnKey K V K) (here : s.calls map i ≡ Some (OnKey u)) (answer : KeyAnswer) (leads : StepLeads same hash i (Done (Key answer)) s old new)
       → (c : CallThere K V) → call_of (name i) m ≡ Some c → (one : OneKey K V) → c.call ≡ On one
       → (d : CallThere K V) → call_of (name i) (with_effects (Some (name i)) (Some map) (effects_of (acts.Call i map) known new.changed) m) ≡ Some d
-      → (a : Answer V) → IsToldDone (known_after (acts.Call i map) new.changed known) one c.replies answer a → d.due ≡ Some a
+      → (a : Response V) → IsToldDone (known_after (acts.Call i map) new.changed known) one c.replies answer a → d.due ≡ Some a
 
   -- The promise: a call that is refused owes no answer; and where it was told to remove what is not there, that is what it means at a moment of it between two events.
   abbrev pub RefusalsWereSo : Type 0

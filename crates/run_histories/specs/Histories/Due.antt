@@ -3,7 +3,7 @@ use Rattle.std.specs.Prelude.{◌≡◌, ℕ, ◌<◌, Bool, true, List, [], ◌
 use Rattle.run_places.specs.Given.TablesDeclared.node.Node.{Node}
 use Rattle.run_places.specs.Given.RunsSame.{is_same}
 use Rattle.run_places.specs.Given.RawDeclared.machines.progress.Progress.{Progress}
-use Rattle.run_places.specs.Given.RunsDeclared.call.Answer.{Answer}
+use Rattle.run_places.specs.Given.RunsDeclared.call.Response.{Response}
 use Rattle.run_places.specs.Given.RawMachine.{machine_replied}
 use Rattle.run_places.specs.Given.RunsDeclared.call.Call.{Call}
 use Rattle.run_places.specs.Given.RunsDeclared.call.Call.TheVariants.{On}
@@ -42,10 +42,10 @@ module _ {K V : Type 0} (number : ℕ → ℕ) (stored : ℕ) (one : OneKey K V)
   -- it owes nothing as long as it has changed nothing; then the answer that it means, by the last reply for the pair that its class had, or for none
   abbrev pub Owes : Change → Type 0
   Owes Unchanged = c.due ≡ None
-  Owes (Stored n) = (n < stored) × (a : Answer V) × (v : V) × (means one (reply_to None c.replies) None (number n) ≡ Answers a (Puts v)) × (c.due ≡ Some a)
+  Owes (Stored n) = (n < stored) × (a : Response V) × (v : V) × (means one (reply_to None c.replies) None (number n) ≡ Answers a (Puts v)) × (c.due ≡ Some a)
   Owes (Replaced o n) =
-      (o < stored) × (n < stored) × (a : Answer V) × (v : V) × (means one (reply_to (Some (number o)) c.replies) (Some (number o)) (number n) ≡ Answers a (Puts v)) × (c.due ≡ Some a)
-  Owes (Removed o) = (o < stored) × (a : Answer V) × (new : ℕ) × (means one (reply_to (Some (number o)) c.replies) (Some (number o)) new ≡ Answers a Takes) × (c.due ≡ Some a)
+      (o < stored) × (n < stored) × (a : Response V) × (v : V) × (means one (reply_to (Some (number o)) c.replies) (Some (number o)) (number n) ≡ Answers a (Puts v)) × (c.due ≡ Some a)
+  Owes (Removed o) = (o < stored) × (a : Response V) × (new : ℕ) × (means one (reply_to (Some (number o)) c.replies) (Some (number o)) new ≡ Answers a Takes) × (c.due ≡ Some a)
 
 -- the history is within the run, and each call on one key owes what it is to answer, and got such replies alone as it takes
 pub record ShowsDue {K V : Type 0} (same : K → K → Bool) (name : ℕ → List ℕ) (log : Past K V) (m : Moment K V) (known : Known) (s : Scene K V) : Type 0 where

@@ -5,7 +5,7 @@ use Rattle.run_places.specs.Given.SeizeDeclared.rows.settle.Settled.{Settled}
 use Rattle.run_places.specs.Given.TablesDeclared.node.Node.{Node}
 use Rattle.run_places.specs.Given.TablesDeclared.setting.Setting.{Setting}
 use Rattle.run_places.specs.Given.RunsSame.{is_same}
-use Rattle.run_places.specs.Given.SeizeDeclared.progress.Progress.{Progress}
+use Rattle.run_places.specs.Given.SeizeDeclared.advance.Advance.{Advance}
 use Rattle.run_places.specs.Given.SchedulesBeginning.{with_map}
 use Rattle.run_places.specs.Given.SchedulesEffects.{with_effects, AtEachEffect}
 use Rattle.run_places.specs.Given.SchedulesMoment.{MapThere, Remains, Moment}
@@ -63,7 +63,7 @@ module _ {K V : Type 0} (same : K → K → Bool) (hash : ℕ → K → ℕ) (na
     pub makings_begin : From (λ m known s old new. (i : ℕ) (b : Beginning K)
         → (let begun = record s { makers = with_at s.makers i (Some b) } in IsAt same hash new begun → P m known begun))
     pub maps_come : From (λ m known s old new. (there : MapThere) → tables_of there.number m ≡ [] → P (with_map there m) known s)
-    pub makings : From (λ m known s old new. (i : ℕ) (told : Progress Setting) (leads : MakingLeads same hash i told s old new)
+    pub makings : From (λ m known s old new. (i : ℕ) (told : Advance Setting) (leads : MakingLeads same hash i told s old new)
         → (b : Beginning K) (here : s.makers i ≡ Some b) (of : Option ℕ) → WasNew b.map told m
         → P (with_effects None of (effects_of (Making b.map) known new.changed) m) (known_after (Making b.map) new.changed known)
         (making_after same hash s old new i b (leads b here).0 (leads b here).2.step.w2 told (leads b here).3))

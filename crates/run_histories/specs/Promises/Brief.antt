@@ -2,8 +2,8 @@
 use Rattle.std.specs.Prelude.{◌≡◌, ℕ, zero, suc, ◌+◌, ◌<◌, ◌≤◌, nat_le, Bool, false, List, ◌∷◌, sum_by, Option, if◌then◌else◌}
 use Rattle.run_places.specs.Given.SeizeWordsMem.{Mem, Took, value_at}
 use Rattle.run_places.specs.Given.SeizeWordsPlan.{Steps}
-use Rattle.run_places.specs.Given.SeizeDeclared.progress.Progress.{Progress}
-use Rattle.run_places.specs.Given.SeizeDeclared.progress.Progress.TheVariants.{Goes, Done}
+use Rattle.run_places.specs.Given.SeizeDeclared.advance.Advance.{Advance}
+use Rattle.run_places.specs.Given.SeizeDeclared.advance.Advance.TheVariants.{Goes, Done}
 use Rattle.run_places.specs.Given.TablesChunks.{is_incremental}
 use Rattle.run_places.specs.Given.TablesDeclared.node.Node.{Node}
 use Rattle.run_places.specs.Given.TablesDeclared.resize_mode.ResizeMode.{ResizeMode}
@@ -50,7 +50,7 @@ module _ {K : Type 0} (incremental : Bool) (c : Chart K) (first : ℕ) where
   ReadsAt steps (at.Over found) = ⊥
 
 -- where a lookup goes on, it has made so many steps; it never waits, and is never refused
-abbrev pub ReadsOn : {K : Type 0} → Bool → Chart K → ℕ → ℕ → Lookup × Progress (Option ℕ) → Type 0
+abbrev pub ReadsOn : {K : Type 0} → Bool → Chart K → ℕ → ℕ → Lookup × Advance (Option ℕ) → Type 0
 ReadsOn incremental c first steps (l, Goes) = ReadsAt incremental c first steps l.stands
 ReadsOn incremental c first steps (l, Done found) = Unit {0}
 ReadsOn incremental c first steps (l, _) = ⊥
@@ -72,7 +72,7 @@ module _ (K V : Type 0) (same : K → K → Bool) (hash : K → ℕ) where
       AreLawful same hash → (mode : ResizeMode) (root : ℕ) (keys : K → Bool) (code : ℕ) (m : Mem (Node K V)) (c : Chart K) (blocks : Blocks) (l : Lookup)
       → IsClass same hash keys code → IsMap same hash mode root m c blocks → LookupFacts same hash mode root keys code c blocks l
       → (first steps : ℕ) → IsRootOf c first l.stands → ReadsAt (is_incremental mode) c first steps l.stands
-      → (m2 : Mem (Node K V)) (end : Lookup × Progress (Option ℕ)) → Steps Took value_at m (lookup_plan keys l) m2 end
+      → (m2 : Mem (Node K V)) (end : Lookup × Advance (Option ℕ)) → Steps Took value_at m (lookup_plan keys l) m2 end
       → ReadsOn (is_incremental mode) c first (suc steps) end
 
 -- and so it is where the tables have moved on.

@@ -3,7 +3,7 @@ use Rattle.std.specs.Prelude.{◌≡◌, ℕ, List, Some}
 use Rattle.run_places.specs.Given.SeizeWorld.{World, IsInside}
 use Rattle.run_places.specs.Given.TablesDeclared.node.Node.{Node}
 use Rattle.run_places.specs.Given.RunsPresent.{Present, HaveNames, guard_of, guards_on, slot_of_registration, drops}
-use Rattle.run_places.specs.Given.RunsDeclared.holders.Guard.{Guard}
+use Rattle.run_places.specs.Given.RunsDeclared.holders.NamedGuard.{NamedGuard}
 use Rattle.run_places.specs.Given.RunsDeclared.event.Event.{Event}
 use Rattle.run_places.specs.Given.RunsDeclared.event.Event.TheVariants.{Enter, Own}
 use Rattle.run_places.specs.Given.RunsDeclared.outcome.Outcome.{Outcome}
@@ -33,12 +33,12 @@ module _ (K V : Type 0) where
   abbrev pub OneIsInsideAgain : Type 0
   OneIsInsideAgain =
       (w : World (Node K V)) (known : Known) (there : Present) (sheltered : List Sheltered) (guard : List ℕ)
-      → (g : Guard) → guard_of guard there.guards ≡ Some g → IsInside (w.uses g.slot)
+      → (g : NamedGuard) → guard_of guard there.guards ≡ Some g → IsInside (w.uses g.slot)
       → GuardsAreInside (drops guard there) w → AreSheltered (drops guard there) w known sheltered
       → GuardsAreInside there w × AreSheltered there w known sheltered
 
 -- The slot of the only guard on it has nobody without that one.
 abbrev pub OnlyGuardsLeaveNobody : Type 0
 OnlyGuardsLeaveNobody =
-    (there : Present) → HaveNames there → (guard : List ℕ) (g : Guard) → guard_of guard there.guards ≡ Some g → guards_on g.slot there.guards ≡ 1
+    (there : Present) → HaveNames there → (guard : List ℕ) (g : NamedGuard) → guard_of guard there.guards ≡ Some g → guards_on g.slot there.guards ≡ 1
     → NobodyOn g.slot (drops guard there)

@@ -3,12 +3,12 @@ use Rattle.std.specs.Prelude.{◌≡◌, ℕ, Bool, List, [], Option, Some, None
 use Rattle.run_places.specs.Given.SeizeWordsMem.{Mem}
 use Rattle.run_places.specs.Given.SeizeLaw.{Ended}
 use Rattle.run_places.specs.Given.SeizeWorld.{World, with_effect}
-use Rattle.run_places.specs.Given.SeizeDeclared.progress.Progress.{Progress}
+use Rattle.run_places.specs.Given.SeizeDeclared.advance.Advance.{Advance}
 use Rattle.run_places.specs.Given.SeizeDeclared.rows.settle.Settled.{Settled}
 use Rattle.run_places.specs.Given.TablesDeclared.node.Node.{Node}
 use Rattle.run_places.specs.Given.TablesDeclared.setting.Setting.{Setting}
 use Rattle.run_places.specs.Given.RunsPresent.{Present, guard_of}
-use Rattle.run_places.specs.Given.RunsDeclared.holders.Guard.{Guard}
+use Rattle.run_places.specs.Given.RunsDeclared.holders.NamedGuard.{NamedGuard}
 use Rattle.run_places.specs.Given.RunsDeclared.call.Call.{Call}
 use Rattle.run_places.specs.Given.RunsDeclared.call.Reply.{Reply}
 use Rattle.run_places.specs.Given.RunsDeclared.outcome.Outcome.{Outcome}
@@ -37,7 +37,7 @@ use Rattle.run_places.specs.Given.ScenesScene.{Scene, slot_of}
 
 -- no guard that is there is on this slot
 abbrev pub NobodyOn : ℕ → Present → Type 0
-NobodyOn slot there = (own : List ℕ) (g : Guard) → guard_of own there.guards ≡ Some g → g.slot ≡ slot → ⊥
+NobodyOn slot there = (own : List ℕ) (g : NamedGuard) → guard_of own there.guards ≡ Some g → g.slot ≡ slot → ⊥
 
 -- a row that ends the section of this slot ends no guard's
 abbrev pub SparesGuards : SlotCall → ℕ → Present → Type 0
@@ -52,7 +52,7 @@ module _ (K V : Type 0) (same : K → K → Bool) (hash : ℕ → K → ℕ) whe
   MakingsShelter =
       (name : ℕ → List ℕ) (m : Moment K V) (known : Known) (s : Scene K V) (old new : Held K V) → IsAt same hash old s
       → ShowsWhole same name m known s
-      → (i : ℕ) (told : Progress Setting) (leads : MakingLeads same hash i told s old new) (b : Beginning K) (here : s.makers i ≡ Some b)
+      → (i : ℕ) (told : Advance Setting) (leads : MakingLeads same hash i told s old new) (b : Beginning K) (here : s.makers i ≡ Some b)
       → (of : Option ℕ) → WasNew b.map told m → SectionsHold m known s.world
       → (let to = leads b here in
       let effects = effects_of (acts.Making b.map) known new.changed in

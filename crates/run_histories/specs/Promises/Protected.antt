@@ -1,13 +1,13 @@
 -- What is promised of an event as it goes on: what left its map in sections that it does not end is sheltered by these, and not reclaimed.
 use Rattle.std.specs.Prelude.{◌≡◌, ℕ, Bool, true, false, List, [], ◌++◌, Option, Some, None, flat_map}
 use Rattle.run_places.specs.Given.SeizeWorld.{World, Step, IsInside}
-use Rattle.run_places.specs.Given.SeizeDeclared.progress.Progress.{Progress as Making}
+use Rattle.run_places.specs.Given.SeizeDeclared.advance.Advance.{Advance as Making}
 use Rattle.run_places.specs.Given.SeizeDeclared.rows.settle.Settled.{Settled}
 use Rattle.run_places.specs.Given.TablesDeclared.node.Node.{Node}
 use Rattle.run_places.specs.Given.TablesDeclared.setting.Setting.{Setting}
 use Rattle.run_places.specs.Given.RawDeclared.machines.progress.Progress.{Progress}
 use Rattle.run_places.specs.Given.RunsPresent.{Present, nobody, guard_of, slot_of_registration, drops}
-use Rattle.run_places.specs.Given.RunsDeclared.holders.Guard.{Guard}
+use Rattle.run_places.specs.Given.RunsDeclared.holders.NamedGuard.{NamedGuard}
 use Rattle.run_places.specs.Given.RunsDeclared.effect.Effect.{Effect}
 use Rattle.run_places.specs.Given.RunsDeclared.event.Event.{Event}
 use Rattle.run_places.specs.Given.RunsDeclared.event.Event.TheVariants.{Register, Unregister, Enter, Own, Refresh, Flush, DropGuard, ReclaimAll, Close}
@@ -81,7 +81,7 @@ module _ {K V : Type 0} where
     abbrev pub EndsInside : Event K V → Outcome V → Present → Type 0
     EndsInside (Enter guard registration) Done there = IsInside (w.uses (slot_of_registration registration there))
     EndsInside (Own guard) (Slot s) there = IsInside (w.uses s)
-    EndsInside (Refresh guard) Done there = (g : Guard) × (guard_of guard there.guards ≡ Some g) × IsInside (w.uses g.slot)
+    EndsInside (Refresh guard) Done there = (g : NamedGuard) × (guard_of guard there.guards ≡ Some g) × IsInside (w.uses g.slot)
     EndsInside (Refresh guard) _ there = ⊥
     EndsInside (DropGuard guard) Done there = Unit {0}
     EndsInside (DropGuard guard) _ there = ⊥

@@ -5,7 +5,7 @@ use Rattle.run_places.specs.Given.SeizeLaw.{holds}
 use Rattle.run_places.specs.Given.SeizeWorld.{World, IsInside}
 use Rattle.run_places.specs.Given.TablesDeclared.node.Node.{Node}
 use Rattle.run_places.specs.Given.RunsPresent.{Present, guard_of}
-use Rattle.run_places.specs.Given.RunsDeclared.holders.Guard.{Guard}
+use Rattle.run_places.specs.Given.RunsDeclared.holders.NamedGuard.{NamedGuard}
 use Rattle.run_places.specs.Given.RunsDeclared.effect.Thing.{Thing}
 use Rattle.run_places.specs.Given.RunsDeclared.effect.Thing.TheVariants.{APair, ATable}
 use Rattle.run_places.specs.Given.SchedulesMoment.{Sheltered, Moment}
@@ -25,13 +25,13 @@ HasCome known (ATable t) = Unit {0}
 
 -- each guard that is there is on a slot of such a kind
 abbrev pub GuardsAreOn : (ℕ → Type 0) → Present → Type 0
-GuardsAreOn IsOn there = (own : List ℕ) (g : Guard) → guard_of own there.guards ≡ Some g → IsOn g.slot
+GuardsAreOn IsOn there = (own : List ℕ) (g : NamedGuard) → guard_of own there.guards ≡ Some g → IsOn g.slot
 
 module _ {K V : Type 0} (IsOn : ℕ → Type 0) (there : Present) (w : World (Node K V)) where
   -- The guard is there, on such a slot, and the section of that holds each block that is the thing.
   abbrev pub IsShelteredOn : Known → Sheltered → Type 0
   IsShelteredOn known x =
-      HasCome known x.thing × (g : Guard) × (guard_of x.guard there.guards ≡ Some g) × IsOn g.slot
+      HasCome known x.thing × (g : NamedGuard) × (guard_of x.guard there.guards ≡ Some g) × IsOn g.slot
       × ((b : ℕ) → IsOfThing x.thing (known.roles b) → holds g.slot b w.log ≡ true)
 
   abbrev pub AreShelteredOn : Known → List Sheltered → Type 0

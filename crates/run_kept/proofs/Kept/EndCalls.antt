@@ -17,8 +17,8 @@ use Rattle.papaya_raw.specs.Given.TablesChunks.{is_incremental}
 use Rattle.papaya_raw.specs.Given.TablesDeclared.node.Node.{Node}
 use Rattle.run_effects.specs.Given.ResizeDeclared.copier.Copying.{Copying as Point}
 use Rattle.run_effects.specs.Given.ResizeDeclared.copier.Copying.TheVariants as copies
-use Rattle.run_effects.specs.Given.ResizeDeclared.outcome.Outcome.{Outcome}
-use Rattle.run_effects.specs.Given.ResizeDeclared.outcome.Outcome.TheVariants as outcome
+use Rattle.run_effects.specs.Given.ResizeDeclared.yielding.Yielding.{Yielding}
+use Rattle.run_effects.specs.Given.ResizeDeclared.yielding.Yielding.TheVariants as outcome
 use Rattle.run_effects.specs.Given.ResizeDeclared.sum.Sum.{Sum}
 use Rattle.papaya_raw.specs.Call.{call_plan}
 use Rattle.papaya_raw.specs.Machine.{reserved as of_room}
@@ -62,8 +62,8 @@ use Rattle.run_blocks.proofs.Given.SettlesKeys.{steps as key_told}
 use Rattle.run_blocks.proofs.Given.SettlesRest.{steps as sweep_told}
 use Rattle.run_kept.specs.Kept.Ends.{HaveEndsIn, ShowsEnds}
 use Rattle.run_kept.proofs.Kept.Ends.{StoodSo, call_goes, idle_keeps, stood_ends, stood_so}
-use Rattle.seize.specs.declared.progress.Progress.{Progress as CountGoes}
-use Rattle.seize.specs.declared.progress.Progress.TheVariants as progress
+use Rattle.seize.specs.declared.advance.Advance.{Advance as CountGoes}
+use Rattle.seize.specs.declared.advance.Advance.TheVariants as progress
 use Rattle.papaya_raw.specs.Given.TablesDeclared.setting.Setting.{Setting}
 use Rattle.run_shows.proofs.Scenes.Told.{as_step}
 use Rattle.run_shows.specs.Scenes.Held.{Held, IsAt}
@@ -97,7 +97,7 @@ count_fresh K V sum (progress.Refused fault) = tt
 count_fresh K V sum _ = tt
 
 -- what a reservation says of how far it is, it says in one way
-same_outcome : {T : Type 0} (a b : Outcome T Unit) → of_outcome a ≡ of_outcome b → a ≡ b
+same_outcome : {T : Type 0} (a b : Yielding T Unit) → of_outcome a ≡ of_outcome b → a ≡ b
 same_outcome outcome.Goes outcome.Goes e = refl
 same_outcome outcome.Waits outcome.Waits e = refl
 same_outcome (outcome.Done v) (outcome.Done w) e = refl
@@ -194,24 +194,24 @@ module _ {K V : Type 0} (same : K → K → Bool) (hash : ℕ → K → ℕ) (na
 
   -- a reservation
   module _ (x : CallForRoom) (here : s.calls map i ≡ Some (ForRoom x)) where
-    room_steps : (p2 : Reserve) (end : Outcome (Node K V) Unit) → (to (ForRoom x) here).1 ≡ kinds.Reserve p2 → said ≡ of_outcome end
+    room_steps : (p2 : Reserve) (end : Yielding (Node K V) Unit) → (to (ForRoom x) here).1 ≡ kinds.Reserve p2 → said ≡ of_outcome end
         → Steps Took value_at s.world.memory (reserve_plan (to (ForRoom x) here).0.hash x.reserve) new.memory (p2, end)
     room_steps p2 end machine_is told_is =
         subst (λ (k : Mem (Node K V)). Steps Took value_at k (reserve_plan (to (ForRoom x) here).0.hash x.reserve) new.memory (p2, end)) (sym at_old.memory)
         (as_step old.memory changed.Nothing (reserve_plan (to (ForRoom x) here).0.hash x.reserve) new.memory new.changed (p2, end) (by inner.0 inner.1 inner.2))
       where
-        Stepped : Reserve × Outcome (Node K V) Unit → Type 0
-        Stepped e = StepsTold K V (Reserve × Outcome (Node K V) Unit) old.memory changed.Nothing (reserve_plan (to (ForRoom x) here).0.hash x.reserve) new.memory new.changed e
+        Stepped : Reserve × Yielding (Node K V) Unit → Type 0
+        Stepped e = StepsTold K V (Reserve × Yielding (Node K V) Unit) old.memory changed.Nothing (reserve_plan (to (ForRoom x) here).0.hash x.reserve) new.memory new.changed e
 
-        inner : (r : Reserve × Outcome (Node K V) Unit) × (◌≡◌ {A = Machine K V K × Progress (Node K V)} ((to (ForRoom x) here).1, said) (of_room r)) × Stepped r
+        inner : (r : Reserve × Yielding (Node K V) Unit) × (◌≡◌ {A = Machine K V K × Progress (Node K V)} ((to (ForRoom x) here).1, said) (of_room r)) × Stepped r
         inner = told_in old.memory new.memory new.changed of_room (reserve_plan (to (ForRoom x) here).0.hash x.reserve) ((to (ForRoom x) here).1, said) (to (ForRoom x) here).3
 
-        by : (r : Reserve × Outcome (Node K V) Unit) → ◌≡◌ {A = Machine K V K × Progress (Node K V)} ((to (ForRoom x) here).1, said) (of_room r) → Stepped r → Stepped (p2, end)
+        by : (r : Reserve × Yielding (Node K V) Unit) → ◌≡◌ {A = Machine K V K × Progress (Node K V)} ((to (ForRoom x) here).1, said) (of_room r) → Stepped r → Stepped (p2, end)
         by (q, said_so) is told =
             let machines : kinds.Reserve q ≡ kinds.Reserve p2 = sym (ap (λ (z : Machine K V K × Progress (Node K V)). z.0) is) ∙ machine_is in
             let says : of_outcome said_so ≡ of_outcome end = sym (ap (λ (z : Machine K V K × Progress (Node K V)). z.1) is) ∙ told_is in
             let one : q ≡ p2 = cc machines in
-            subst (λ (z : Outcome (Node K V) Unit). Stepped (p2, z)) (same_outcome said_so end says) (subst (λ (z : Reserve). Stepped (z, said_so)) one told)
+            subst (λ (z : Yielding (Node K V) Unit). Stepped (p2, z)) (same_outcome said_so end says) (subst (λ (z : Reserve). Stepped (z, said_so)) one told)
 
     room_ends : DidSo same hash name m known s old new at_old shown map i (ForRoom x) here said leads (ForRoom x) → ShowsEnds (led (ForRoom x) here)
     room_ends (p2, end, machine_is, told_is, inl (step, went)) =

@@ -7,8 +7,8 @@ use Rattle.run_blocks.proofs.Given.WaitsEndingCalls.{AllOrOwn, as_own, copier_th
 use Rattle.run_blocks.proofs.Given.WaitersLikes.{IsFreshCopier, IsIdleCopier, idle_ends, like_keeps_blocking}
 use Rattle.seize.specs.declared.rows.settle.Settled.{Settled}
 use Rattle.seize.specs.declared.rows.settle.Settled.TheVariants as settled
-use Rattle.seize.specs.declared.progress.Progress.{Progress}
-use Rattle.seize.specs.declared.progress.Progress.TheVariants as progress
+use Rattle.seize.specs.declared.advance.Advance.{Advance}
+use Rattle.seize.specs.declared.advance.Advance.TheVariants as progress
 use Rattle.seize.specs.World.{World, Event, with_at}
 use Rattle.papaya_raw.specs.Given.TablesChunks.{is_incremental}
 use Rattle.papaya_raw.specs.Given.TablesDeclared.node.Node.{Node}
@@ -17,7 +17,7 @@ use Rattle.run_effects.specs.Given.ResizeDeclared.copier.Copier.{Copier}
 use Rattle.run_effects.specs.Given.ResizeDeclared.new_map.NewMap.{NewMap}
 use Rattle.papaya_raw.specs.CallAsks.{told_at}
 use Rattle.papaya_raw.specs.Machine.{is_ready, machine_asked, machine_replied, sweep_told}
-use Rattle.papaya_raw.specs.declared.machines.asking.Reply.{Reply}
+use Rattle.papaya_raw.specs.declared.machines.asking.MachineReply.{MachineReply}
 use Rattle.papaya_raw.specs.declared.machines.call.Calling.{Calling}
 use Rattle.papaya_raw.specs.declared.machines.call.Calling.TheVariants as at
 use Rattle.papaya_raw.specs.declared.machines.call.KeyCall.{KeyCall}
@@ -115,7 +115,7 @@ module _ {K V : Type 0} (s : Scene K V) (ends : ShowsEnds s) where
       (λ st is. like_keeps (is_incremental st.setting.mode) st.chart (s.calls map) i next (ends map st is) like)
 
 -- what a sweep is told, or asked for, leads out of no copier
-sweep_like : {V : Type 0} (c : Sweep) (reply : Reply V) (stands : Sweeping) → c.stands ≡ stands → IsLike (copier_in_sweep (sweep_told stands c reply).0.stands) (copier_in_sweep stands)
+sweep_like : {V : Type 0} (c : Sweep) (reply : MachineReply V) (stands : Sweeping) → c.stands ≡ stands → IsLike (copier_in_sweep (sweep_told stands c reply).0.stands) (copier_in_sweep stands)
 sweep_like c reply (sweeping.Asks word) here = inr (tt, told_fresh c word here reply)
 sweep_like c reply _ here = inl (ap copier_in_sweep here)
 
@@ -146,11 +146,11 @@ module _ {K V : Type 0} where
   copier_is (Counting sum) = refl
   copier_is (OverAll o) = refl
 
-  key_like : (c : KeyCall K V K) (reply : Reply V) (stands : Calling) → c.stands ≡ stands → IsLike (copier_in (told_at stands c reply).0.stands) (copier_in stands)
+  key_like : (c : KeyCall K V K) (reply : MachineReply V) (stands : Calling) → c.stands ≡ stands → IsLike (copier_in (told_at stands c reply).0.stands) (copier_in stands)
   key_like c reply (at.Asks about) here = inr (tt, reply_fresh c about here reply)
   key_like c reply _ here = inl (ap copier_in here)
 
-  replied_like : (machine : Machine K V K) (reply : Reply V) → IsLike (copier_at (machine_replied machine reply).0) (copier_at machine)
+  replied_like : (machine : Machine K V K) (reply : MachineReply V) → IsLike (copier_at (machine_replied machine reply).0) (copier_at machine)
   replied_like (kinds.Key c) reply = key_like c reply c.stands refl
   replied_like (kinds.Reserve c) reply = inl refl
   replied_like (kinds.Sweep c) reply = sweep_like c reply c.stands refl
@@ -195,7 +195,7 @@ module _ {K V : Type 0} (s : Scene K V) (ends : ShowsEnds s) (map i : ℕ) where
 
   module _ (u : UnderWay K V K) (here : s.calls map i ≡ Some u) where
     -- one goes on by what it is told
-    pub calls_take_ends : (reply : Reply V) (next : UnderWay K V K) → machine_of next ≡ (machine_replied (machine_of u) reply).0 → ShowsEnds (scene_with map i next s)
+    pub calls_take_ends : (reply : MachineReply V) (next : UnderWay K V K) → machine_of next ≡ (machine_replied (machine_of u) reply).0 → ShowsEnds (scene_with map i next s)
     calls_take_ends reply next next_is =
         call_like s ends map i (Some next) (goes_like u next (s.calls map i) here (machine_replied (machine_of u) reply).0 next_is (replied_like (machine_of u) reply))
 
@@ -228,7 +228,7 @@ module _ {K V : Type 0} (same : K → K → Bool) (hash : ℕ → K → ℕ) (s 
       maps_stay s ends (scene_then same hash event s old new happened) (λ n st is. stood_so (s.maps n) (happened.2 n) (happened.3 n) st is) refl
 
   -- a map is made
-  pub makings_keep_ends : (i : ℕ) (b : Beginning K) → ((k : ℕ) → s.calls b.map k ≡ None) → (opening : NewMap) (w2 : World (Node K V)) (said : Progress Setting) (comes : MakingComesTo same hash s old new i b opening w2 said)
+  pub makings_keep_ends : (i : ℕ) (b : Beginning K) → ((k : ℕ) → s.calls b.map k ≡ None) → (opening : NewMap) (w2 : World (Node K V)) (said : Advance Setting) (comes : MakingComesTo same hash s old new i b opening w2 said)
       → ShowsEnds (making_after same hash s old new i b opening w2 said comes)
   makings_keep_ends i b none opening w2 progress.Goes comes = ends
   makings_keep_ends i b none opening w2 progress.Waits comes = ends

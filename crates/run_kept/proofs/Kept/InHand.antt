@@ -5,7 +5,7 @@ use Rattle.run_schedules.specs.Given.SeizeWordsMem.{value_at}
 use Rattle.run_shows.specs.Given.SeizeWordsWord.{block_in}
 use Rattle.run_schedules.specs.Given.SeizeWordsDeclared.at.At.TheVariants.{Root, Used, Slot, Entry, Word}
 use Rattle.seize.specs.Law.{is_retired}
-use Rattle.seize.specs.declared.progress.Progress.{Progress}
+use Rattle.seize.specs.declared.advance.Advance.{Advance}
 use Rattle.seize.specs.declared.rows.defer.Defer.{Defer}
 use Rattle.seize.specs.declared.rows.defer.Deferring.{Deferring}
 use Rattle.seize.specs.declared.rows.defer.Deferring.TheVariants as deferring
@@ -234,7 +234,7 @@ module _ {K V : Type 0} (same : K → K → Bool) (hash : ℕ → K → ℕ) (na
         (λ b held of. row_role j b held told refl (row_tells old.memory new.memory told (to.0, said) row to.1)) noted
 
   -- the making of a map
-  pub makings_leave_in_hand : (i : ℕ) (said : Progress Setting) (leads : MakingLeads same hash i said s old new) (b : Beginning K) (here : s.makers i ≡ Some b) (of : Option ℕ) → WasNew b.map said m
+  pub makings_leave_in_hand : (i : ℕ) (said : Advance Setting) (leads : MakingLeads same hash i said s old new) (b : Beginning K) (here : s.makers i ≡ Some b) (of : Option ℕ) → WasNew b.map said m
       → (map j : ℕ) (u : UnderWay K V K) → s.calls map j ≡ Some u → NotesInHand known (machine_of u) → SameInHand known (known_after (acts.Making b.map) told known) (machine_of u)
   makings_leave_in_hand i said leads b here of was_new map j u call noted =
       in_hand_so map j u call (known_after (acts.Making b.map) told known)

@@ -1,8 +1,8 @@
 -- What is no call keeps all that is kept: a row on a slot, the making of a map, and the end of one.
 use Rattle.std.specs.Prelude.{◌≡◌, ℕ, Bool, List, Some, None}
 use Rattle.std.proofs.Common.{refl, sym, subst, inl}
-use Rattle.seize.specs.declared.progress.Progress.{Progress}
-use Rattle.seize.specs.declared.progress.Progress.TheVariants as progress
+use Rattle.seize.specs.declared.advance.Advance.{Advance}
+use Rattle.seize.specs.declared.advance.Advance.TheVariants as progress
 use Rattle.seize.specs.declared.rows.settle.Settled.{Settled}
 use Rattle.seize.specs.declared.rows.settle.Settled.TheVariants as settled
 use Rattle.seize.specs.World.{World, Begin, Step}
@@ -72,14 +72,14 @@ use Rattle.run_shows.specs.Scenes.Scene.{Scene, slot_of}
 
 -- the calls and ends that are under way after a step of a making, and the calls after one of an end
 module _ {K V : Type 0} (same : K → K → Bool) (hash : ℕ → K → ℕ) (s : Scene K V) (old new : Held K V) (i : ℕ) where
-  making_calls : (b : Beginning K) (opening : NewMap) (w2 : World (Node K V)) (said : Progress Setting) (comes : MakingComesTo same hash s old new i b opening w2 said)
+  making_calls : (b : Beginning K) (opening : NewMap) (w2 : World (Node K V)) (said : Advance Setting) (comes : MakingComesTo same hash s old new i b opening w2 said)
       → (making_after same hash s old new i b opening w2 said comes).calls ≡ s.calls
   making_calls b opening w2 progress.Goes comes = refl
   making_calls b opening w2 progress.Waits comes = refl
   making_calls b opening w2 (progress.Done setting) comes = refl
   making_calls b opening w2 (progress.Refused fault) comes = refl
 
-  making_enders : (b : Beginning K) (opening : NewMap) (w2 : World (Node K V)) (said : Progress Setting) (comes : MakingComesTo same hash s old new i b opening w2 said)
+  making_enders : (b : Beginning K) (opening : NewMap) (w2 : World (Node K V)) (said : Advance Setting) (comes : MakingComesTo same hash s old new i b opening w2 said)
       → (making_after same hash s old new i b opening w2 said comes).enders ≡ s.enders
   making_enders b opening w2 progress.Goes comes = refl
   making_enders b opening w2 progress.Waits comes = refl

@@ -11,8 +11,8 @@ use Rattle.run_schedules.specs.Given.SeizeWordsOp.{Out, Exchange, Found, Stored,
 use Rattle.run_schedules.specs.Given.SeizeWordsPlan.{May, Ends, Steps}
 use Rattle.run_schedules.specs.Given.SeizeWordsWord.{link_to, block_in}
 use Rattle.seize.specs.declared.states.TheConstants.{LAST_SLOT}
-use Rattle.seize.specs.declared.progress.Progress.{Progress}
-use Rattle.seize.specs.declared.progress.Progress.TheVariants as progress
+use Rattle.seize.specs.declared.advance.Advance.{Advance}
+use Rattle.seize.specs.declared.advance.Advance.TheVariants as progress
 use Rattle.seize.specs.declared.rows.defer.Defer.{Defer}
 use Rattle.seize.specs.declared.rows.defer.Deferring.{Deferring}
 use Rattle.seize.specs.declared.rows.defer.Deferring.TheVariants as deferring
@@ -72,7 +72,7 @@ use Rattle.run_shows.specs.Scenes.Stepping.{StepLeads}
 itself : (t field : ℕ) → same_at (Word t field) (Word t field) ≡ true
 itself t field = grind (arith, eq-eqb t t refl, eq-eqb field field refl)
 
-defers_memory : {T : Type 0} (w : World T) (i s : ℕ) (m : Mem T) (end : Defer × Progress Unit) → (defers_on w i s m end).memory ≡ m
+defers_memory : {T : Type 0} (w : World T) (i s : ℕ) (m : Mem T) (end : Defer × Advance Unit) → (defers_on w i s m end).memory ≡ m
 defers_memory w i s m (d, progress.Goes) = refl
 defers_memory w i s m (d, progress.Waits) = refl
 defers_memory w i s m (d, progress.Done u) = refl
@@ -125,7 +125,7 @@ module _ {K V : Type 0} (size : ℕ) (w w2 : World (Node K V)) (reached : Reache
       let l : LeavesBy w.memory w2.memory (changed.Wrote x old new) = subst (LeavesBy w.memory w2.memory) is left in
       let both : Some new ≡ Some old = sym l.1 ∙ ap (λ (k : Mem (Node K V)). word_at k x) same ∙ l.0 in cc both)
 
-  module _ (s : ℕ) (c : Defer) (here : w.row i ≡ DefersRow s c) (mem2 : Mem (Node K V)) (end : Defer × Progress Unit)
+  module _ (s : ℕ) (c : Defer) (here : w.row i ≡ DefersRow s c) (mem2 : Mem (Node K V)) (end : Defer × Advance Unit)
       (st : Steps Took value_at w.memory (defer_plan c) mem2 end) (e : w2 ≡ defers_on w i s mem2 end) where
     memory_is : w2.memory ≡ mem2
     memory_is = ap (λ (u : World (Node K V)). u.memory) e ∙ defers_memory w i s mem2 end

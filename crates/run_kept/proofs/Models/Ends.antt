@@ -23,7 +23,7 @@ use Rattle.run_schedules.specs.Schedules.Moment.{Moment}
 use Rattle.run_schedules.specs.Schedules.Things.{same_table}
 use Rattle.run_schedules.specs.declared.effect.Effect.{Effect}
 use Rattle.run_schedules.specs.declared.effect.Effect.TheVariants as effect
-use Rattle.run_schedules.specs.declared.effect.Table.{Table}
+use Rattle.run_schedules.specs.declared.effect.TableId.{TableId}
 use Rattle.run_schedules.specs.declared.effect.Thing.{Thing}
 use Rattle.run_schedules.specs.declared.effect.Thing.TheVariants.{APair, ATable}
 use Rattle.run_effects.specs.declared.changed.Changed.{Changed}
@@ -61,7 +61,7 @@ use Rattle.run_shows.proofs.Scenes.Between.{deed_between}
 module _ {K V : Type 0} (batch_size roots : ℕ) (things : List Thing) (sets : Sets) (known : Known) (w : World (Node K V)) (small : batch_size < 2 ^ 64)
     (follows : FollowsSets batch_size roots things sets known w) (m : Moment K V) (blocks : ShowsBlocks m known w) where
   abbrev IsTable : ℕ → Type 0
-  IsTable b = (t : Table) × (len : ℕ) × (known.roles b ≡ role.Table t len)
+  IsTable b = (t : TableId) × (len : ℕ) × (known.roles b ≡ role.Table t len)
 
   abbrev HasList : ℕ → Type 0
   HasList b = (value : Node K V) → value_at w.memory b ≡ Some value → deferred_word value ≡ None → ⊥
@@ -149,7 +149,7 @@ module _ {T : Type 0} (defers : T → Option ℕ) (batch_size roots i : ℕ) whe
 
 -- What a step of an end tells.
 
-itself : (t : Table) → is_in same_table t (t ∷ []) ≡ true
+itself : (t : TableId) → is_in same_table t (t ∷ []) ≡ true
 itself t = by (t.map == t.map) (t.turn == t.turn) (eq-eqb t.map t.map refl) (eq-eqb t.turn t.turn refl)
   where
     by : (p q : Bool) → p ≡ true → q ≡ true → ((p && q) || false) ≡ true
@@ -157,7 +157,7 @@ itself t = by (t.map == t.map) (t.turn == t.turn) (eq-eqb t.map t.map refl) (eq-
     by true false e f = absurd (cc f)
     by false q e f = absurd (cc e)
 
-in_first : (t : Table) (xs ys : List Table) → is_in same_table t xs ≡ true → is_in same_table t (xs ++ ys) ≡ true
+in_first : (t : TableId) (xs ys : List TableId) → is_in same_table t xs ≡ true → is_in same_table t (xs ++ ys) ≡ true
 in_first t [] ys is = absurd (cc is)
 in_first t (x ∷ xs) ys is = by (same_table t x) is (in_first t xs ys)
   where
@@ -165,7 +165,7 @@ in_first t (x ∷ xs) ys is = by (same_table t x) is (in_first t xs ys)
     by true is ih = refl
     by false is ih = ih is
 
-in_second : (t : Table) (xs ys : List Table) → is_in same_table t ys ≡ true → is_in same_table t (xs ++ ys) ≡ true
+in_second : (t : TableId) (xs ys : List TableId) → is_in same_table t ys ≡ true → is_in same_table t (xs ++ ys) ≡ true
 in_second t [] ys is = is
 in_second t (x ∷ xs) ys is = by (same_table t x) (in_second t xs ys is)
   where
@@ -173,12 +173,12 @@ in_second t (x ∷ xs) ys is = by (same_table t x) (in_second t xs ys is)
     by true ih = refl
     by false ih = ih
 
-module _ (P Q R : Table → Type 0) (p : (t : Table) → P t → R t) (q : (t : Table) → Q t → R t) where
-  rest_is : (ys : List Table) → AllByRecursion Q ys → AllByRecursion R ys
+module _ (P Q R : TableId → Type 0) (p : (t : TableId) → P t → R t) (q : (t : TableId) → Q t → R t) where
+  rest_is : (ys : List TableId) → AllByRecursion Q ys → AllByRecursion R ys
   rest_is [] d = tt
   rest_is (y ∷ ys) d = (q y d.0, rest_is ys d.1)
 
-  both_are : (xs ys : List Table) → AllByRecursion P xs → AllByRecursion Q ys → AllByRecursion R (xs ++ ys)
+  both_are : (xs ys : List TableId) → AllByRecursion P xs → AllByRecursion Q ys → AllByRecursion R (xs ++ ys)
   both_are [] ys c d = rest_is ys d
   both_are (x ∷ xs) ys c d = (p x c.0, both_are xs ys c.1 d)
 
@@ -211,7 +211,7 @@ both_of_end (x ∷ xs) ys c d = (c.0, both_of_end xs ys c.1 d)
 
 keep_tables : (effects : List Effect) → AllKeep effects → flat_map tables_taken effects ≡ []
 keep_tables [] all = refl
-keep_tables (e ∷ effects) all = flat_map-cons tables_taken e effects ∙ ap (λ (ts : List Table). ts ++ flat_map tables_taken effects) (by e all.0) ∙ keep_tables effects all.1
+keep_tables (e ∷ effects) all = flat_map-cons tables_taken e effects ∙ ap (λ (ts : List TableId). ts ++ flat_map tables_taken effects) (by e all.0) ∙ keep_tables effects all.1
   where
     by : (e : Effect) → KeepsAll e → tables_taken e ≡ []
     by (effect.Taken t) is = absurd is
@@ -234,7 +234,7 @@ module _ (of : ℕ) (known : Known) where
       by true = inr refl
       by false = inl refl
 
-  told_on : (x : Changed) → SaysOrTakes x → (b len : ℕ) (t : Table) → known.roles b ≡ role.Table t len → (known_after its x known).roles b ≡ role.Free
+  told_on : (x : Changed) → SaysOrTakes x → (b len : ℕ) (t : TableId) → known.roles b ≡ role.Table t len → (known_after its x known).roles b ≡ role.Free
       → is_in same_table t (flat_map tables_taken (effects_of its known x)) ≡ true
   told_on x (inl calm) b len t was free = absurd (let same = ap (λ (f : ℕ → Role). f b) calm.1 in cc (same, was, free))
   told_on x (inr (c, is)) b len t was free =
@@ -334,9 +334,9 @@ module _ {K V : Type 0} (same : K → K → Bool) (hash : ℕ → K → ℕ) (na
     left_then b (inl is) = left_still b (r.left b is)
     left_then b (inr is) = inl (left_now b (ended_left b did.deed is))
 
-    told_then : (b len : ℕ) (t : Table) → first.roles b ≡ role.Table t len → known2.roles b ≡ role.Free → is_in same_table t (flat_map tables_taken (done ++ effects)) ≡ true
+    told_then : (b len : ℕ) (t : TableId) → first.roles b ≡ role.Table t len → known2.roles b ≡ role.Free → is_in same_table t (flat_map tables_taken (done ++ effects)) ≡ true
     told_then b len t was free =
-        subst (λ (ts : List Table). is_in same_table t ts ≡ true) (sym (flat_map-append tables_taken done effects)) (by (r.noted b))
+        subst (λ (ts : List TableId). is_in same_table t ts ≡ true) (sym (flat_map-append tables_taken done effects)) (by (r.noted b))
       where
         by : (known.roles b ≡ first.roles b) ⊎ (known.roles b ≡ role.Free) → is_in same_table t (flat_map tables_taken done ++ flat_map tables_taken effects) ≡ true
         by (inl same_role) = in_second t (flat_map tables_taken done) (flat_map tables_taken effects) (told_on number known told says b len t (same_role ∙ was) free)
@@ -349,17 +349,17 @@ module _ {K V : Type 0} (same : K → K → Bool) (hash : ℕ → K → ℕ) (na
         by (inl e) = e ∙ free
         by (inr e) = e
 
-    was_first : (b len : ℕ) (t : Table) → known.roles b ≡ role.Table t len → first.roles b ≡ role.Table t len
+    was_first : (b len : ℕ) (t : TableId) → known.roles b ≡ role.Table t len → first.roles b ≡ role.Table t len
     was_first b len t is = by (r.noted b)
       where
         by : (known.roles b ≡ first.roles b) ⊎ (known.roles b ≡ role.Free) → first.roles b ≡ role.Table t len
         by (inl e) = sym e ∙ is
         by (inr e) = absurd (cc (e, is))
 
-    taken_before : (t : Table) → WasTaken first known t → WasTaken first known2 t
+    taken_before : (t : TableId) → WasTaken first known t → WasTaken first known2 t
     taken_before t (b, len, was, free) = (b, len, was, still_free b free)
 
-    taken_now : (t : Table) → WasTaken known known2 t → WasTaken first known2 t
+    taken_now : (t : TableId) → WasTaken known known2 t → WasTaken first known2 t
     taken_now t (b, len, was, free) = (b, len, was_first b len t was, free)
 
     pub goes_on : FollowsInEnd old.batch_size roots things sets first i (done ++ effects) known2 w2

@@ -20,7 +20,7 @@ use Rattle.run_schedules.specs.Schedules.Moment.{Moment}
 use Rattle.run_schedules.specs.Schedules.Things.{same_table}
 use Rattle.run_schedules.specs.declared.effect.Effect.{Effect}
 use Rattle.run_schedules.specs.declared.effect.Effect.TheVariants as effect
-use Rattle.run_schedules.specs.declared.effect.Table.{Table}
+use Rattle.run_schedules.specs.declared.effect.TableId.{TableId}
 use Rattle.run_schedules.specs.declared.effect.Thing.{Thing}
 use Rattle.run_schedules.specs.declared.effect.Thing.TheVariants.{ATable}
 use Rattle.run_effects.specs.Effects.Known.{Known}
@@ -42,14 +42,14 @@ use Rattle.run_kept.proofs.Models.Numbers.{numbers_once, one_thing}
 use Rattle.run_kept.proofs.Models.Turns.{all_there}
 
 module _ (things : List Thing) where
-  abbrev number : Table → ℕ
+  abbrev number : TableId → ℕ
   number t = number_in things (ATable t)
 
   -- what hands nothing over changes the sets by the tables that are taken alone
   handing_ends : (slot : ℕ) (effects : List Effect) → HandNone effects → flat_map (handing things slot) effects ≡ map (λ b. Ends b) (map number (flat_map tables_taken effects))
   handing_ends slot [] all = refl
   handing_ends slot (e ∷ effects) all =
-      flat_map-cons (handing things slot) e effects ∙ by e all.0 (handing_ends slot effects all.1) ∙ ap (λ (ts : List Table). map (λ (b : ℕ). Ends b) (map number ts)) (sym (flat_map-cons tables_taken e effects))
+      flat_map-cons (handing things slot) e effects ∙ by e all.0 (handing_ends slot effects all.1) ∙ ap (λ (ts : List TableId). map (λ (b : ℕ). Ends b) (map number ts)) (sym (flat_map-cons tables_taken e effects))
     where
       by : (e : Effect) → HandsNone e → flat_map (handing things slot) effects ≡ map (λ b. Ends b) (map number (flat_map tables_taken effects))
           → handing things slot e ++ flat_map (handing things slot) effects ≡ map (λ b. Ends b) (map number (tables_taken e ++ flat_map tables_taken effects))
@@ -59,7 +59,7 @@ module _ (things : List Thing) where
       by _ is ih = ih
 
   -- the number of one that was taken is among theirs
-  number_there : (t : Table) (ts : List Table) → is_in same_table t ts ≡ true → is_one_of (number t) (map number ts) ≡ true
+  number_there : (t : TableId) (ts : List TableId) → is_in same_table t ts ≡ true → is_one_of (number t) (map number ts) ≡ true
   number_there t [] is = absurd (cc is)
   number_there t (u ∷ ts) is = by (same_table t u) refl is (number_there t ts)
     where
@@ -73,12 +73,12 @@ module _ (things : List Thing) where
       by false e is ih = later (number t == number u) (ih is)
 
   -- and one among these is of one that was taken
-  taken_there : (P : Table → Type 0) (k : ℕ) (ts : List Table) → AllByRecursion P ts → is_one_of k (map number ts) ≡ true → (t : Table) × P t × (k ≡ number t)
+  taken_there : (P : TableId → Type 0) (k : ℕ) (ts : List TableId) → AllByRecursion P ts → is_one_of k (map number ts) ≡ true → (t : TableId) × P t × (k ≡ number t)
   taken_there P k [] all is = absurd (cc is)
   taken_there P k (t ∷ ts) all is = by (k == number t) refl is (taken_there P k ts all.1)
     where
-      by : (q : Bool) → (k == number t) ≡ q → (q || is_one_of k (map number ts)) ≡ true → (is_one_of k (map number ts) ≡ true → (u : Table) × P u × (k ≡ number u))
-          → (u : Table) × P u × (k ≡ number u)
+      by : (q : Bool) → (k == number t) ≡ q → (q || is_one_of k (map number ts)) ≡ true → (is_one_of k (map number ts) ≡ true → (u : TableId) × P u × (k ≡ number u))
+          → (u : TableId) × P u × (k ≡ number u)
       by true e is ih = (t, all.0, eqb-true k (number t) e)
       by false e is ih = ih is
 
@@ -95,10 +95,10 @@ module _ {K V : Type 0} (batch_size roots : ℕ) (things : List Thing) (sets : S
   There f = IsSome (value_at w.memory f.number) × IsSome (value_at w.memory f.behind)
 
   abbrev WasTable : Further → Type 0
-  WasTable f = (t : Table) × (len : ℕ) × (first.roles f.behind ≡ role.Table t len)
+  WasTable f = (t : TableId) × (len : ℕ) × (first.roles f.behind ≡ role.Table t len)
 
   -- a table that is left over, or gone, was taken away
-  now_free : (b len : ℕ) (t : Table) → first.roles b ≡ role.Table t len → is_one_of b r.ended ≡ true → known.roles b ≡ role.Free
+  now_free : (b len : ℕ) (t : TableId) → first.roles b ≡ role.Table t len → is_one_of b r.ended ≡ true → known.roles b ≡ role.Free
   now_free b len t was is = by (r.noted b) (r.left b is)
     where
       by : (known.roles b ≡ first.roles b) ⊎ (known.roles b ≡ role.Free) → (w.hand b ≡ LeftTo i) ⊎ (value_at w.memory b ≡ None) → known.roles b ≡ role.Free

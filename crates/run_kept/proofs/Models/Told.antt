@@ -23,7 +23,7 @@ use Rattle.run_effects.specs.declared.changed.Kind.TheVariants as kind
 use Rattle.run_schedules.specs.declared.effect.Effect.{Effect}
 use Rattle.run_schedules.specs.declared.effect.Effect.TheVariants as effect
 use Rattle.run_schedules.specs.declared.effect.Growth.TheVariants.{ABucket, ABlock}
-use Rattle.run_schedules.specs.declared.effect.Table.{Table}
+use Rattle.run_schedules.specs.declared.effect.TableId.{TableId}
 use Rattle.run_schedules.specs.declared.effect.Thing.{Thing}
 use Rattle.run_schedules.specs.declared.effect.Thing.TheVariants.{APair, ATable}
 use Rattle.run_effects.specs.Effects.Effects.{names_same, named, led_to, in_block, batched, made_by, taken_by, effects_of, known_after}
@@ -156,7 +156,7 @@ module _ (i map : ℕ) (known : Known) where
       by (ATable t) of = ap (λ (r : Role). batched its FIRST r) of.1
 
   -- where a pair is put in front of what a table carries, it is deferred behind that
-  pub word_defers : (b t old n len : ℕ) (table : Table) → known.roles b ≡ role.Pair n → known.roles t ≡ role.Table table len → names_same old (link_to b) ≡ false
+  pub word_defers : (b t old n len : ℕ) (table : TableId) → known.roles b ≡ role.Pair n → known.roles t ≡ role.Table table len → names_same old (link_to b) ≡ false
       → effects_of its known (changed.Wrote (Word t DEFERRED) old (link_to b)) ≡ effect.Deferred n table ∷ []
   word_defers b t old n len table pair is differ =
       ap (λ (r : Role). in_block its r DEFERRED known.stored (names_same old (link_to b)) (named known old) (named known (link_to b))) is

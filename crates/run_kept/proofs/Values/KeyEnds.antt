@@ -7,8 +7,8 @@ use Rattle.run_schedules.specs.Given.SeizeWordsPlan.{Steps}
 use Rattle.run_shows.specs.Given.SeizeWordsWord.{block_in}
 use Rattle.seize.specs.declared.rows.settle.Settled.{Settled}
 use Rattle.seize.specs.declared.rows.settle.Settled.TheVariants as settled
-use Rattle.seize.specs.declared.progress.Progress.{Progress}
-use Rattle.seize.specs.declared.progress.Progress.TheVariants as progress
+use Rattle.seize.specs.declared.advance.Advance.{Advance}
+use Rattle.seize.specs.declared.advance.Advance.TheVariants as progress
 use Rattle.papaya_raw.specs.Given.TablesChunks.{is_incremental}
 use Rattle.papaya_raw.specs.Given.TablesFinding.{may_name}
 use Rattle.papaya_raw.specs.Given.TablesTrials.{next_trial, with_met}
@@ -27,8 +27,8 @@ use Rattle.run_effects.specs.Given.ResizeNewTable.{new_table_plan}
 use Rattle.run_effects.specs.Given.ResizeDeclared.copier.Copier.{Copier}
 use Rattle.run_effects.specs.Given.ResizeDeclared.lookup.Lookup.{Lookup}
 use Rattle.run_effects.specs.Given.ResizeDeclared.new_table.NewTable.{NewTable}
-use Rattle.run_effects.specs.Given.ResizeDeclared.outcome.Outcome.{Outcome}
-use Rattle.run_effects.specs.Given.ResizeDeclared.outcome.Outcome.TheVariants as outcome
+use Rattle.run_effects.specs.Given.ResizeDeclared.yielding.Yielding.{Yielding}
+use Rattle.run_effects.specs.Given.ResizeDeclared.yielding.Yielding.TheVariants as outcome
 use Rattle.papaya_raw.specs.Answers.{ended}
 use Rattle.papaya_raw.specs.Call.{made, makes_of, root_found, next_found, dropped, key_read, pair_read, word_read, word_found, tried, looked, looks_for, first_made, next_made, helped, copied, disposed, plan_at, call_plan}
 use Rattle.papaya_raw.specs.CallFills.{filled, putting_by, fill_by, emptied, fills_with, given_up}
@@ -187,33 +187,33 @@ module _ (Founds : ℕ → Type 0) {K V Q : Type 0} where
         tried_comes here word new _ = here
 
     -- what machines within it tell
-    looked_comes : ((word : ℕ) → Founds word) → (end : Lookup × Progress (Option ℕ)) → Comes (looked p end)
+    looked_comes : ((word : ℕ) → Founds word) → (end : Lookup × Advance (Option ℕ)) → Comes (looked p end)
     looked_comes may (l, progress.Goes) = tt
     looked_comes may (l, progress.Waits) = tt
     looked_comes may (l, progress.Done (Some found)) = may found
     looked_comes may (l, progress.Done None) = tt
     looked_comes may (l, progress.Refused fault) = tt
 
-    first_comes : (end : NewTable × Progress Table) → Comes (first_made p end)
+    first_comes : (end : NewTable × Advance Table) → Comes (first_made p end)
     first_comes (n, progress.Goes) = tt
     first_comes (n, progress.Waits) = tt
     first_comes (n, progress.Done table) = tt
     first_comes (n, progress.Refused fault) = fault_comes fault
 
-    next_comes : (end : NewTable × Progress Table) → Comes (next_made p end)
+    next_comes : (end : NewTable × Advance Table) → Comes (next_made p end)
     next_comes (n, progress.Goes) = tt
     next_comes (n, progress.Waits) = tt
     next_comes (n, progress.Done table) = on_comes table
     next_comes (n, progress.Refused fault) = fault_comes fault
 
-    helped_comes : (goal : Table) (end : Copier × Outcome (Node K V) Table) → Comes (helped p goal end)
+    helped_comes : (goal : Table) (end : Copier × Yielding (Node K V) Table) → Comes (helped p goal end)
     helped_comes goal (c, outcome.Goes) = tt
     helped_comes goal (c, outcome.Waits) = tt
     helped_comes goal (c, outcome.Gave value) = tt
     helped_comes goal (c, outcome.Done table) = tt
     helped_comes goal (c, outcome.Refused fault) = fault_comes fault
 
-    copied_comes : (end : Copier × Outcome (Node K V) Table) → Comes (copied p end)
+    copied_comes : (end : Copier × Yielding (Node K V) Table) → Comes (copied p end)
     copied_comes (c, outcome.Goes) = tt
     copied_comes (c, outcome.Waits) = tt
     copied_comes (c, outcome.Gave value) = tt

@@ -18,8 +18,8 @@ use Rattle.papaya_raw.specs.declared.machines.answer.KeyAnswer.TheVariants as an
 use Rattle.papaya_raw.specs.declared.machines.asking.Asking.{Asking as AskingAt}
 use Rattle.papaya_raw.specs.declared.machines.asking.Asking.TheVariants as asking
 use Rattle.papaya_raw.specs.declared.machines.asking.Gap.{Gap}
-use Rattle.papaya_raw.specs.declared.machines.asking.Reply.{Reply as MachineReply}
-use Rattle.papaya_raw.specs.declared.machines.asking.Reply.TheVariants as reply
+use Rattle.papaya_raw.specs.declared.machines.asking.MachineReply.{MachineReply}
+use Rattle.papaya_raw.specs.declared.machines.asking.MachineReply.TheVariants as reply
 use Rattle.papaya_raw.specs.declared.machines.asking.Takes.{Takes}
 use Rattle.papaya_raw.specs.declared.machines.asking.Takes.TheVariants as takes
 use Rattle.papaya_raw.specs.declared.machines.call.Calling.{Calling}
@@ -53,7 +53,7 @@ use Rattle.run_effects.specs.declared.changed.Changed.TheVariants as changed
 use Rattle.run_executor.specs.Named.Machines.{aborted_by}
 use Rattle.run_executor.specs.Named.Seen.{kind_of}
 use Rattle.run_executor.specs.Named.Telling.{value_of}
-use Rattle.run_executor.specs.declared.kind.Kind.TheVariants as kind
+use Rattle.run_executor.specs.declared.kind.CallKind.TheVariants as kind
 use Rattle.run_kept.specs.Values.Values.{InsertsTellTheirs, IsEnding, KeepsValue, ValuesBegin, ValuesGoOn, ValuesTaken, kept_after}
 use Rattle.run_kept.proofs.Values.KeyEnds.{Comes, IsNotOver, MayFind, ending_stays, key_comes_so}
 use Rattle.run_kept.proofs.Values.Inserts.{FoundOver, asked_on, called_so, its_pair, may_find, same_call, takes_nothing}

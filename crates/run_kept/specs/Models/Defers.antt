@@ -14,7 +14,7 @@ use Rattle.run_effects.specs.Effects.Known.{Known}
 use Rattle.run_effects.specs.declared.role.Role.TheVariants as role
 use Rattle.run_schedules.specs.Schedules.Lists.{is_in}
 use Rattle.run_schedules.specs.Schedules.Things.{same_thing}
-use Rattle.run_schedules.specs.declared.effect.Table.{Table}
+use Rattle.run_schedules.specs.declared.effect.TableId.{TableId}
 use Rattle.run_schedules.specs.declared.effect.Thing.{Thing}
 use Rattle.run_schedules.specs.declared.effect.Thing.TheVariants.{APair, ATable}
 use Rattle.run_kept.specs.Models.Alike.{ChangesAlike}
@@ -44,7 +44,7 @@ HasDeferred _ = ⊥
 pub record AreNoted (things : List Thing) (known : Known) (b t : ℕ) : Type 0 where
   pub n : ℕ
   pub len : ℕ
-  pub table : Table
+  pub table : TableId
   pub pair_is : known.roles b ≡ role.Pair n
   pub table_is : known.roles t ≡ role.Table table len
   pub pair_came : is_in same_thing (APair n) things ≡ true

@@ -16,7 +16,7 @@ use Rattle.run_schedules.specs.Schedules.Moment.{Moment}
 use Rattle.run_schedules.specs.Schedules.Things.{same_table}
 use Rattle.run_schedules.specs.declared.effect.Effect.{Effect}
 use Rattle.run_schedules.specs.declared.effect.Effect.TheVariants.{Stored, Linked, Reclaimed}
-use Rattle.run_schedules.specs.declared.effect.Table.{Table}
+use Rattle.run_schedules.specs.declared.effect.TableId.{TableId}
 use Rattle.run_schedules.specs.declared.effect.Thing.{Thing}
 use Rattle.run_effects.specs.Effects.Effects.{effects_of, known_after}
 use Rattle.run_effects.specs.Effects.Known.{Known}
@@ -48,7 +48,7 @@ AreOfEnd (e ∷ effects) = IsOfEnd e × AreOfEnd effects
 
 module _ (first known : Known) where
   -- the table was in a block which was taken away
-  abbrev pub WasTaken : Table → Type 0
+  abbrev pub WasTaken : TableId → Type 0
   WasTaken t = (b : ℕ) × (len : ℕ) × (first.roles b ≡ role.Table t len) × (known.roles b ≡ role.Free)
 
 module _ {K V : Type 0} (batch_size roots : ℕ) where
@@ -60,17 +60,17 @@ module _ {K V : Type 0} (batch_size roots : ℕ) where
     pub ended : List ℕ
     pub came : CameByTurns deferred_word batch_size roots w (before ++ map (λ b. Ends b) ended)
     pub alike : SetsAlike (HasNumber first things) (sets_of batch_size before) sets
-    pub tables : Every (λ f. (t : Table) × (len : ℕ) × (first.roles f.behind ≡ role.Table t len)) (sets_of batch_size before).further
+    pub tables : Every (λ f. (t : TableId) × (len : ℕ) × (first.roles f.behind ≡ role.Table t len)) (sets_of batch_size before).further
     pub left : (b : ℕ) → is_one_of b ended ≡ true → (w.hand b ≡ LeftTo i) ⊎ (value_at w.memory b ≡ None)
     pub noted : (b : ℕ) → (known.roles b ≡ first.roles b) ⊎ (known.roles b ≡ role.Free)
-    pub told : (b len : ℕ) (t : Table) → first.roles b ≡ role.Table t len → known.roles b ≡ role.Free → is_in same_table t (flat_map tables_taken done) ≡ true
+    pub told : (b len : ℕ) (t : TableId) → first.roles b ≡ role.Table t len → known.roles b ≡ role.Free → is_in same_table t (flat_map tables_taken done) ≡ true
     pub taken : AllByRecursion (WasTaken first known) (flat_map tables_taken done)
     pub hands : HandNone done
     pub of_end : AreOfEnd done
 
 -- no block that is noted as a table is left over
 abbrev pub NoTableIsLeft : {K V : Type 0} → Known → ℕ → World (Node K V) → Type 0
-NoTableIsLeft known i w = (b len : ℕ) (t : Table) → known.roles b ≡ role.Table t len → w.hand b ≡ LeftTo i → ⊥
+NoTableIsLeft known i w = (b len : ℕ) (t : TableId) → known.roles b ≡ role.Table t len → w.hand b ≡ LeftTo i → ⊥
 
 module _ (K V : Type 0) where
   -- The promises: so it is where the end of a map begins;

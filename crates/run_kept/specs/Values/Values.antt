@@ -28,7 +28,7 @@ use Rattle.run_executor.specs.Given.MomentsWhole.{ShowsWhole}
 use Rattle.run_executor.specs.Named.Machines.{aborted_by, machine_for}
 use Rattle.run_executor.specs.Named.Seen.{kind_of}
 use Rattle.run_executor.specs.Named.Telling.{kept}
-use Rattle.run_executor.specs.declared.kind.Kind.{Kind}
+use Rattle.run_executor.specs.declared.kind.CallKind.{CallKind}
 use Rattle.run_shows.specs.Scenes.Held.{Held, IsAt}
 use Rattle.run_shows.specs.Scenes.Scene.{Scene}
 use Rattle.run_shows.specs.Scenes.Stepping.{StepLeads}
@@ -47,7 +47,7 @@ KeepsValue {K} {V} (On (Compute k)) replies (kinds.Key p) value = (about : Optio
 KeepsValue call replies machine value = Unit {0}
 
 -- what it keeps after a step that says this
-abbrev pub kept_after : {K V : Type 0} → Kind → Progress (Node K V) → Option V → Option V
+abbrev pub kept_after : {K V : Type 0} → CallKind → Progress (Node K V) → Option V → Option V
 kept_after its (progress.Unstored node) value = kept its node value
 kept_after its said value = value
 

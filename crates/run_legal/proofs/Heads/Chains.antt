@@ -2,8 +2,8 @@
 use Rattle.std.specs.Prelude.{ℕ, zero, suc, Bool}
 use Rattle.std.proofs.Common.{refl, sym, subst}
 use Rattle.run_grows.specs.Given.SeizeWordsMem.{Mem}
-use Rattle.run_grows.specs.Given.SeizeDeclared.progress.Progress.{Progress}
-use Rattle.run_grows.specs.Given.SeizeDeclared.progress.Progress.TheVariants as progress
+use Rattle.run_grows.specs.Given.SeizeDeclared.advance.Advance.{Advance}
+use Rattle.run_grows.specs.Given.SeizeDeclared.advance.Advance.TheVariants as progress
 use Rattle.run_grows.specs.Given.SeizeDeclared.rows.settle.Settled.{Settled}
 use Rattle.run_grows.specs.Given.SeizeDeclared.rows.settle.Settled.TheVariants as settled
 use Rattle.run_grows.specs.Given.TablesDeclared.node.Node.{Node}
@@ -43,7 +43,7 @@ module _ {K V : Type 0} (same : K → K → Bool) (hash : ℕ → K → ℕ) (te
             by_memory (memory_at from) to.held.memory (step.leads step.making step.here).2.step.w2.memory (step.leads step.making step.here).2.step.memory
             (making_taken same hash from.scene from.held to.held i step.said step.leads step.making step.here)
 
-        by : (said : Progress Setting)
+        by : (said : Advance Setting)
             → (comes : MakingComesTo same hash from.scene from.held to.held i step.making (step.leads step.making step.here).0 (step.leads step.making step.here).2.step.w2 said)
             → KeepsTaken (memory_at from)
             (making_after same hash from.scene from.held to.held i step.making (step.leads step.making step.here).0 (step.leads step.making step.here).2.step.w2 said comes).world.memory

@@ -10,8 +10,8 @@ use Rattle.run_grows.specs.Given.SeizeWordsDeclared.fault.Fault.TheVariants.{Slo
 use Rattle.run_grows.proofs.Given.SeizeWordsOneOwner.Operations.{exchanged, loaded, stored}
 use Rattle.run_grows.specs.Given.SeizeRegister.{begun, can_be_taken, further, going, looked, plan_at, refused, register_plan, registered, taken, taking, widened, bucket_needed}
 use Rattle.run_grows.specs.Given.SeizeWorld.{World, Registers, SlotsTaken}
-use Rattle.run_grows.specs.Given.SeizeDeclared.progress.Progress.{Progress}
-use Rattle.run_grows.specs.Given.SeizeDeclared.progress.Progress.TheVariants as progress
+use Rattle.run_grows.specs.Given.SeizeDeclared.advance.Advance.{Advance}
+use Rattle.run_grows.specs.Given.SeizeDeclared.advance.Advance.TheVariants as progress
 use Rattle.run_grows.specs.Given.SeizeDeclared.rows.register.Register.{Register}
 use Rattle.run_grows.specs.Given.SeizeDeclared.rows.register.Registering.{Registering}
 use Rattle.run_grows.specs.Given.SeizeDeclared.rows.register.Registering.TheVariants as at
@@ -69,18 +69,18 @@ module _ {T : Type 0} (k : ℕ) where
   RegisterSo m c = SlotsTaken m (if has_taken c.stands then max k (c.slot + 1) else k)
 
   -- and after a step that told this
-  abbrev pub ToldSo : Mem T → Register → Progress ℕ → Type 0
+  abbrev pub ToldSo : Mem T → Register → Advance ℕ → Type 0
   ToldSo m c progress.Goes = RegisterSo m c
   ToldSo m c progress.Waits = ⊥
   ToldSo m c (progress.Done slot) = SlotsTaken m (max k (slot + 1))
   ToldSo m c (progress.Refused fault) = SlotsTaken m k
 
-  abbrev pub EndSo : Mem T → Register × Progress ℕ → Type 0
+  abbrev pub EndSo : Mem T → Register × Advance ℕ → Type 0
   EndSo m end = ToldSo m end.0 end.1
 
-module _ {T : Type 0} {size : ℕ} (defers : T → Option ℕ) (w : World T) (good : Good defers (LAST_SLOT + 1) size w) (i k : ℕ) (m2 : Mem T) (end : Register × Progress ℕ) where
-  ends_so : (x : Register × Progress ℕ) → end ≡ x → EndSo k m2 x → EndSo k m2 end
-  ends_so x is so = subst (λ (y : Register × Progress ℕ). EndSo k m2 y) (sym is) so
+module _ {T : Type 0} {size : ℕ} (defers : T → Option ℕ) (w : World T) (good : Good defers (LAST_SLOT + 1) size w) (i k : ℕ) (m2 : Mem T) (end : Register × Advance ℕ) where
+  ends_so : (x : Register × Advance ℕ) → end ≡ x → EndSo k m2 x → EndSo k m2 end
+  ends_so x is so = subst (λ (y : Register × Advance ℕ). EndSo k m2 y) (sym is) so
 
   module _ (slot : ℕ) (enters : Bool) where
     abbrev c : Registering → Register
@@ -174,7 +174,7 @@ module _ {T : Type 0} {size : ℕ} (defers : T → Option ℕ) (w : World T) (go
         by takes true = takes
         by takes false = takes
     register_at at.Enter fits so st =
-        let d = stored {R = Register × Progress ℕ} w.memory (λ out. Now (registered (c at.Enter))) (Slot slot HEAD) ACTIVE m2 end st in
+        let d = stored {R = Register × Advance ℕ} w.memory (λ out. Now (registered (c at.Enter))) (Slot slot HEAD) ACTIVE m2 end st in
         ends_so (registered (c at.Enter)) d.1
         (subst (λ (x : Mem T). SlotsTaken x (max k (slot + 1))) (sym d.0)
         (slots_stay w.memory (with_word w.memory (Slot slot HEAD) ACTIVE) (max k (slot + 1)) (written w.memory slot ACTIVE (there fits) (omega arith) (idle_some defers w good i slot fits)) so))
@@ -221,7 +221,7 @@ module _ {K V : Type 0} where
   ThenSo k m (told.Refused fault) = SlotsTaken m k
   ThenSo k m told = has_come told ≡ true → SlotsTaken m k
 
-  then_so : (k : ℕ) (m : Mem (Node K V)) (c : Register) (p : Progress ℕ) → ToldSo k m c p → ThenSo k m (of_registering p)
+  then_so : (k : ℕ) (m : Mem (Node K V)) (c : Register) (p : Advance ℕ) → ToldSo k m c p → ThenSo k m (of_registering p)
   then_so k m c progress.Goes so = λ come. absurd (cc come)
   then_so k m c progress.Waits so = absurd so
   then_so k m c (progress.Done slot) so = so
@@ -327,7 +327,7 @@ module _ {K V S : Type 0} (same : K → K → Bool) (hash : K → ℕ) (i k : �
             (register_goes mid new said step r);
       }
     where
-      by : (m : Mem (Node K V)) (c : Register) (p : Progress ℕ) → has_come {T = Node K V} (of_registering p) ≡ false → ToldSo k m c p → RegisterSo k m c
+      by : (m : Mem (Node K V)) (c : Register) (p : Advance ℕ) → has_come {T = Node K V} (of_registering p) ≡ false → ToldSo k m c p → RegisterSo k m c
       by m c progress.Goes going so = so
       by m c progress.Waits going so = absurd (cc going)
       by m c (progress.Done slot) going so = absurd (cc going)

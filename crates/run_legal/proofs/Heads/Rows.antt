@@ -6,8 +6,8 @@ use Rattle.run_grows.specs.Given.SeizeWordsMem.{Mem, Can, Took, value_at, word_a
 use Rattle.run_grows.specs.Given.SeizeWordsPlan.{Plan, Steps, May, Now}
 use Rattle.run_grows.proofs.Given.SeizeWordsOneOwner.Operations.{stored, swapped, exchanged}
 use Rattle.run_grows.specs.Given.SeizeDeclared.states.TheConstants.{HEAD, FREE, ACTIVE, LAST_SLOT}
-use Rattle.run_grows.specs.Given.SeizeDeclared.progress.Progress.{Progress}
-use Rattle.run_grows.specs.Given.SeizeDeclared.progress.Progress.TheVariants.{Done}
+use Rattle.run_grows.specs.Given.SeizeDeclared.advance.Advance.{Advance}
+use Rattle.run_grows.specs.Given.SeizeDeclared.advance.Advance.TheVariants.{Done}
 use Rattle.run_grows.specs.Given.SeizeDeclared.rows.settle.Settle.{Settle}
 use Rattle.run_grows.specs.Given.SeizeDeclared.rows.settle.Settling.{Settling}
 use Rattle.run_grows.specs.Given.SeizeDeclared.rows.settle.Settling.TheVariants as settling
@@ -168,7 +168,7 @@ module _ {T : Type 0} {size : ℕ} (defers : T → Option ℕ) (w : World T) (go
   leave_taken c leaving.Over r may m2 end st = no_change w.memory m2 st.0
 
   defer_taken : (s : ℕ) (c : Defer) (p : Deferring) → FitsDefer (LAST_SLOT + 1) i (view defers w.memory) good.state good.extra s c.block c.table_word p → May Can Took value_at w.memory (defer.plan_at c p)
-      → (m2 : Mem T) (end : Defer × Progress Unit) → Steps Took value_at w.memory (defer.plan_at c p) m2 end → KeepsTaken w.memory m2
+      → (m2 : Mem T) (end : Defer × Advance Unit) → Steps Took value_at w.memory (defer.plan_at c p) m2 end → KeepsTaken w.memory m2
   defer_taken s c deferring.Reads r may m2 end st = spared (defer.plan_at c deferring.Reads) m2 end tt refl may st
   defer_taken s c (deferring.Links head) r may m2 end st = spared (defer.plan_at c (deferring.Links head)) m2 end tt refl may st
   defer_taken s c (deferring.Pushes head) r may m2 end st =
@@ -183,7 +183,7 @@ module _ {T : Type 0} {size : ℕ} (defers : T → Option ℕ) (w : World T) (go
   step_taken (Registers c) off v is st = absurd off
   step_taken (Enters c) off v is st =
       let may = enters_may defers (LAST_SLOT + 1) w good i c is in
-      let d = stored {R = Enter × Progress Unit} w.memory (λ out. Now (c, Done tt)) (Slot c.slot HEAD) ACTIVE st.0 st.1 st.2 in
+      let d = stored {R = Enter × Advance Unit} w.memory (λ out. Now (c, Done tt)) (Slot c.slot HEAD) ACTIVE st.0 st.1 st.2 in
       by_memory w.memory (with_word w.memory (Slot c.slot HEAD) ACTIVE) v.memory (ap (λ (x : World T). x.memory) st.3 ∙ d.0)
       (written w.memory c.slot ACTIVE may.0 (omega arith) (idle_some c.slot (fits_at (Enters c) is)))
   step_taken (Settles c) off v is st =
@@ -196,7 +196,7 @@ module _ {T : Type 0} {size : ℕ} (defers : T → Option ℕ) (w : World T) (go
       (defer_taken s c c.stands (fits_at (Defers s c) is) (defers_may defers (LAST_SLOT + 1) w good i s c is) st.0 st.1 st.2)
   step_taken (Frees c) off v is st =
       let may = frees_may defers (LAST_SLOT + 1) w good i c is in
-      let d = stored {R = Unregister × Progress Unit} w.memory (λ out. Now (c, Done tt)) (Slot c.slot HEAD) FREE st.0 st.1 st.2 in
+      let d = stored {R = Unregister × Advance Unit} w.memory (λ out. Now (c, Done tt)) (Slot c.slot HEAD) FREE st.0 st.1 st.2 in
       by_memory w.memory (with_word w.memory (Slot c.slot HEAD) FREE) v.memory (ap (λ (x : World T). x.memory) st.3 ∙ d.0)
       (written w.memory c.slot FREE may.0 (omega arith) (idle_some c.slot (fits_at (Frees c) is)))
 

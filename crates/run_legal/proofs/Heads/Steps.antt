@@ -13,8 +13,8 @@ use Rattle.run_grows.specs.Given.SeizeEnter.{unregister_plan}
 use Rattle.run_grows.specs.Given.SeizeReclaimAll.{next_free, next_head, plan_at, reclaim_all_plan, to}
 use Rattle.run_grows.specs.Given.SeizeSequence.{IsBetween, IsUsers}
 use Rattle.run_grows.specs.Given.SeizeWorld.{World, Row, Rests, Request, Register', Enter', Leave', LeaveOwned, Refresh, Unregister', Retire, Flush, Defer', Event, Begin, Step, Makes, Drops, Links, Parts, Unlinks, Rewrites, Operates, Ends, LeavesOver, Relinks, Clears, Chooses, Begins, Happens, Runs, IsOwn, IsOwnOp, made_by}
-use Rattle.run_grows.specs.Given.SeizeDeclared.progress.Progress.{Progress}
-use Rattle.run_grows.specs.Given.SeizeDeclared.progress.Progress.TheVariants.{Done}
+use Rattle.run_grows.specs.Given.SeizeDeclared.advance.Advance.{Advance}
+use Rattle.run_grows.specs.Given.SeizeDeclared.advance.Advance.TheVariants.{Done}
 use Rattle.run_grows.specs.Given.SeizeDeclared.rows.enter.Unregister.{Unregister}
 use Rattle.run_grows.specs.Given.SeizeDeclared.rows.reclaim_all.ReclaimAll.{ReclaimAll}
 use Rattle.run_grows.specs.Given.SeizeDeclared.rows.reclaim_all.Reclaiming.{Reclaiming}
@@ -215,7 +215,7 @@ module _ {K V : Type 0} (same : K → K → Bool) (hash : ℕ → K → ℕ) (na
 
 -- A making, or an end, takes a step.
 module _ {K V : Type 0} (same : K → K → Bool) (hash : ℕ → K → ℕ) (s : Scene K V) (old new : Held K V) (i : ℕ) where
-  pub making_taken : (said : Progress Setting) → MakingLeads same hash i said s old new → (b : Beginning K) → s.makers i ≡ Some b → KeepsTaken s.world.memory new.memory
+  pub making_taken : (said : Advance Setting) → MakingLeads same hash i said s old new → (b : Beginning K) → s.makers i ≡ Some b → KeepsTaken s.world.memory new.memory
   making_taken said leads b here =
       let did = (leads b here).2.step in
       by_slots s.world.memory new.memory (ap (λ (x : Mem (Node K V)). x.slots) (sym did.memory) ∙ users_slots deferred_word old.batch_size did.events did.users s.world did.w2 did.runs)
@@ -297,9 +297,9 @@ module _ {K V : Type 0} (same : K → K → Bool) (hash : ℕ → K → ℕ) (s 
     by_point (at.Flushes t d) (ss, left, (lt, h)) taking does =
         step_taken deferred_word w good i (w.row i) (subst Off (sym h.row_is) tt) w3 refl does
     by_point (at.Frees t) (ss, left, (lt, f)) taking does =
-        let goes : Unregister × Progress Unit → ReclaimAll × Settled (Node K V) = λ ends. (next_free (c (at.Frees t)) t, settled.Goes) in
+        let goes : Unregister × Advance Unit → ReclaimAll × Settled (Node K V) = λ ends. (next_free (c (at.Frees t)) t, settled.Goes) in
         let back = steps_back goes w.memory new.memory (unregister_plan (record { slot = t })) (after, said) taking in
-        let d = stored {R = Unregister × Progress Unit} w.memory (λ out. Now (record { slot = t }, Done tt)) (name.Slot t HEAD) FREE new.memory back.0 back.1 in
+        let d = stored {R = Unregister × Advance Unit} w.memory (λ out. Now (record { slot = t }, Done tt)) (name.Slot t HEAD) FREE new.memory back.0 back.1 in
         let few = f.few in
         head_taken t FREE IDLE
         (idle_word deferred_word (LAST_SLOT + 1) old.batch_size refl w (rested_by deferred_word old.batch_size w came f.rests) t (f.idle t (omega arith) lt) (omega (arith, lt, few))) (omega arith) (omega arith) d.0

@@ -10,7 +10,7 @@ use Rattle.run_grows.specs.Given.TablesNodes.{deferred_word}
 use Rattle.run_grows.specs.Given.TablesDeclared.node.Node.{Node}
 use Rattle.run_grows.specs.Given.RunsDeclared.effect.Effect.{Effect}
 use Rattle.run_grows.specs.Given.RunsDeclared.effect.Effect.TheVariants.{Reclaimed}
-use Rattle.run_grows.specs.Given.RunsDeclared.effect.Table.{Table}
+use Rattle.run_grows.specs.Given.RunsDeclared.effect.TableId.{TableId}
 use Rattle.run_grows.specs.Given.RunsDeclared.effect.Thing.{Thing}
 use Rattle.run_grows.specs.Given.SchedulesAfter.{moment}
 use Rattle.run_grows.specs.Given.SchedulesEffects.{with_effects, AtEachEffect}
@@ -55,11 +55,11 @@ use Rattle.run_grows.specs.Given.ScenesHeld.{Held}
 use Rattle.run_grows.specs.Given.ScenesScene.{Scene}
 
 -- a pair that is put behind tables waits behind one of them
-waits_of : (P : ℕ → Table → Type 0) (k : ℕ) (deferred : List Deferral) → 0 < put_in k deferred → EachWaits P deferred → (t : Table) × P k t
+waits_of : (P : ℕ → TableId → Type 0) (k : ℕ) (deferred : List Deferral) → 0 < put_in k deferred → EachWaits P deferred → (t : TableId) × P k t
 waits_of P k [] l each = absurd (let none : 0 < 0 = l in omega (arith, none))
 waits_of P k (d ∷ ds) l each = by (k == d.pair) refl (λ less. waits_of P k ds less each.1)
   where
-    by : (q : Bool) → (k == d.pair) ≡ q → (0 < put_in k ds → (t : Table) × P k t) → (t : Table) × P k t
+    by : (q : Bool) → (k == d.pair) ≡ q → (0 < put_in k ds → (t : TableId) × P k t) → (t : TableId) × P k t
     by true e later = (d.behind, subst (λ (x : ℕ). P x d.behind) (sym (eqb-true k d.pair e)) each.0)
     by false e later = later (let more : 0 < 0 + put_in k ds = subst (λ (q : Bool). 0 < once_if q + put_in k ds) e l in omega (arith, more))
 
@@ -87,7 +87,7 @@ module _ {K V : Type 0} (v : Moment K V) where
   calls_still (y ∷ ys) m = calls_still ys (with_effects None None (Reclaimed y ∷ []) m)
 
   -- a pair that is left over is so still, if it was not in that block, and is behind no table
-  left_on : (n : ℕ) (r : Role) → v.place n ≡ Left → (r ≡ role.Pair n → ⊥) → ((t : Table) → is_among n (behind_table t v.deferred) ≡ true → ⊥)
+  left_on : (n : ℕ) (r : Role) → v.place n ≡ Left → (r ≡ role.Pair n → ⊥) → ((t : TableId) → is_among n (behind_table t v.deferred) ≡ true → ⊥)
       → (with_effects None None (map Reclaimed (things_of r)) v).place n ≡ Left
   left_on n role.Free is other none = is
   left_on n (role.OwnPair j) is other none = is
@@ -129,9 +129,9 @@ module _ {K V : Type 0} (same : K → K → Bool) (hash : ℕ → K → ℕ) (na
       runs_kept deferred_word old.batch_size came.1 _ w (start_kept deferred_word old.batch_size came.0) came.2
 
   -- a pair behind a table is told to be behind one
-  is_behind : (n : ℕ) (t : Table) → is_among n (behind_table t m.deferred) ≡ true → m.place n ≡ Behind
+  is_behind : (n : ℕ) (t : TableId) → is_among n (behind_table t m.deferred) ≡ true → m.place n ≡ Behind
   is_behind n t among =
-      let a = found (λ (k : ℕ) (u : Table). (m.place k ≡ Behind) × LiesBehind known w k u) n t m.deferred kept.waiting among in
+      let a = found (λ (k : ℕ) (u : TableId). (m.place k ≡ Behind) × LiesBehind known w k u) n t m.deferred kept.waiting among in
       ap m.place (sym a.number) ∙ a.so.0
 
   -- The pair in a block that was retired, and is taken away.
@@ -148,10 +148,10 @@ module _ {K V : Type 0} (same : K → K → Bool) (hash : ℕ → K → ℕ) (na
     not_behind is =
         (let one : 1 ≡ once_if (is_behind_one (m.place k)) = sym (ap (λ (p : Place). once_if (is_behind_one p)) is) in
         let put : 0 < put_in k m.deferred = (let e = placed.put k in omega (arith, one, e)) in
-        let waits = waits_of (λ (n : ℕ) (t : Table). (m.place n ≡ Behind) × LiesBehind known w n t) k m.deferred put kept.waiting in
+        let waits = waits_of (λ (n : ℕ) (t : TableId). (m.place n ≡ Behind) × LiesBehind known w n t) k m.deferred put kept.waiting in
         lies waits.1.1)
       where
-        lies : {t : Table} → LiesBehind known w k t → ⊥
+        lies : {t : TableId} → LiesBehind known w k t → ⊥
         lies l = by l.waits
           where
             same_block : l.pair ≡ b
@@ -253,7 +253,7 @@ module _ {K V : Type 0} (same : K → K → Bool) (hash : ℕ → K → ℕ) (na
         | inr free ↦ absurd (cc (free, noted))
       ]
 
-      apart : (t : Table) → is_among n (behind_table t m.deferred) ≡ true → ⊥
+      apart : (t : TableId) → is_among n (behind_table t m.deferred) ≡ true → ⊥
       apart t there = (let is = is_behind n t there in cc (is, was))
 
 -- Wherever a chain of steps has led.

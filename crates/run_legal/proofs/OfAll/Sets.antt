@@ -16,7 +16,7 @@ use Rattle.run_grows.specs.Given.SeizeSequence.{Calls, IsBetween, ended_by, take
 use Rattle.run_grows.specs.Given.SeizeSettle.{flushing, settle_plan}
 use Rattle.run_grows.specs.Given.SeizeWaitingSets.{Change}
 use Rattle.run_grows.specs.Given.SeizeWorld.{World, Rests, Request, Register', Leave', Flush, Unregister', Event, Begin, Step, Clears, Operates, Begins, Steps', Happens, Runs}
-use Rattle.run_grows.specs.Given.SeizeDeclared.progress.Progress.{Progress}
+use Rattle.run_grows.specs.Given.SeizeDeclared.advance.Advance.{Advance}
 use Rattle.run_grows.specs.Given.SeizeDeclared.rows.enter.Unregister.{Unregister}
 use Rattle.run_grows.specs.Given.SeizeDeclared.rows.leave.Leave.{Leave}
 use Rattle.run_grows.specs.Given.SeizeDeclared.rows.reclaim_all.ReclaimAll.{ReclaimAll}
@@ -251,7 +251,7 @@ module _ {K V : Type 0} (size roots i : ℕ) (small : size < 2 ^ 64) (began : Wo
       frees_on : (s : ℕ) → Here (at.Frees s) → (led : Led (at.Frees s)) → Takes (at.Frees s) → Staged (c (at.Frees s)) w → Then led.w2
       frees_on s (ss, left, (lt, f)) led steps so =
           let rested = rested_by deferred_word size w came f.rests in
-          let goes : Unregister × Progress Unit → End = λ ends. (next_free (c (at.Frees s)) s, settled.Goes) in
+          let goes : Unregister × Advance Unit → End = λ ends. (next_free (c (at.Frees s)) s, settled.Goes) in
           let back = steps_back goes w.memory m2 (unregister_plan (record { slot = s })) end steps in
           staged_on (at.Frees s) led (next_free (c (at.Frees s)) s) back.2
           (give_up_on deferred_word n size roots refl i began (c (at.Frees s)) so.size_is so.roots_are s w rested so.here.0 so.here.1 led.w2 led.does)

@@ -13,7 +13,7 @@ use Rattle.run_grows.specs.Given.TablesDeclared.node.Node.{Node}
 use Rattle.run_grows.specs.Given.TablesDeclared.setting.Setting.{Setting}
 use Rattle.run_grows.specs.Given.RunsDeclared.effect.Effect.{Effect}
 use Rattle.run_grows.specs.Given.RunsDeclared.effect.Effect.TheVariants.{Reclaimed}
-use Rattle.run_grows.specs.Given.RunsDeclared.effect.Table.{Table}
+use Rattle.run_grows.specs.Given.RunsDeclared.effect.TableId.{TableId}
 use Rattle.run_grows.specs.Given.RunsDeclared.effect.Thing.{Thing}
 use Rattle.run_grows.specs.Given.RunsDeclared.effect.Thing.TheVariants.{APair, ATable}
 use Rattle.run_grows.specs.Given.SchedulesEffects.{at_stage, with_effect, with_effects}
@@ -53,16 +53,16 @@ use Rattle.run_grows.proofs.Given.PurposesStored.{effects_stored, numbers_last}
 
 -- Maps have their numbers still once something is reclaimed.
 
-stage_table : (t : Table) (u : TableThere) → (at_stage t IsReclaimed u).table ≡ u.table
+stage_table : (t : TableId) (u : TableThere) → (at_stage t IsReclaimed u).table ≡ u.table
 stage_table t u = by (same_table u.table t)
   where
     by : (q : Bool) → (if q then record u { stage = IsReclaimed } else u).table ≡ u.table
     by true = refl
     by false = refl
 
-staged_below : (t : Table) (made : ℕ) (tables : List TableThere) → All (λ (u : TableThere). u.table.map < made) tables → All (λ (u : TableThere). u.table.map < made) (map (at_stage t IsReclaimed) tables)
+staged_below : (t : TableId) (made : ℕ) (tables : List TableThere) → All (λ (u : TableThere). u.table.map < made) tables → All (λ (u : TableThere). u.table.map < made) (map (at_stage t IsReclaimed) tables)
 staged_below t made tables below =
-    All-map (λ (u : TableThere). u.table.map < made) (at_stage t IsReclaimed) tables (λ k d l. subst (λ (v : Table). v.map < made) (sym (stage_table t (get_or tables k d))) (below k d l))
+    All-map (λ (u : TableThere). u.table.map < made) (at_stage t IsReclaimed) tables (λ k d l. subst (λ (v : TableId). v.map < made) (sym (stage_table t (get_or tables k d))) (below k d l))
 
 module _ {K V : Type 0} where
   one_numbers : (y : Thing) (m : Moment K V) → NumbersMaps m → NumbersMaps (with_effect None None (Reclaimed y) m)

@@ -18,7 +18,7 @@ use Rattle.run_schedules.proofs.Runs.Pairs.Held.{numbers-append}
 use Rattle.run_schedules.specs.declared.effect.Effect.{Effect}
 use Rattle.run_schedules.specs.declared.effect.Effect.TheVariants.{Asked, PairGivenUp}
 use Rattle.run_schedules.specs.declared.effect.Growth.TheVariants.{ABucket}
-use Rattle.run_schedules.specs.declared.effect.Table.{Table}
+use Rattle.run_schedules.specs.declared.effect.TableId.{TableId}
 use Rattle.run_schedules.specs.Schedules.Effects.{pairs_back, with_effects}
 use Rattle.run_schedules.specs.Schedules.Moment.{Moment}
 use Rattle.run_effects.specs.declared.changed.Changed.{Changed}
@@ -80,7 +80,7 @@ back_taken (acts.Making map) n = refl
 back_taken (acts.Ending map) n = refl
 back_taken acts.Row n = refl
 
-none_taken : (acting : Acting) (t : Table) → flat_map pairs_back (table_taken acting t ∷ []) ≡ []
+none_taken : (acting : Acting) (t : TableId) → flat_map pairs_back (table_taken acting t ∷ []) ≡ []
 none_taken (acts.Call caller map) t = refl
 none_taken (acts.Making map) t = refl
 none_taken (acts.Ending map) t = refl

@@ -6,7 +6,7 @@ use Rattle.seize.specs.Further.{FurtherFrom, ListFrom}
 use Rattle.seize.specs.World.{World}
 use Rattle.papaya_raw.specs.Given.TablesNodes.{deferred_word}
 use Rattle.papaya_raw.specs.Given.TablesDeclared.node.Node.{Node}
-use Rattle.run_schedules.specs.declared.effect.Table.{Table}
+use Rattle.run_schedules.specs.declared.effect.TableId.{TableId}
 use Rattle.run_schedules.specs.Schedules.Moment.{Behind, Moment}
 use Rattle.run_effects.specs.Effects.Known.{Known, known}
 use Rattle.run_effects.specs.declared.role.Role.{Role}
@@ -92,7 +92,7 @@ module _ {K V : Type 0} (choice : ℕ) (name : ℕ → List ℕ) (m : Moment K V
   blank_then : (b : ℕ) → IsBlank s.world.memory b → IsBlank (then_in choice s.world).memory b
   blank_then b blank = record { next = blank.next; first = blank.first }
 
-  lies_then : (n : ℕ) (t : Table) → LiesBehind noted s.world n t → LiesBehind noted (then_in choice s.world) n t
+  lies_then : (n : ℕ) (t : TableId) → LiesBehind noted s.world n t → LiesBehind noted (then_in choice s.world) n t
   lies_then n t l = record { pair = l.pair; is_pair = l.is_pair; table = l.table; len = l.len; is_table = l.is_table; waits = l.waits }
 
   pub kept_then : ShowsKept name m noted s → ShowsKept name m noted (scene_chosen choice s)

@@ -4,7 +4,7 @@ use Rattle.std.specs.List.{All}
 use Rattle.std.proofs.Common.{refl, ap, sym, subst, ◌∙◌, arith}
 use Rattle.run_schedules.specs.Given.SeizeWordsMem.{Mem}
 use Rattle.seize.specs.World.{World, Begins, Begin, Step, with_at}
-use Rattle.seize.specs.declared.progress.Progress.{Progress}
+use Rattle.seize.specs.declared.advance.Advance.{Advance}
 use Rattle.seize.specs.declared.rows.settle.Settled.{Settled}
 use Rattle.run_schedules.specs.Runs.Same.{is_same}
 use Rattle.papaya_raw.specs.Given.TablesNodes.{deferred_word}
@@ -200,7 +200,7 @@ module _ {K V S : Type 0} (same : K → K → Bool) (hash : ℕ → K → ℕ) w
   }
 
   pub counted_making_steps : (old : Logged K V S) (stepped : Executor K V S) (notes : Notes) → KeepsGiven old.executor stepped → (m : Moment K V) (s : Scene K V) → IsAt same hash (held_by old.executor) s → MapsAreBelow (length old.executor.maps.items) s → IsCounted m old s
-      → (i : ℕ) (told : Progress Setting) (leads : MakingLeads same hash i told s (held_by old.executor) (held_by stepped)) (b : Beginning K) (here : s.makers i ≡ Some b) (of : Option ℕ)
+      → (i : ℕ) (told : Advance Setting) (leads : MakingLeads same hash i told s (held_by old.executor) (held_by stepped)) (b : Beginning K) (here : s.makers i ≡ Some b) (of : Option ℕ)
       → known notes ≡ known_after (acts.Making b.map) stepped.memory.changed (known old.notes)
       → (let to = leads b here in
       LeftNoted (known old.notes) (known_after (acts.Making b.map) stepped.memory.changed (known old.notes)) s.world (making_after same hash s (held_by old.executor) (held_by stepped) i b to.0 to.2.step.w2 told to.3).world

@@ -15,7 +15,7 @@ use Rattle.papaya_raw.specs.Given.TablesDeclared.node.Node.{Node}
 use Rattle.papaya_raw.specs.Given.TablesDeclared.node.Node.TheVariants as node
 use Rattle.papaya_raw.specs.declared.machines.end_map.EndMap.{EndMap}
 use Rattle.run_schedules.specs.declared.effect.Effect.{Effect}
-use Rattle.run_schedules.specs.declared.effect.Table.{Table}
+use Rattle.run_schedules.specs.declared.effect.TableId.{TableId}
 use Rattle.run_schedules.specs.Schedules.Effects.{with_effects}
 use Rattle.run_schedules.specs.Schedules.Moment.{Deferral, Moment}
 use Rattle.run_schedules.specs.Schedules.Views.{behind}
@@ -122,7 +122,7 @@ module _ {K V : Type 0} (same : K → K → Bool) (hash : ℕ → K → ℕ) (na
       let both : role.Table (table_of of (suc t)) (f.chart.len (suc t)) ≡ role.Table (table_of of t) (f.chart.len t) =
       sym (is_table (suc t) (omega (arith, yet)) made) ∙ ap known.roles e ∙ is_table t yet (omega (arith, made)) in
       let tables : table_of of (suc t) ≡ table_of of t = cc both in
-      let turns : suc t ≡ t = ap (λ (x : Table). x.turn) tables in omega (arith, turns)
+      let turns : suc t ≡ t = ap (λ (x : TableId). x.turn) tables in omega (arith, turns)
 
   -- what a table may leave over is what it carries
   module _ (u : ℕ) (yet : k.past ≤ u) (made : u < f.chart.past) (further : List ℕ) (are : FurtherAre deferred_word w.memory (table u) further) where

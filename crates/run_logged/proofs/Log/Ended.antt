@@ -6,8 +6,8 @@ use Rattle.run_schedules.specs.Given.SeizeWordsOp.{Out, Found, Exchanged, Roomed
 use Rattle.run_schedules.specs.Given.SeizeWordsPlan.{Steps}
 use Rattle.run_schedules.specs.Given.SeizeWordsDeclared.fault.Fault.TheVariants.{SlotsUsedUp}
 use Rattle.seize.specs.declared.states.TheConstants.{ACTIVE, LAST_SLOT}
-use Rattle.seize.specs.declared.progress.Progress.{Progress}
-use Rattle.seize.specs.declared.progress.Progress.TheVariants as progress
+use Rattle.seize.specs.declared.advance.Advance.{Advance}
+use Rattle.seize.specs.declared.advance.Advance.TheVariants as progress
 use Rattle.seize.specs.declared.rows.enter.Enter.{Enter}
 use Rattle.seize.specs.declared.rows.enter.Unregister.{Unregister}
 use Rattle.seize.specs.declared.rows.leave.Leave.{Leave}
@@ -46,7 +46,7 @@ use Rattle.run_shows.specs.Scenes.Rows.{change_of, left_by, of_registering, of_s
 
 -- a registering takes its slot as it is to be used
 module _ (c : Register) where
-  abbrev Taken : Registering → Register × Progress ℕ → Type 0
+  abbrev Taken : Registering → Register × Advance ℕ → Type 0
   Taken p (c2, progress.Done slot) = taken_as p ≡ taken_in_the_end c p
   Taken p (c2, progress.Goes) = taken_in_the_end c2 c2.stands ≡ taken_in_the_end c p
   Taken p _ = Unit {0}
@@ -152,7 +152,7 @@ module _ (K V : Type 0) (slots : List SlotUse) where
       (has_ended it ≡ true → uses_after (change_of row) it slots ≡ uses_ended row it slots)
       × (has_come it ≡ false → (last : RowTold (Node K V)) → has_ended last ≡ true → uses_ended after last (uses_after (change_of row) it slots) ≡ uses_ended row last slots)
 
-  registers_end : (c c2 : Register) (o : Progress ℕ) → Taken c c.stands (c2, o) → EndsSo (rows.Registers c) (rows.Registers c2, of_registering o)
+  registers_end : (c c2 : Register) (o : Advance ℕ) → Taken c c.stands (c2, o) → EndsSo (rows.Registers c) (rows.Registers c2, of_registering o)
   registers_end c c2 progress.Goes so = (λ e. absurd (cc e), λ e last. by last)
     where
       by : (last : RowTold (Node K V)) → has_ended last ≡ true → uses_ended (rows.Registers c2) last slots ≡ uses_ended (rows.Registers c) last slots
@@ -185,7 +185,7 @@ module _ (K V : Type 0) (slots : List SlotUse) where
   rows_end mem mem2 (rows.Enters c) changed end st = (
     λ e. refl,
     (let step = as_step mem Nothing (enter_plan c) mem2 changed st.0 st.1 in
-        λ h. absurd (one_store end.1 st.0.1 (ap (λ (e : SlotRow × RowTold (Node K V)). e.1) st.2) (ap (λ (x : Enter × Progress Unit). x.1) step.2) h)),
+        λ h. absurd (one_store end.1 st.0.1 (ap (λ (e : SlotRow × RowTold (Node K V)). e.1) st.2) (ap (λ (x : Enter × Advance Unit). x.1) step.2) h)),
   )
   rows_end mem mem2 (rows.Leaves c) changed end st =
       subst (EndsSo (rows.Leaves c)) (sym st.2)
@@ -194,5 +194,5 @@ module _ (K V : Type 0) (slots : List SlotUse) where
   rows_end mem mem2 (rows.Frees c) changed end st = (
     λ e. refl,
     (let step = as_step mem Nothing (unregister_plan c) mem2 changed st.0 st.1 in
-        λ h. absurd (one_store end.1 st.0.1 (ap (λ (e : SlotRow × RowTold (Node K V)). e.1) st.2) (ap (λ (x : Unregister × Progress Unit). x.1) step.2) h)),
+        λ h. absurd (one_store end.1 st.0.1 (ap (λ (e : SlotRow × RowTold (Node K V)). e.1) st.2) (ap (λ (x : Unregister × Advance Unit). x.1) step.2) h)),
   )

@@ -4,8 +4,8 @@ use Rattle.std.specs.List.{list_all}
 use Rattle.std.proofs.Common.{refl, sym, ap, subst, ◌∙◌, inl, inr, arith}
 use Rattle.std.proofs.lemmas.Bool.{cases_eq, cases_lt, eqb-true}
 use Rattle.std.proofs.lemmas.List.{get_or-take, get_or_past, length-take-le}
-use Rattle.seize.specs.declared.progress.Progress.{Progress}
-use Rattle.seize.specs.declared.progress.Progress.TheVariants as progress
+use Rattle.seize.specs.declared.advance.Advance.{Advance}
+use Rattle.seize.specs.declared.advance.Advance.TheVariants as progress
 use Rattle.run_schedules.specs.Given.SeizeWordsMem.{Mem}
 use Rattle.papaya_raw.specs.Given.TablesDeclared.node.Node.{Node}
 use Rattle.papaya_raw.specs.Given.TablesDeclared.setting.Setting.{Setting}
@@ -101,14 +101,14 @@ module _ {K V S : Type 0} (same : K → K → Bool) (hash : K → ℕ) where
         by_less : (n k x : ℕ) → n ≡ map → k ≡ map + 1 → x < k → x ≢ map → x < n
         by_less n k x few long l ne = omega (arith, few, long, l, ne)
 
-    pub at_given : (told : Progress Setting) → MakingCame s s2 i b told → e2.maps.items ≡ given_back map told e.maps.items → IsThere same hash e2 s2
+    pub at_given : (told : Advance Setting) → MakingCame s s2 i b told → e2.maps.items ≡ given_back map told e.maps.items → IsThere same hash e2 s2
     at_given progress.Goes came items = kept items
     at_given progress.Waits came items = kept items
     at_given (progress.Done setting) came items = kept items
     at_given (progress.Refused fault) came items = dropped came.maker came.makers came.maps (length e.maps.items == map + 1) refl items
 
 -- where a number is given back there are so many
-pub numbers_given : (map : ℕ) (told : Progress Setting) (items : List (Option Setting)) → length (given_back map told items) ≡ numbers_then map told (length items)
+pub numbers_given : (map : ℕ) (told : Advance Setting) (items : List (Option Setting)) → length (given_back map told items) ≡ numbers_then map told (length items)
 numbers_given map progress.Goes items = refl
 numbers_given map progress.Waits items = refl
 numbers_given map (progress.Done setting) items = refl
@@ -119,7 +119,7 @@ numbers_given map (progress.Refused fault) items = by (length items == map + 1) 
     by false f = refl
 
 -- it was refused
-abbrev IsRefused : Progress Setting → Type 0
+abbrev IsRefused : Advance Setting → Type 0
 IsRefused (progress.Refused fault) = Unit {0}
 IsRefused _ = ⊥
 
@@ -131,7 +131,7 @@ asks_leave of (Asked growth ∷ fs) m all = asks_leave of fs (with_effect None o
 asks_leave of (_ ∷ fs) m all = absurd (cc all)
 
 -- so numbers are below the count still, with the number given back
-numbers_left : {K V : Type 0} (map count : ℕ) (of : Option ℕ) (fs : List Effect) (m : Moment K V) (told : Progress Setting) → NumbersUpTo count (with_effects None of fs m) → BelowIfRefused map told m
+numbers_left : {K V : Type 0} (map count : ℕ) (of : Option ℕ) (fs : List Effect) (m : Moment K V) (told : Advance Setting) → NumbersUpTo count (with_effects None of fs m) → BelowIfRefused map told m
     → (IsRefused told → list_all is_growth fs ≡ true) → NumbersUpTo (numbers_then map told count) (with_effects None of fs m)
 numbers_left map count of fs m progress.Goes numbers below asks = numbers
 numbers_left map count of fs m progress.Waits numbers below asks = numbers
@@ -142,7 +142,7 @@ numbers_left {K} {V} map count of fs m (progress.Refused fault) numbers below as
     by true = (let left = asks_leave of fs m (asks tt) in numbers_as map m (with_effects None of fs m) left.0 left.1 below)
     by false = numbers
 
-module _ {K V S : Type 0} (i map : ℕ) (told : Progress Setting) (mid new : Logged K V S) (notes : new.notes ≡ mid.notes) (is : new.executor ≡ record mid.executor { maps = new.executor.maps })
+module _ {K V S : Type 0} (i map : ℕ) (told : Advance Setting) (mid new : Logged K V S) (notes : new.notes ≡ mid.notes) (is : new.executor ≡ record mid.executor { maps = new.executor.maps })
     (items : new.executor.maps.items ≡ given_back map told mid.executor.maps.items) (of : Option ℕ) (fs : List Effect) (m : Moment K V) where
   counted_given : (s s2 : Scene K V) (b : Beginning K) (came : MakingCame s s2 i b told) → BelowIfRefused map told m → (CameBare s s2 i b told came.maker → JustAsks b fs)
       → IsCounted (with_effects None of fs m) mid s2 → IsCounted (with_effects None of fs m) new s2
@@ -157,14 +157,14 @@ module _ {K V S : Type 0} (i map : ℕ) (told : Progress Setting) (mid new : Log
         (subst (λ (n : Notes). ShowsRemains mid.executor.roots (with_effects None of fs m) (known n) s2) (sym notes) c.remains);
   }
     where
-      just : (t : Progress Setting) (came : MakingCame s s2 i b t) → (CameBare s s2 i b t came.maker → JustAsks b fs) → IsRefused t → list_all is_growth fs ≡ true
+      just : (t : Advance Setting) (came : MakingCame s s2 i b t) → (CameBare s s2 i b t came.maker → JustAsks b fs) → IsRefused t → list_all is_growth fs ≡ true
       just progress.Goes came asks refused = absurd refused
       just progress.Waits came asks refused = absurd refused
       just (progress.Done setting) came asks refused = absurd refused
       just (progress.Refused fault) came asks refused = (asks tt).1
 
 -- what has run has so with the number given back
-pub ran_given : {K V S : Type 0} (i map : ℕ) (told : Progress Setting) (xs ys : List Effect) (old mid new : Logged K V S) → MakingRan i map told xs ys old mid → new.notes ≡ mid.notes
+pub ran_given : {K V S : Type 0} (i map : ℕ) (told : Advance Setting) (xs ys : List Effect) (old mid new : Logged K V S) → MakingRan i map told xs ys old mid → new.notes ≡ mid.notes
     → new.executor ≡ record mid.executor { maps = new.executor.maps } → new.executor.maps.items ≡ given_back map told mid.executor.maps.items → MakingRan i map told xs ys old new
 ran_given {K} {V} {S} i map told xs ys old mid new ran notes is items = (
   ran.0,

@@ -1,7 +1,7 @@
 -- Steps that ran lead on by one more.
 use Rattle.std.specs.Prelude.{◌≡◌, ℕ, suc, Bool, false, List, ◌++◌, Some}
 use Rattle.std.proofs.Common.{refl}
-use Rattle.seize.specs.declared.progress.Progress.{Progress}
+use Rattle.seize.specs.declared.advance.Advance.{Advance}
 use Rattle.seize.specs.declared.rows.reclaim_all.ReclaimAll.{ReclaimAll}
 use Rattle.seize.specs.declared.rows.settle.Settled.{Settled}
 use Rattle.papaya_raw.specs.Given.TablesDeclared.node.Node.{Node}
@@ -50,7 +50,7 @@ module _ {K V S : Type 0} (first old new : Logged K V S) (xs ys zs : List Effect
       → known new.notes ≡ known_after acts.Row new.executor.memory.changed (known old.notes) → KeepsGiven old.executor new.executor → StepsOn i said old.executor new.executor → RowGoes i (far ys old) (far zs new)
   row_step i said under did noted given leads = record { under = under; is_noted = noted_as acts.Row did noted given; said = said; leads = leads }
 
-  abbrev pub making_step : (i map : ℕ) (said : Progress Setting) → ((opening : NewMap) × (making_in (work_of old.executor i) ≡ Some (map, opening)))
+  abbrev pub making_step : (i map : ℕ) (said : Advance Setting) → ((opening : NewMap) × (making_in (work_of old.executor i) ≡ Some (map, opening)))
       → zs ≡ ys ++ effects_of (acts.Making map) (known old.notes) new.executor.memory.changed → known new.notes ≡ known_after (acts.Making map) new.executor.memory.changed (known old.notes)
       → KeepsGiven old.executor new.executor → StepsMaking i said old.executor new.executor → MakingGoes i map (far ys old) (far zs new)
   making_step i map said under did noted given leads = record { under = under; is_noted = noted_as (acts.Making map) did noted given; said = said; leads = leads }

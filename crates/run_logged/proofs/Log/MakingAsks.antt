@@ -8,8 +8,8 @@ use Rattle.run_schedules.specs.Given.SeizeWordsMem.{Mem, value_at}
 use Rattle.run_schedules.specs.Given.SeizeWordsOp.{Op, Out, Found, Stored, Exchanged, Made, Taken, Roomed, Exchange, Make}
 use Rattle.run_schedules.specs.Given.SeizeWordsPlan.{Plan, Then, Now, Seeing, Sure, Turn, Do, Ends, then_as, plan_as}
 use Rattle.run_schedules.proofs.Given.SeizeWordsOneOwner.Operations.{exchanged, taken}
-use Rattle.seize.specs.declared.progress.Progress.{Progress}
-use Rattle.seize.specs.declared.progress.Progress.TheVariants as progress
+use Rattle.seize.specs.declared.advance.Advance.{Advance}
+use Rattle.seize.specs.declared.advance.Advance.TheVariants as progress
 use Rattle.papaya_raw.specs.Given.TablesDeclared.node.Node.{Node}
 use Rattle.papaya_raw.specs.Given.TablesDeclared.node.Node.TheVariants as node
 use Rattle.papaya_raw.specs.Given.TablesDeclared.setting.Setting.{Setting}
@@ -55,13 +55,13 @@ module _ {K V A B : Type 0} (f : A → B) where
   told_back m m2 before told (Do op rest) end s = let k = ends_back m2 (rest s.0) end s.2 in (k.0, (s.0, s.1, k.1), k.2)
 
 -- a table that is being made has none of its own yet, if it goes on, or is refused
-abbrev IsBareTable : NewTable × Progress Table → Type 0
+abbrev IsBareTable : NewTable × Advance Table → Type 0
 IsBareTable (n, progress.Goes) = has_table n.stands ≡ false
 IsBareTable (n, progress.Waits) = ⊥
 IsBareTable (n, progress.Done table) = ⊥
 IsBareTable (n, progress.Refused fault) = Unit {0}
 
-abbrev IsBareMap : NewMap × Progress Setting → Type 0
+abbrev IsBareMap : NewMap × Advance Setting → Type 0
 IsBareMap (n, told) = IsBare told n
 
 made_has : (link : At) (table : Table) → has_table (new_table.after_making link table) ≡ true
@@ -74,7 +74,7 @@ made_has (Word block field) table = refl
 not_so : (q : Bool) → q ≡ true → q ≡ false → ⊥
 not_so q is none = (let e : true ≡ false = sym is ∙ none in cc e)
 
-bare_below : (n : NewMap) (e : NewTable × Progress Table) → IsBareMap (new_map.opened n e) → IsBareTable e
+bare_below : (n : NewMap) (e : NewTable × Advance Table) → IsBareMap (new_map.opened n e) → IsBareTable e
 bare_below n (t, progress.Goes) bare = bare
 bare_below n (t, progress.Waits) bare = bare
 bare_below n (t, progress.Done table) bare = bare
@@ -114,12 +114,12 @@ module _ {K V : Type 0} (map : ℕ) (known : Known) where
     abbrev AsksAt : Making → Type 0
     AsksAt stands = (has_table stands ≡ false) × Grows map known told
 
-    sums_ask : (before : Table) (reason : Reason) (sum : Sum) (at : Summing) (end : NewTable × Progress Table)
-        → StepsTold K V (NewTable × Progress Table) m changed.Nothing (plan_as (new_table.counted n before reason) (sums.plan_at sum at)) m2 told end → Grows map known told
+    sums_ask : (before : Table) (reason : Reason) (sum : Sum) (at : Summing) (end : NewTable × Advance Table)
+        → StepsTold K V (NewTable × Advance Table) m changed.Nothing (plan_as (new_table.counted n before reason) (sums.plan_at sum at)) m2 told end → Grows map known told
     sums_ask before reason sum (summing.Adds shard total) end s = subst (Grows map known) (sym s.1.1) refl
     sums_ask before reason sum (summing.Over count) end s = subst (Grows map known) (sym s.2) refl
 
-    makes_ask : (table : Table) (words : ℕ) (end : NewTable × Progress Table) → IsBareTable end → (out : Out (Node K V)) → Ends (value_at m2) (new_table.made n table out) end
+    makes_ask : (table : Table) (words : ℕ) (end : NewTable × Advance Table) → IsBareTable end → (out : Out (Node K V)) → Ends (value_at m2) (new_table.made n table out) end
         → Grows map known (told_as m (Make (node.Table table.len table.limit table.turn) words) out)
     makes_ask table words end bare (Found word) ends = refl
     makes_ask table words end bare Stored ends = refl
@@ -129,7 +129,7 @@ module _ {K V : Type 0} (map : ℕ) (known : Known) where
     makes_ask table words end bare (Taken value) ends = refl
     makes_ask table words end bare (Roomed roomed) ends = refl
 
-    table_asks : (stands : Making) (end : NewTable × Progress Table) → StepsTold K V (NewTable × Progress Table) m changed.Nothing (new_table.plan_at n stands) m2 told end → IsBareTable end → AsksAt stands
+    table_asks : (stands : Making) (end : NewTable × Advance Table) → StepsTold K V (NewTable × Advance Table) m changed.Nothing (new_table.plan_at n stands) m2 told end → IsBareTable end → AsksAt stands
     table_asks (makes.Sums before reason sum) end s bare = (refl, sums_ask before reason sum sum.stands end s)
     table_asks (makes.Makes table) end s bare = (refl, subst (Grows map known) (sym s.1.1) (makes_ask table ((table.len + PLACES) % 2 ^ 64) end bare s.0 s.2))
     table_asks (makes.Promotes table) end s bare =
@@ -148,7 +148,7 @@ module _ {K V : Type 0} (map : ℕ) (known : Known) where
 
   -- and of the map
   module _ (m m2 : Mem (Node K V)) (told : Changed) (n : NewMap) where
-    map_asks : (stands : Opening) (end : NewMap × Progress Setting) → StepsTold K V (NewMap × Progress Setting) m changed.Nothing (new_map.plan_at n stands) m2 told end
+    map_asks : (stands : Opening) (end : NewMap × Advance Setting) → StepsTold K V (NewMap × Advance Setting) m changed.Nothing (new_map.plan_at n stands) m2 told end
         → (HasMade stands → known.roles n.setting.counter ≡ role.Counter map) → IsBareMap end → (has_tabled stands ≡ false) × Grows map known told
     map_asks opens.Takes end s noted bare = (refl, subst (Grows map known) (sym s.1.1) (takes_root m n.setting.root 0 1 s.0))
     map_asks opens.Shards end s noted bare = (refl, subst (Grows map known) (sym s.1.1) (makes_shards m ((n.setting.mask + 1) % 2 ^ 64) s.0))
@@ -162,7 +162,7 @@ module _ {K V : Type 0} (map : ℕ) (known : Known) where
     map_asks (opens.Refused fault) end s noted bare = (refl, subst (Grows map known) (sym s.2) refl)
 
     -- if a step made no table, nor those before it, it asked for growths alone
-    pub making_asks : (told_it : Progress Setting) (opening : NewMap) → StepsTold K V (NewMap × Progress Setting) m changed.Nothing (new_map.new_map_plan n) m2 told (opening, told_it)
+    pub making_asks : (told_it : Advance Setting) (opening : NewMap) → StepsTold K V (NewMap × Advance Setting) m changed.Nothing (new_map.new_map_plan n) m2 told (opening, told_it)
         → (HasMade n.stands → known.roles n.setting.counter ≡ role.Counter map) → IsBare told_it opening
         → (has_tabled n.stands ≡ false) × (list_all is_growth (effects_of (acts.Making map) known told) ≡ true)
     making_asks told_it opening s noted bare = map_asks n.stands (opening, told_it) s noted bare

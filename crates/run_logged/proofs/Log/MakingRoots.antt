@@ -10,8 +10,8 @@ use Rattle.run_schedules.specs.Given.SeizeWordsMem.{Mem, value_at, word_at}
 use Rattle.run_schedules.specs.Given.SeizeWordsOp.{Out, Found, Stored, Exchanged, Made, Taken, Roomed, Make}
 use Rattle.run_schedules.specs.Given.SeizeWordsPlan.{Ends}
 use Rattle.run_schedules.proofs.Given.SeizeWordsOneOwner.Operations.{exchanged}
-use Rattle.seize.specs.declared.progress.Progress.{Progress}
-use Rattle.seize.specs.declared.progress.Progress.TheVariants as progress
+use Rattle.seize.specs.declared.advance.Advance.{Advance}
+use Rattle.seize.specs.declared.advance.Advance.TheVariants as progress
 use Rattle.papaya_raw.specs.Given.TablesDeclared.node.Node.{Node}
 use Rattle.papaya_raw.specs.Given.TablesDeclared.node.Node.TheVariants as node
 use Rattle.papaya_raw.specs.Given.TablesDeclared.setting.Setting.{Setting}
@@ -53,18 +53,18 @@ RootSoFar roots taken grown m n (opens.Frees fault) = HasFound roots taken m n �
 RootSoFar roots taken grown m n _ = ⊥
 
 -- the root with which a making goes on
-abbrev pub GoesOnWith : NewMap × Progress Setting → ℕ → Type 0
+abbrev pub GoesOnWith : NewMap × Advance Setting → ℕ → Type 0
 GoesOnWith (n2, progress.Goes) r = n2.setting.root ≡ r
 GoesOnWith (n2, _) r = ⊥
 
 module _ {T : Type 0} (roots : ℕ) (m m2 : Mem T) (n : NewMap) where
   -- another root is as it was, unless it goes on with it
-  abbrev pub LeavesOthers : NewMap × Progress Setting → Type 0
+  abbrev pub LeavesOthers : NewMap × Advance Setting → Type 0
   LeavesOthers end =
       (r : ℕ) → r < roots → (HasTaken n.stands → r ≢ n.setting.root) → (q : Bool) → word_at m (Used r) ≡ Some (bit q) → (word_at m2 (Used r) ≡ Some (bit q)) ⊎ GoesOnWith end r
 
   -- its own is taken as it goes on, and with its map, and free once it was refused
-  abbrev pub HasItsRoot : NewMap × Progress Setting → Type 0
+  abbrev pub HasItsRoot : NewMap × Advance Setting → Type 0
   HasItsRoot (n2, progress.Goes) = HasTaken n2.stands → word_at m2 (Used n2.setting.root) ≡ Some 1
   HasItsRoot (n2, progress.Done setting) = word_at m2 (Used setting.root) ≡ Some 1
   HasItsRoot (n2, progress.Refused fault) = HasTaken n.stands → word_at m2 (Used n.setting.root) ≡ Some 0
@@ -95,7 +95,7 @@ is_one true w e z = refl
 is_one false w e z = absurd (z (let h : 0 ≡ w = cc e in sym h))
 
 -- with this counter its map is there, or its first table is to be made
-abbrev made_with : NewMap → ℕ → Bool → NewMap × Progress Setting
+abbrev made_with : NewMap → ℕ → Bool → NewMap × Advance Setting
 made_with n b q =
     if q then new_map.done (record n { setting = new_map.with_counter n.setting b })
     else new_map.goes (record n { setting = new_map.with_counter n.setting b }) (opens.Tables (new_table.first_table (new_map.with_counter n.setting b) n.len))
@@ -105,7 +105,7 @@ module _ {K V : Type 0} (map : ℕ) (known : Known) (roots : ℕ) (taken : ℕ �
   did2 = did ++ effects_of (acts.Making map) known told
 
   -- what a step comes to
-  abbrev pub RootThen : NewMap × Progress Setting → Type 0
+  abbrev pub RootThen : NewMap × Advance Setting → Type 0
   RootThen (n2, progress.Goes) = (n2.roots ≡ roots) × (max n2.len 8 ≤ 2 ^ 48) × RootSoFar roots taken (has_grown did2) m2 n2 n2.stands
   RootThen (n2, said) = FindsRoot roots taken did2 m2 said
 
@@ -122,7 +122,7 @@ module _ {K V : Type 0} (map : ℕ) (known : Known) (roots : ℕ) (taken : ℕ �
   module _ (as_many : n.roots ≡ roots) (small : max n.len 8 ≤ 2 ^ 48) where
     -- where it has found its root, that is so as it goes on with it
     module _ (found : HasFound roots taken m n) (has : HasTaken n.stands) where
-      others_on : (end : NewMap × Progress Setting) → LeavesOthers roots m m2 n end → ((r : ℕ) → GoesOnWith end r → r ≡ n.setting.root)
+      others_on : (end : NewMap × Advance Setting) → LeavesOthers roots m m2 n end → ((r : ℕ) → GoesOnWith end r → r ≡ n.setting.root)
           → (r : ℕ) → r < roots → r ≢ n.setting.root → word_at m (Used r) ≡ Some (bit (with_root n.setting.root taken r)) → word_at m2 (Used r) ≡ Some (bit (with_root n.setting.root taken r))
       others_on end leaves same r l ne is = by (leaves r l (λ _. ne) (with_root n.setting.root taken r) is)
         where
@@ -130,14 +130,14 @@ module _ {K V : Type 0} (map : ℕ) (known : Known) (roots : ℕ) (taken : ℕ �
           by (inl w) = w
           by (inr goes) = absurd (ne (same r goes))
 
-      found_on : (end : NewMap × Progress Setting) → LeavesOthers roots m m2 n end → ((r : ℕ) → GoesOnWith end r → r ≡ n.setting.root) → word_at m2 (Used n.setting.root) ≡ Some 1 → HasFound roots taken m2 n
+      found_on : (end : NewMap × Advance Setting) → LeavesOthers roots m m2 n end → ((r : ℕ) → GoesOnWith end r → r ≡ n.setting.root) → word_at m2 (Used n.setting.root) ≡ Some 1 → HasFound roots taken m2 n
       found_on end leaves same its = (
         found.0,
         marks roots m m2 n (with_root n.setting.root taken) (with_root n.setting.root taken) n.setting.root found.1 (its ∙ ap (λ (q : Bool). Some (bit q)) (sym (its_own n.setting.root taken))) (λ r ne. refl)
             (others_on end leaves same),
       )
 
-      given_up : (end : NewMap × Progress Setting) → LeavesOthers roots m m2 n end → ((r : ℕ) → GoesOnWith end r → r ≡ n.setting.root) → word_at m2 (Used n.setting.root) ≡ Some 0 → AreTaken roots taken m2
+      given_up : (end : NewMap × Advance Setting) → LeavesOthers roots m m2 n end → ((r : ℕ) → GoesOnWith end r → r ≡ n.setting.root) → word_at m2 (Used n.setting.root) ≡ Some 0 → AreTaken roots taken m2
       given_up end leaves same its =
           marks roots m m2 n (with_root n.setting.root taken) taken n.setting.root found.1 (its ∙ ap (λ (q : Bool). Some (bit q)) (sym found.0.1)) (another n.setting.root taken) (others_on end leaves same)
 
@@ -182,8 +182,8 @@ module _ {K V : Type 0} (map : ℕ) (known : Known) (roots : ℕ) (taken : ℕ �
           by (inl more) = subst Next (let e : true ≡ nat_lt n.setting.root (n.roots - 1) = grind (arith, more) in e) (as_many, small, so_far (omega (arith, more, as_many)))
           by (inr last) = subst Next (let e : false ≡ nat_lt n.setting.root (n.roots - 1) = grind (arith, last) in e) ((λ q l. through q (omega (arith, l, last, as_many))), are)
 
-      takes_then : (n.setting.root < roots) × ((q : ℕ) → q < n.setting.root → taken q ≡ true) × AreTaken roots taken m → (end : NewMap × Progress Setting)
-          → StepsTold K V (NewMap × Progress Setting) m changed.Nothing (new_map.takes n) m2 told end → LeavesOthers roots m m2 n end → HasItsRoot roots m m2 n end → RootThen end
+      takes_then : (n.setting.root < roots) × ((q : ℕ) → q < n.setting.root → taken q ≡ true) × AreTaken roots taken m → (end : NewMap × Advance Setting)
+          → StepsTold K V (NewMap × Advance Setting) m changed.Nothing (new_map.takes n) m2 told end → LeavesOthers roots m m2 n end → HasItsRoot roots m m2 n end → RootThen end
       takes_then (below, lower, are) end s leaves its =
           elim (exchanged m (new_map.taken n) (Used n.setting.root) 0 1 m2 end (as_step m changed.Nothing (new_map.takes n) m2 told end s)) as (λ _. RootThen end) [
             | inl d ↦
@@ -208,7 +208,7 @@ module _ {K V : Type 0} (map : ℕ) (known : Known) (roots : ℕ) (taken : ℕ �
 
     module _ (stands : Opening) (is : n.stands ≡ stands) (has : HasTaken n.stands) (found : HasFound roots taken m n) where
       -- the counter is made, or was refused
-      shards_then : stands ≡ opens.Shards → (end : NewMap × Progress Setting) → (out : Out (Node K V)) → told ≡ told_as m (Make node.Shards ((n.setting.mask + 1) % 2 ^ 64)) out
+      shards_then : stands ≡ opens.Shards → (end : NewMap × Advance Setting) → (out : Out (Node K V)) → told ≡ told_as m (Make node.Shards ((n.setting.mask + 1) % 2 ^ 64)) out
           → Ends (value_at m2) (new_map.made n out) end → LeavesOthers roots m m2 n end → HasItsRoot roots m m2 n end → RootThen end
       shards_then at end out is_told ends leaves its = by out is_told ends
         where
@@ -250,7 +250,7 @@ module _ {K V : Type 0} (map : ℕ) (known : Known) (roots : ℕ) (taken : ℕ �
           by (Roomed roomed) t e = same_point e
 
       -- a step of the making of its table
-      opened_then : (e : NewTable × Progress Table) → TableThen map known told e → (end : NewMap × Progress Setting) → end ≡ new_map.opened n e → LeavesOthers roots m m2 n end
+      opened_then : (e : NewTable × Advance Table) → TableThen map known told e → (end : NewMap × Advance Setting) → end ≡ new_map.opened n e → LeavesOthers roots m m2 n end
           → HasItsRoot roots m m2 n end → RootThen end
       opened_then (t, progress.Goes) so end e leaves its =
           subst RootThen (sym e)
@@ -262,8 +262,8 @@ module _ {K V : Type 0} (map : ℕ) (known : Known) (roots : ℕ) (taken : ℕ �
           subst RootThen (sym e)
           (as_many, small, (goes_then found has (opens.Unmakes fault) tt (subst (LeavesOthers roots m m2 n) e leaves) (subst (HasItsRoot roots m m2 n) e its), so.0, grown_now so.1))
 
-    point_then : (stands : Opening) → n.stands ≡ stands → RootSoFar roots taken (has_grown did) m n stands → (end : NewMap × Progress Setting)
-        → StepsTold K V (NewMap × Progress Setting) m changed.Nothing (new_map.plan_at n stands) m2 told end → LeavesOthers roots m m2 n end → HasItsRoot roots m m2 n end → RootThen end
+    point_then : (stands : Opening) → n.stands ≡ stands → RootSoFar roots taken (has_grown did) m n stands → (end : NewMap × Advance Setting)
+        → StepsTold K V (NewMap × Advance Setting) m changed.Nothing (new_map.plan_at n stands) m2 told end → LeavesOthers roots m m2 n end → HasItsRoot roots m m2 n end → RootThen end
     point_then opens.Takes is so end s leaves its = takes_then is so end s leaves its
     point_then opens.Shards is so end s leaves its = shards_then opens.Shards is (subst HasTaken (sym is) tt) so refl end s.0 s.1.1 s.2 leaves its
     point_then (opens.Tables making) is so end s leaves its =
@@ -279,6 +279,6 @@ module _ {K V : Type 0} (map : ℕ) (known : Known) (roots : ℕ) (taken : ℕ �
     point_then (opens.Refused fault) is so end s leaves its = absurd so
 
     -- so is it after each step
-    pub root_then : RootSoFar roots taken (has_grown did) m n n.stands → (end : NewMap × Progress Setting)
-        → StepsTold K V (NewMap × Progress Setting) m changed.Nothing (new_map.new_map_plan n) m2 told end → LeavesOthers roots m m2 n end → HasItsRoot roots m m2 n end → RootThen end
+    pub root_then : RootSoFar roots taken (has_grown did) m n n.stands → (end : NewMap × Advance Setting)
+        → StepsTold K V (NewMap × Advance Setting) m changed.Nothing (new_map.new_map_plan n) m2 told end → LeavesOthers roots m m2 n end → HasItsRoot roots m m2 n end → RootThen end
     root_then so end s leaves its = point_then n.stands refl so end s leaves its

@@ -2,8 +2,8 @@
 use Rattle.std.specs.Prelude.{◌≡◌, ◌+◌, ℕ, Bool, List, ◌++◌, length, Option, Some, None}
 use Rattle.std.proofs.Common.{refl, ap, subst, sym, ◌∙◌, arith}
 use Rattle.seize.specs.World.{with_at}
-use Rattle.seize.specs.declared.progress.Progress.{Progress}
-use Rattle.seize.specs.declared.progress.Progress.TheVariants as progress
+use Rattle.seize.specs.declared.advance.Advance.{Advance}
+use Rattle.seize.specs.declared.advance.Advance.TheVariants as progress
 use Rattle.papaya_raw.specs.Given.TablesDeclared.setting.Setting.{Setting}
 use Rattle.run_schedules.specs.declared.effect.Effect.{Effect}
 use Rattle.run_schedules.specs.Schedules.Beginning.{with_map}
@@ -59,7 +59,7 @@ module _ {K V S : Type 0} (same : K → K → Bool) (hash : K → ℕ) where
       }
 
   -- the executor is there after each step
-  pub is_there : (old new : Executor K V S) (s : Scene K V) (i : ℕ) (told : Progress Setting) (went : MakesThere same hash i told s old new) (b : Beginning K) (here : s.makers i ≡ Some b)
+  pub is_there : (old new : Executor K V S) (s : Scene K V) (i : ℕ) (told : Advance Setting) (went : MakesThere same hash i told s old new) (b : Beginning K) (here : s.makers i ≡ Some b)
       → IsThere same hash new (making_after same (λ map. hash) s (held_by old) (held_by new) i b (went b here).0 (went b here).2.step.w2 told (making_held same hash s old new i told went b here).3)
   is_there old new s i progress.Goes went b here = (went b here).3
   is_there old new s i progress.Waits went b here = absurd (went b here).3
@@ -70,7 +70,7 @@ module _ {K V S : Type 0} (same : K → K → Bool) (hash : K → ℕ) where
     abbrev then_logged : Logged K V S
     then_logged = record { executor = stepped; notes = notes }
 
-    stays_so : (told : Progress Setting) → MakingLeads same (λ map. hash) i told s (held_by old.executor) (held_by stepped) → (b : Beginning K) → s.makers i ≡ Some b → (of : Option ℕ)
+    stays_so : (told : Advance Setting) → MakingLeads same (λ map. hash) i told s (held_by old.executor) (held_by stepped) → (b : Beginning K) → s.makers i ≡ Some b → (of : Option ℕ)
         → StaysNew b.map told m (with_effects None of (effects_of (acts.Making b.map) (known old.notes) stepped.memory.changed) m)
     stays_so progress.Goes leads b here of = λ setting is_new.
         new_maps_stay K V same (λ map. hash) name m (known old.notes) s (held_by old.executor) (held_by stepped) shown.is_at.held shown.shows.all.shown i leads b here of setting is_new
@@ -78,10 +78,10 @@ module _ {K V S : Type 0} (same : K → K → Bool) (hash : K → ℕ) where
     stays_so (progress.Done setting) leads b here of = tt
     stays_so (progress.Refused fault) leads b here of = tt
 
-    abbrev Then : (told : Progress Setting) → MakingLeads same (λ map. hash) i told s (held_by old.executor) (held_by stepped) → (b : Beginning K) → s.makers i ≡ Some b → Scene K V
+    abbrev Then : (told : Advance Setting) → MakingLeads same (λ map. hash) i told s (held_by old.executor) (held_by stepped) → (b : Beginning K) → s.makers i ≡ Some b → Scene K V
     Then told leads b here = making_after same (λ map. hash) s (held_by old.executor) (held_by stepped) i b (leads b here).0 (leads b here).2.step.w2 told (leads b here).3
 
-    counted_of : (told : Progress Setting) (leads : MakingLeads same (λ map. hash) i told s (held_by old.executor) (held_by stepped))
+    counted_of : (told : Advance Setting) (leads : MakingLeads same (λ map. hash) i told s (held_by old.executor) (held_by stepped))
         → known notes ≡ known_after (acts.Making map) stepped.memory.changed (known old.notes) → KeepsGiven old.executor stepped → (b : Beginning K) (here : s.makers i ≡ Some b) → b.map ≡ map → (of : Option ℕ) → WasNew map told m
         → IsCounted (with_effects None of (effects_of (acts.Making map) (known old.notes) stepped.memory.changed) m) then_logged (Then told leads b here)
     counted_of told leads noted keeps b here of_map of was_new =
@@ -91,7 +91,7 @@ module _ {K V S : Type 0} (same : K → K → Bool) (hash : K → ℕ) where
         (makings_note_left same (λ map. hash) name m (known old.notes) s (held_by old.executor) (held_by stepped) shown.is_at.held shown.shows i told leads b here of
         (subst (λ (n : ℕ). WasNew n told m) (sym of_map) was_new) (Then told leads b here).world))
 
-    making_so : (told : Progress Setting) → ((s : Scene K V) → IsThere same hash old.executor s → MakesThere same hash i told s old.executor stepped)
+    making_so : (told : Advance Setting) → ((s : Scene K V) → IsThere same hash old.executor s → MakesThere same hash i told s old.executor stepped)
         → known notes ≡ known_after (acts.Making map) stepped.memory.changed (known old.notes) → KeepsGiven old.executor stepped
         → MakingGoesOn same hash name m s i map told (effects_of (acts.Making map) (known old.notes) stepped.memory.changed) old then_logged
     making_so told stepping noted keeps b here of_map =
@@ -120,7 +120,7 @@ module _ {K V S : Type 0} (same : K → K → Bool) (hash : K → ℕ) where
         )
 
 -- The executor has taken the step, and then its memory was noted: the executor stayed as it was.
-pub making_steps : {K V S : Type 0} (old new : Logged K V S) (stepped : Executor K V S) (i map : ℕ) (told : Progress Setting) (before after : List Effect)
+pub making_steps : {K V S : Type 0} (old new : Logged K V S) (stepped : Executor K V S) (i map : ℕ) (told : Advance Setting) (before after : List Effect)
     → ((same : K → K → Bool) (hash : K → ℕ) (s : Scene K V) → IsThere same hash old.executor s → MakesThere same hash i told s old.executor stepped)
     → after ≡ before ++ effects_of (acts.Making map) (known old.notes) stepped.memory.changed
     → known new.notes ≡ known_after (acts.Making map) stepped.memory.changed (known old.notes)

@@ -8,8 +8,8 @@ use Rattle.run_schedules.specs.Given.SeizeWordsMem.{Mem, value_at}
 use Rattle.run_schedules.specs.Given.SeizeWordsOp.{Out, Found, Stored, Exchanged, Made, Taken, Roomed, Make}
 use Rattle.run_schedules.specs.Given.SeizeWordsPlan.{Ends}
 use Rattle.run_schedules.proofs.Given.SeizeWordsOneOwner.Operations.{taken}
-use Rattle.seize.specs.declared.progress.Progress.{Progress}
-use Rattle.seize.specs.declared.progress.Progress.TheVariants as progress
+use Rattle.seize.specs.declared.advance.Advance.{Advance}
+use Rattle.seize.specs.declared.advance.Advance.TheVariants as progress
 use Rattle.papaya_raw.specs.Given.TablesDeclared.node.Node.{Node}
 use Rattle.papaya_raw.specs.Given.TablesDeclared.node.Node.TheVariants as node
 use Rattle.papaya_raw.specs.Given.TablesDeclared.setting.Setting.{Setting}
@@ -59,17 +59,17 @@ module _ (map : ℕ) (known : Known) where
   HasAsked told = has_grown (effects_of (acts.Making map) known told) ≡ true
 
   -- what a step of it leads to
-  abbrev pub TableThen : Changed → NewTable × Progress Table → Type 0
+  abbrev pub TableThen : Changed → NewTable × Advance Table → Type 0
   TableThen told (n, progress.Goes) = IsFirstMaking n.stands
   TableThen told (n, progress.Waits) = ⊥
   TableThen told (n, progress.Done table) = Unit {0}
   TableThen told (n, progress.Refused fault) = (fault ≡ Memory) × HasAsked told
 
 module _ {K V : Type 0} (map : ℕ) (known : Known) (m m2 : Mem (Node K V)) (told : Changed) (n : NewTable) where
-  abbrev Then : NewTable × Progress Table → Type 0
+  abbrev Then : NewTable × Advance Table → Type 0
   Then = TableThen map known told
 
-  made_then : (table : Table) (words : ℕ) (end : NewTable × Progress Table) → IsFirstMaking n.stands → (out : Out (Node K V))
+  made_then : (table : Table) (words : ℕ) (end : NewTable × Advance Table) → IsFirstMaking n.stands → (out : Out (Node K V))
       → told ≡ told_as m (Make (node.Table table.len table.limit table.turn) words) out → Ends (value_at m2) (new_table.made n table out) end → Then end
   made_then table words end first (Found word) is ends = subst Then (sym ends) first
   made_then table words end first Stored is ends = subst Then (sym ends) first
@@ -79,7 +79,7 @@ module _ {K V : Type 0} (map : ℕ) (known : Known) (m m2 : Mem (Node K V)) (tol
   made_then table words end first (Taken value) is ends = subst Then (sym ends) first
   made_then table words end first (Roomed roomed) is ends = subst Then (sym ends) first
 
-  linked_then : (table : Table) (end : NewTable × Progress Table) → IsFirstMaking n.stands → (out : Out (Node K V)) → Ends (value_at m2) (new_table.linked n table out) end → Then end
+  linked_then : (table : Table) (end : NewTable × Advance Table) → IsFirstMaking n.stands → (out : Out (Node K V)) → Ends (value_at m2) (new_table.linked n table out) end → Then end
   linked_then table end first (Found word) ends = subst Then (sym ends) first
   linked_then table end first Stored ends = subst Then (sym ends) first
   linked_then table end first (Exchanged (Ok empty)) ends = subst Then (sym ends) tt
@@ -88,8 +88,8 @@ module _ {K V : Type 0} (map : ℕ) (known : Known) (m m2 : Mem (Node K V)) (tol
   linked_then table end first (Taken value) ends = subst Then (sym ends) first
   linked_then table end first (Roomed roomed) ends = subst Then (sym ends) first
 
-  table_then : (stands : Making) → n.stands ≡ stands → IsFirstMaking stands → (end : NewTable × Progress Table)
-      → StepsTold K V (NewTable × Progress Table) m changed.Nothing (new_table.plan_at n stands) m2 told end → Then end
+  table_then : (stands : Making) → n.stands ≡ stands → IsFirstMaking stands → (end : NewTable × Advance Table)
+      → StepsTold K V (NewTable × Advance Table) m changed.Nothing (new_table.plan_at n stands) m2 told end → Then end
   table_then (makes.Sums before reason sum) is first end s = absurd first
   table_then (makes.Makes table) is first end s = made_then table ((table.len + PLACES) % 2 ^ 64) end (subst IsFirstMaking (sym is) first) s.0 s.1.1 s.2
   table_then (makes.Promotes table) is first end s = subst Then (sym s.2) tt
@@ -100,5 +100,5 @@ module _ {K V : Type 0} (map : ℕ) (known : Known) (m m2 : Mem (Node K V)) (tol
   table_then (makes.Over table) is first end s = absurd first
   table_then (makes.Refused fault) is first end s = absurd first
 
-  pub first_tables_then : IsFirstMaking n.stands → (end : NewTable × Progress Table) → StepsTold K V (NewTable × Progress Table) m changed.Nothing (new_table.new_table_plan n) m2 told end → Then end
+  pub first_tables_then : IsFirstMaking n.stands → (end : NewTable × Advance Table) → StepsTold K V (NewTable × Advance Table) m changed.Nothing (new_table.new_table_plan n) m2 told end → Then end
   first_tables_then first end s = table_then n.stands refl first end s

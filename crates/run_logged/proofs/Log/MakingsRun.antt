@@ -6,8 +6,8 @@ use Rattle.std.proofs.lemmas.Bool.{eq-eqb, ne_eqb}
 use Rattle.std.proofs.lemmas.List.{append-nil, append_assoc}
 use Rattle.std.proofs.lemmas.List.Folds.{list_all-append}
 use Rattle.seize.specs.World.{with_at}
-use Rattle.seize.specs.declared.progress.Progress.{Progress}
-use Rattle.seize.specs.declared.progress.Progress.TheVariants as progress
+use Rattle.seize.specs.declared.advance.Advance.{Advance}
+use Rattle.seize.specs.declared.advance.Advance.TheVariants as progress
 use Rattle.papaya_raw.specs.Given.TablesDeclared.setting.Setting.{Setting}
 use Rattle.run_effects.specs.Given.RuleChart.{Chart}
 use Rattle.run_effects.specs.Given.ResizeNewMap.{new_map_plan}
@@ -75,7 +75,7 @@ module _ {K V : Type 0} (s : Scene K V) (i : ℕ) (b : Beginning K) where
 
     module _ (same : K → K → Bool) (hash : ℕ → K → ℕ) (mid new : Held K V) where
       -- a step leaves rows and uses of slots as they are
-      module _ (told : Progress Setting) (leads : MakingLeads same hash i told s1 mid new) where
+      module _ (told : Advance Setting) (leads : MakingLeads same hash i told s1 mid new) where
         abbrev step : StepsOfMaking V same same mid.batch_size mid.roots slot_of s1.world s1.maps s1.calls s1.makers i b1 new.memory ((leads b1 here1).0, told)
         step = (leads b1 here1).2.step
 
@@ -85,7 +85,7 @@ module _ {K V : Type 0} (s : Scene K V) (i : ℕ) (b : Beginning K) where
         uses_on : step.w2.uses ≡ s.world.uses
         uses_on = events_uses mid.batch_size step.events s1.world step.w2 step.users step.runs ∙ came.uses
 
-      pub came_on : (told : Progress Setting) (leads : MakingLeads same hash i told s1 mid new)
+      pub came_on : (told : Advance Setting) (leads : MakingLeads same hash i told s1 mid new)
           → MakingCame s (making_after same hash s1 mid new i b1 (leads b1 here1).0 (leads b1 here1).2.step.w2 told (leads b1 here1).3) i b told
       came_on progress.Goes leads = record {
         maker = ((leads b1 here1).0, at_same s1.makers i (Some (record b { machine = (leads b1 here1).0 })) i refl);
@@ -128,7 +128,7 @@ module _ {K V : Type 0} (s : Scene K V) (i : ℕ) (b : Beginning K) where
       }
 
       -- if it has made no table there, neither has its machine
-      pub bare_on : (told : Progress Setting) (leads : MakingLeads same hash i told s1 mid new)
+      pub bare_on : (told : Advance Setting) (leads : MakingLeads same hash i told s1 mid new)
           → CameBare s (making_after same hash s1 mid new i b1 (leads b1 here1).0 (leads b1 here1).2.step.w2 told (leads b1 here1).3) i b told (came_on told leads).maker
           → IsBare told (leads b1 here1).0
       unfolding came_on
@@ -173,7 +173,7 @@ so_many map c stage (suc t) =
     let k = so_many map c stage t in
     omega (arith, e, k)
 
-has_its_table : {K V S : Type 0} (same : K → K → Bool) (hash : K → ℕ) (name : ℕ → List ℕ) (w : Moment K V) (l : Logged K V S) (s s2 : Scene K V) (i : ℕ) (b : Beginning K) (told : Progress Setting)
+has_its_table : {K V S : Type 0} (same : K → K → Bool) (hash : K → ℕ) (name : ℕ → List ℕ) (w : Moment K V) (l : Logged K V S) (s s2 : Scene K V) (i : ℕ) (b : Beginning K) (told : Advance Setting)
     → MakingCame s s2 i b told → IsShown same hash name w l s2 → HasTable told b w
 has_its_table same hash name w l s s2 i b progress.Goes came shown = tt
 has_its_table same hash name w l s s2 i b progress.Waits came shown = tt
@@ -189,13 +189,13 @@ both_ask xs ys first later = list_all-append is_growth xs ys ∙ ap (λ (q : Boo
 
 -- what was new where the run began is new where its last step is taken
 module _ {K V : Type 0} (map : ℕ) (m v : Moment K V) (stays : StaysNew map progress.Goes m v) where
-  new_there : (told : Progress Setting) → WasNew map told m → WasNew map told v
+  new_there : (told : Advance Setting) → WasNew map told m → WasNew map told v
   new_there progress.Goes was = tt
   new_there progress.Waits was = tt
   new_there (progress.Done setting) was = stays setting was
   new_there (progress.Refused fault) was = tt
 
-  stays_on : (told : Progress Setting) (u : Moment K V) → StaysNew map told v u → StaysNew map told m u
+  stays_on : (told : Advance Setting) (u : Moment K V) → StaysNew map told v u → StaysNew map told m u
   stays_on progress.Goes u later = λ setting is_new. later setting (stays setting is_new)
   stays_on progress.Waits u later = tt
   stays_on (progress.Done setting) u later = tt
@@ -212,7 +212,7 @@ module _ {K V S : Type 0} (i map : ℕ) where
   )
 
   -- and one step more
-  module _ (old mid new : Logged K V S) (xs ys zs : List Effect) (told : Progress Setting) (ran : MakingRan i map progress.Goes xs ys old mid) (step : MakingSteps i map told ys zs mid new)
+  module _ (old mid new : Logged K V S) (xs ys zs : List Effect) (told : Advance Setting) (ran : MakingRan i map progress.Goes xs ys old mid) (step : MakingSteps i map told ys zs mid new)
       (stepping : (same : K → K → Bool) (hash : K → ℕ) (s : Scene K V) → IsThere same hash mid.executor s → MakesThere same hash i told s mid.executor new.executor) where
     there_on : (same : K → K → Bool) (hash : K → ℕ) (s : Scene K V) → IsThere same hash old.executor s → MakingIsAt same hash s i map told (ran.0 ++ step.0) old new
     there_on same hash s at b here of_map =
@@ -285,7 +285,7 @@ module _ {K V S : Type 0} (i map : ℕ) where
       )
 
   -- a step that is not the last one goes on
-  only_goes : (same : K → K → Bool) (hash : K → ℕ) (s : Scene K V) (mid new : Executor K V S) (b : Beginning K) (here : s.makers i ≡ Some b) (told : Progress Setting)
+  only_goes : (same : K → K → Bool) (hash : K → ℕ) (s : Scene K V) (mid new : Executor K V S) (b : Beginning K) (here : s.makers i ≡ Some b) (told : Advance Setting)
       → MakesThere same hash i told s mid new → is_over told ≡ false → told ≡ progress.Goes
   only_goes same hash s mid new b here progress.Goes leads more = refl
   only_goes same hash s mid new b here progress.Waits leads more = absurd (leads b here).3
@@ -293,7 +293,7 @@ module _ {K V S : Type 0} (i map : ℕ) where
   only_goes same hash s mid new b here (progress.Refused fault) leads more = absurd (cc more)
 
   -- so it runs on, with less to do
-  module _ (same : K → K → Bool) (hash : K → ℕ) (s : Scene K V) (old mid new : Logged K V S) (xs ys zs : List Effect) (told : Progress Setting) (at : IsThere same hash old.executor s) (b : Beginning K) (here : s.makers i ≡ Some b) (of_map : b.map ≡ map)
+  module _ (same : K → K → Bool) (hash : K → ℕ) (s : Scene K V) (old mid new : Logged K V S) (xs ys zs : List Effect) (told : Advance Setting) (at : IsThere same hash old.executor s) (b : Beginning K) (here : s.makers i ≡ Some b) (of_map : b.map ≡ map)
       (ran : MakingRan i map progress.Goes xs ys old mid) (step : MakingSteps i map told ys zs mid new)
       (stepping : (same : K → K → Bool) (hash : K → ℕ) (s : Scene K V) → IsThere same hash mid.executor s → MakesThere same hash i told s mid.executor new.executor) (more : is_over told ≡ false) where
     abbrev there : (s1 : Scene K V) × MakingCame s s1 i b progress.Goes × IsThere same hash mid.executor s1
@@ -303,9 +303,9 @@ module _ {K V S : Type 0} (i map : ℕ) where
     goes = only_goes same hash there.0 mid.executor new.executor (record b { machine = there.1.maker.0 }) there.1.maker.1 told (stepping same hash there.0 there.2) more
 
     pub ran_goes : MakingRan i map progress.Goes xs zs old new
-    ran_goes = subst (λ (t : Progress Setting). MakingRan i map t xs zs old new) goes (makes_on old mid new xs ys zs told ran step stepping)
+    ran_goes = subst (λ (t : Advance Setting). MakingRan i map t xs zs old new) goes (makes_on old mid new xs ys zs told ran step stepping)
 
     pub making_less : making_left_of (work_of new.executor i) < making_left_of (work_of mid.executor i)
     making_less =
         left_falls s i b there.0 there.1 same hash mid.executor new.executor there.2
-        (subst (λ (t : Progress Setting). MakesThere same hash i t there.0 mid.executor new.executor) goes (stepping same hash there.0 there.2))
+        (subst (λ (t : Advance Setting). MakesThere same hash i t there.0 mid.executor new.executor) goes (stepping same hash there.0 there.2))

@@ -5,8 +5,8 @@ use Rattle.std.proofs.lemmas.List.{append-nil, append_assoc}
 use Rattle.run_schedules.specs.Given.SeizeWordsDeclared.at.At.TheVariants.{Used}
 use Rattle.run_schedules.specs.Given.SeizeWordsMem.{Mem, word_at}
 use Rattle.seize.specs.World.{World}
-use Rattle.seize.specs.declared.progress.Progress.{Progress}
-use Rattle.seize.specs.declared.progress.Progress.TheVariants as progress
+use Rattle.seize.specs.declared.advance.Advance.{Advance}
+use Rattle.seize.specs.declared.advance.Advance.TheVariants as progress
 use Rattle.papaya_raw.specs.Given.TablesDeclared.node.Node.{Node}
 use Rattle.papaya_raw.specs.Given.TablesDeclared.setting.Setting.{Setting}
 use Rattle.run_effects.specs.Given.ResizeNewMap.{opening}
@@ -42,17 +42,17 @@ module _ {K V S : Type 0} (same : K → K → Bool) (hash : K → ℕ) (mid new 
   n = b.machine
 
   -- a step of a making, as one of the scene
-  abbrev Step : NewMap → Progress Setting → Type 0
+  abbrev Step : NewMap → Advance Setting → Type 0
   Step n2 said = StepsOfMaking V same same mid.batch_size mid.roots slot_of s.world s.maps s.calls s.makers i b m2 (n2, said)
 
   module _ (n2 : NewMap) where
-    come : (said : Progress Setting) (r : ℕ) → HasComeTo V same same mid.batch_size mid.roots slot_of (n2, said) r → GoesOnWith (n2, said) r
+    come : (said : Advance Setting) (r : ℕ) → HasComeTo V same same mid.batch_size mid.roots slot_of (n2, said) r → GoesOnWith (n2, said) r
     come progress.Goes r h = h.1
     come progress.Waits r h = absurd h
     come (progress.Done setting) r h = absurd h
     come (progress.Refused fault) r h = absurd h
 
-    others : (roots : ℕ) (said : Progress Setting) → Step n2 said → LeavesOthers roots m m2 n (n2, said)
+    others : (roots : ℕ) (said : Advance Setting) → Step n2 said → LeavesOthers roots m m2 n (n2, said)
     others roots said step r l apart q is = by q (ap (λ (x : Mem (Node K V)). word_at x (Used r)) at.held.memory ∙ is)
       where
         then_at : (x : Option ℕ) → word_at step.w2.memory (Used r) ≡ x → word_at m2 (Used r) ≡ x
@@ -75,7 +75,7 @@ module _ {K V S : Type 0} (same : K → K → Bool) (hash : K → ℕ) (mid new 
     taken_at w roots opens.Over has facts = absurd has
     taken_at w roots (opens.Refused fault) has facts = absurd has
 
-    its : (roots : ℕ) (said : Progress Setting) → Step n2 said → HasItsRoot roots m m2 n (n2, said)
+    its : (roots : ℕ) (said : Advance Setting) → Step n2 said → HasItsRoot roots m m2 n (n2, said)
     its roots progress.Goes step = λ has.
         ap (λ (y : Mem (Node K V)). word_at y (Used n2.setting.root)) (sym step.memory)
         ∙ taken_at step.w2 mid.roots n2.stands has (step.told.facts i (record b { machine = n2 }) (at_same s.makers i (Some (record b { machine = n2 })) i refl)).point
@@ -88,7 +88,7 @@ module _ {K V S : Type 0} (same : K → K → Bool) (hash : K → ℕ) (mid new 
 
   -- the step leads on
   pub leads_on : (map : ℕ) (noted : Known) (roots : ℕ) (taken : ℕ → Bool) (did : List Effect) → n.roots ≡ roots → max n.len 8 ≤ 2 ^ 48 → RootSoFar roots taken (has_grown did) m n n.stands
-      → (told : Progress Setting) (leads : MakesThere same hash i told s mid new) → RootThen map noted roots taken did m m2 new.memory.changed n ((leads b here).0, told)
+      → (told : Advance Setting) (leads : MakesThere same hash i told s mid new) → RootThen map noted roots taken did m m2 new.memory.changed n ((leads b here).0, told)
   leads_on map noted roots taken did as_many small so told leads =
       let to = leads b here in
       root_then map noted roots taken did m m2 new.memory.changed n as_many small so (to.0, told) to.1 (others to.0 roots told to.2.step) (its to.0 roots told to.2.step)
@@ -125,7 +125,7 @@ module _ {K V S : Type 0} (i map : ℕ) where
       none_below : (q : ℕ) → q < 0 → ⊥
       none_below q l = omega (arith, l)
 
-  module _ (old mid new : Logged K V S) (xs ys zs : List Effect) (told : Progress Setting) (ran : MakingRan i map progress.Goes xs ys old mid) (so : MakingFindsSoFar i map xs ys old mid)
+  module _ (old mid new : Logged K V S) (xs ys zs : List Effect) (told : Advance Setting) (ran : MakingRan i map progress.Goes xs ys old mid) (so : MakingFindsSoFar i map xs ys old mid)
       (stepping : (same : K → K → Bool) (hash : K → ℕ) (s : Scene K V) → IsThere same hash mid.executor s → MakesThere same hash i told s mid.executor new.executor)
       (did_it : zs ≡ ys ++ effects_of (Making map) (known mid.notes) new.executor.memory.changed) where
     module _ (same : K → K → Bool) (hash : K → ℕ) (s : Scene K V) (at : IsThere same hash old.executor s) (b : Beginning K) (here : s.makers i ≡ Some b) (of_map : b.map ≡ map)
@@ -166,7 +166,7 @@ module _ {K V S : Type 0} (i map : ℕ) where
       pub led : RootThen map (known mid.notes) old.executor.roots taken before.0 mid.executor.memory.memory new.executor.memory.memory new.executor.memory.changed u.1.maker.0 (n2, told)
       led = leads_on same hash mid.executor new.executor u.0 u.2 i b1 u.1.maker.1 map (known mid.notes) old.executor.roots taken before.0 is_so.0 is_so.1 is_so.2 told leads
 
-    over_found : (did : List Effect) (m m2 : Mem (Node K V)) (roots : ℕ) (taken : ℕ → Bool) (n n2 : NewMap) (said : Progress Setting) → is_over said ≡ true
+    over_found : (did : List Effect) (m m2 : Mem (Node K V)) (roots : ℕ) (taken : ℕ → Bool) (n n2 : NewMap) (said : Advance Setting) → is_over said ≡ true
         → RootThen map (known mid.notes) roots taken did m m2 new.executor.memory.changed n (n2, said)
         → FindsRoot roots taken (did ++ effects_of (Making map) (known mid.notes) new.executor.memory.changed) m2 said
     over_found did m m2 roots taken n n2 progress.Goes over led = absurd (cc over)
@@ -185,13 +185,13 @@ module _ {K V S : Type 0} (i map : ℕ) where
     )
 
   -- and each other one goes on
-  pub goes_found : (same : K → K → Bool) (hash : K → ℕ) (s : Scene K V) (old mid new : Logged K V S) (xs ys zs : List Effect) (told : Progress Setting) → IsThere same hash old.executor s
+  pub goes_found : (same : K → K → Bool) (hash : K → ℕ) (s : Scene K V) (old mid new : Logged K V S) (xs ys zs : List Effect) (told : Advance Setting) → IsThere same hash old.executor s
       → (b : Beginning K) → s.makers i ≡ Some b → b.map ≡ map → MakingRan i map progress.Goes xs ys old mid → MakingFindsSoFar i map xs ys old mid
       → ((same : K → K → Bool) (hash : K → ℕ) (s : Scene K V) → IsThere same hash mid.executor s → MakesThere same hash i told s mid.executor new.executor)
       → zs ≡ ys ++ effects_of (Making map) (known mid.notes) new.executor.memory.changed → is_over told ≡ false → MakingFindsSoFar i map xs zs old new
   goes_found same0 hash0 s0 old mid new xs ys zs told at0 b0 here0 of_map0 ran so stepping did_it more = by told more stepping
     where
-      by : (told : Progress Setting) → is_over told ≡ false
+      by : (told : Advance Setting) → is_over told ≡ false
           → ((same : K → K → Bool) (hash : K → ℕ) (s : Scene K V) → IsThere same hash mid.executor s → MakesThere same hash i told s mid.executor new.executor) → MakingFindsSoFar i map xs zs old new
       by progress.Goes more stepping = λ same hash s at b here of_map begins small taken are.
           let x = led old mid new xs ys zs progress.Goes ran so stepping did_it same hash s at b here of_map begins small taken are in

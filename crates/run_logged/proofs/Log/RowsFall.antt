@@ -3,8 +3,8 @@ use Rattle.std.specs.Prelude.{◌≡◌, ◌<◌, ℕ, suc, Bool, true, false, O
 use Rattle.std.proofs.Common.{refl, sym, ap, subst, ◌∙◌, arith}
 use Rattle.run_schedules.specs.Given.SeizeWordsMem.{Mem, Took, value_at}
 use Rattle.run_schedules.specs.Given.SeizeWordsPlan.{Steps}
-use Rattle.seize.specs.declared.progress.Progress.{Progress}
-use Rattle.seize.specs.declared.progress.Progress.TheVariants as progress
+use Rattle.seize.specs.declared.advance.Advance.{Advance}
+use Rattle.seize.specs.declared.advance.Advance.TheVariants as progress
 use Rattle.seize.specs.declared.rows.enter.Enter.{Enter}
 use Rattle.seize.specs.declared.rows.enter.Unregister.{Unregister}
 use Rattle.seize.specs.declared.rows.register.Register.{Register}
@@ -48,8 +48,8 @@ more : (a b : ℕ) → a < b → suc a < suc b
 more a b less = omega (arith, less)
 
 -- a row of one store ends with it
-pub one_store : {T : Type 0} (it : RowTold T) (o : Progress Unit) → it ≡ of_storing o → o ≡ progress.Done tt → has_come it ≡ false → ⊥
-one_store {T} it o is e h = ended it (is ∙ ap (λ (x : Progress Unit). of_storing {T = T} x) e) h
+pub one_store : {T : Type 0} (it : RowTold T) (o : Advance Unit) → it ≡ of_storing o → o ≡ progress.Done tt → has_come it ≡ false → ⊥
+one_store {T} it o is e h = ended it (is ∙ ap (λ (x : Advance Unit). of_storing {T = T} x) e) h
   where
     ended : (x : RowTold T) → x ≡ told.Done → has_come x ≡ false → ⊥
     ended x e h = cc (ap (λ (y : RowTold T). has_come y) e, h)
@@ -66,7 +66,7 @@ module _ {K V : Type 0} where
   further_so settled.Done h = absurd (cc h)
 
   module _ (size i : ℕ) (w : World (Node K V)) (came : Came deferred_word size i w) (m2 : Mem (Node K V)) where
-    registers_less : (c d : Register) (o : Progress ℕ) → Steps Took value_at w.memory (register_plan c) m2 (d, o) → come (of_registering o) ≡ false
+    registers_less : (c d : Register) (o : Advance ℕ) → Steps Took value_at w.memory (register_plan c) m2 (d, o) → come (of_registering o) ≡ false
         → suc (register_to_go d) < suc (register_to_go c)
     registers_less c d progress.Goes st h = more _ _ (register_ends w.memory c m2 (d, progress.Goes) st tt)
     registers_less c d progress.Waits st h = absurd (cc h)
@@ -81,7 +81,7 @@ module _ {K V : Type 0} where
         (registers_less c st.0.0 st.0.1 (as_step w.memory Nothing (register_plan c) m2 changed st.0 st.1))
     row_less (rows.Enters c) changed end is st =
         let step = as_step w.memory Nothing (enter_plan c) m2 changed st.0 st.1 in
-        λ h. absurd (one_store end.1 st.0.1 (ap (λ (e : SlotRow × RowTold (Node K V)). e.1) st.2) (ap (λ (x : Enter × Progress Unit). x.1) step.2) h)
+        λ h. absurd (one_store end.1 st.0.1 (ap (λ (e : SlotRow × RowTold (Node K V)). e.1) st.2) (ap (λ (x : Enter × Advance Unit). x.1) step.2) h)
     row_less (rows.Leaves c) changed end is st =
         subst (λ (e : SlotRow × RowTold (Node K V)). come e.1 ≡ false → row_steps_left deferred_word m2 (row_of e.0) < suc (leave_steps_left deferred_word goes_further w.memory c)) (sym st.2)
         (λ h. more _ _ (leaves_go_lower deferred_word size i w came c is m2 st.0.0 st.0.1 (as_step w.memory Nothing (leave_plan deferred_word c) m2 changed st.0 st.1) (further_so st.0.1 h)))
@@ -90,7 +90,7 @@ module _ {K V : Type 0} where
         (λ h. more _ _ (settles_go_lower deferred_word size i w came c is m2 st.0 (as_step w.memory Nothing (settle_plan deferred_word c) m2 changed st.0 st.1) (further_so st.0.1 h)))
     row_less (rows.Frees c) changed end is st =
         let step = as_step w.memory Nothing (unregister_plan c) m2 changed st.0 st.1 in
-        λ h. absurd (one_store end.1 st.0.1 (ap (λ (e : SlotRow × RowTold (Node K V)). e.1) st.2) (ap (λ (x : Unregister × Progress Unit). x.1) step.2) h)
+        λ h. absurd (one_store end.1 st.0.1 (ap (λ (e : SlotRow × RowTold (Node K V)). e.1) st.2) (ap (λ (x : Unregister × Advance Unit). x.1) step.2) h)
 
   -- it is under way still
   pub under_way_on : (row : SlotRow) (it : RowTold (Node K V)) → come it ≡ false → row_on {K = K} {V = V} row it ≡ Some (work.OnSlot row)

@@ -2,7 +2,7 @@
 use Rattle.std.specs.Prelude.{◌≡◌, ℕ, Bool, true, false, List, Result, Ok}
 use Rattle.std.proofs.Common.{refl, sym, subst}
 use Rattle.papaya_raw.specs.Machine.{machine_replied}
-use Rattle.papaya_raw.specs.declared.machines.asking.Reply.{Reply as MachineReply}
+use Rattle.papaya_raw.specs.declared.machines.asking.MachineReply.{MachineReply}
 use Rattle.run_schedules.specs.Schedules.Moment.{Moment}
 use Rattle.run_effects.specs.Effects.Known.{known}
 use Rattle.run_effects.specs.declared.notes.Notes.{Notes}

@@ -2,8 +2,8 @@
 use Rattle.std.specs.Prelude.{◌==◌, ◌||◌, not, map, if◌then◌else◌}
 use Rattle.std.proofs.Common.{◌≡◌, ℕ, ◌+◌, Bool, true, false, List, [], ◌∷◌, ◌++◌, refl, sym, ap, ◌∙◌, arith, eqb-true}
 use Rattle.std.proofs.lemmas.Bool.{eq-eqb, ne_eqb}
-use Rattle.run_schedules.specs.declared.holders.Guard.{Guard}
-use Rattle.run_schedules.specs.declared.holders.Registration.{Registration}
+use Rattle.run_schedules.specs.declared.holders.NamedGuard.{NamedGuard}
+use Rattle.run_schedules.specs.declared.holders.NamedRegistration.{NamedRegistration}
 use Rattle.run_schedules.specs.Runs.Present.{Present, guards_on, has_registration}
 use Rattle.run_schedules.specs.Schedules.InUse.{used_slots}
 use Rattle.run_schedules.specs.Schedules.Lists.{is_among}
@@ -26,12 +26,12 @@ among_both t (x ∷ xs) ys = by (t == x) (among_both t xs ys)
     by true ih = refl
     by false ih = ih
 
-among_registered : (t : ℕ) (registrations : List Registration) → is_among t (map (λ r. r.slot) registrations) ≡ has_registration t registrations
+among_registered : (t : ℕ) (registrations : List NamedRegistration) → is_among t (map (λ r. r.slot) registrations) ≡ has_registration t registrations
 among_registered t [] = refl
 among_registered t (r ∷ registrations) =
     ap (λ (b : Bool). b || is_among t (map (λ x. x.slot) registrations)) (eqb_turned t r.slot) ∙ ap (λ (b : Bool). (r.slot == t) || b) (among_registered t registrations)
 
-among_guards : (t : ℕ) (guards : List Guard) → is_among t (map (λ g. g.slot) guards) ≡ not (guards_on t guards == 0)
+among_guards : (t : ℕ) (guards : List NamedGuard) → is_among t (map (λ g. g.slot) guards) ≡ not (guards_on t guards == 0)
 among_guards t [] = refl
 among_guards t (g ∷ guards) =
     ap (λ (b : Bool). b || is_among t (map (λ x. x.slot) guards)) (eqb_turned t g.slot) ∙ by (g.slot == t) (among_guards t guards)

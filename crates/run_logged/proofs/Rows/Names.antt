@@ -1,6 +1,6 @@
 -- Names of their own: who is there keeps them when one comes, leaves or is forgotten.
 use Rattle.std.proofs.Common.{◌≡◌, ℕ, ◌≤◌, Bool, true, false, List, [], ◌∷◌, ◌++◌, None, refl, sym, ap, ◌∙◌, arith}
-use Rattle.run_schedules.specs.declared.holders.Guard.{Guard}
+use Rattle.run_schedules.specs.declared.holders.NamedGuard.{NamedGuard}
 use Rattle.run_schedules.specs.Runs.Same.{is_same}
 use Rattle.run_schedules.specs.Runs.Present.{Present, HaveNames, nobody, guard_of, guards_named, enters_slot, drops, forgets}
 use Rattle.run_schedules.proofs.Runs.Laws.{same_tells, none_is_named, enters_counts, drops_counts, forgets_counts}
@@ -24,7 +24,7 @@ drops_named name there h = record {
 
 -- one guard more, of a name that none has
 
-more_named : (name : List ℕ) (guards : List Guard) (g : Guard) (other : List ℕ) (b : Bool) → guard_of name guards ≡ None → g.name ≡ name → is_same g.name other ≡ b → guards_named other guards ≤ 1
+more_named : (name : List ℕ) (guards : List NamedGuard) (g : NamedGuard) (other : List ℕ) (b : Bool) → guard_of name guards ≡ None → g.name ≡ name → is_same g.name other ≡ b → guards_named other guards ≤ 1
     → guards_named other (guards ++ g ∷ []) ≤ 1
 more_named name guards g other true none is e l =
     let a = none_is_named name guards none in

@@ -2,7 +2,7 @@
 use Rattle.std.specs.Prelude.{◌≡◌, ◌≢◌, ℕ, zero, suc, Bool, false, List, Option, Some, None, option_map}
 use Rattle.std.proofs.Common.{sym, ap, subst, ◌∙◌}
 use Rattle.seize.specs.World.{World}
-use Rattle.seize.specs.declared.progress.Progress.{Progress}
+use Rattle.seize.specs.declared.advance.Advance.{Advance}
 use Rattle.seize.specs.declared.rows.enter.Enter.{Enter}
 use Rattle.seize.specs.declared.rows.enter.Unregister.{Unregister}
 use Rattle.seize.specs.Enter.{enter_plan, unregister_plan}
@@ -103,10 +103,10 @@ module _ (K V : Type 0) where
   pub store_done : (m m2 : Mem (Node K V)) (changed : Changed) (row after : SlotRow) (said : RowTold (Node K V)) → StoresOnce row → RowSteps K V row m m2 changed (after, said) → said ≡ told.Done
   store_done m m2 changed (rows.Enters c) after said is st =
       let step = as_step m Nothing (enter_plan c) m2 changed st.0 st.1 in
-      ap (λ (e : SlotRow × RowTold (Node K V)). e.1) st.2 ∙ ap (λ (x : Progress Unit). of_storing {T = Node K V} x) (ap (λ (x : Enter × Progress Unit). x.1) step.2)
+      ap (λ (e : SlotRow × RowTold (Node K V)). e.1) st.2 ∙ ap (λ (x : Advance Unit). of_storing {T = Node K V} x) (ap (λ (x : Enter × Advance Unit). x.1) step.2)
   store_done m m2 changed (rows.Frees c) after said is st =
       let step = as_step m Nothing (unregister_plan c) m2 changed st.0 st.1 in
-      ap (λ (e : SlotRow × RowTold (Node K V)). e.1) st.2 ∙ ap (λ (x : Progress Unit). of_storing {T = Node K V} x) (ap (λ (x : Unregister × Progress Unit). x.1) step.2)
+      ap (λ (e : SlotRow × RowTold (Node K V)). e.1) st.2 ∙ ap (λ (x : Advance Unit). of_storing {T = Node K V} x) (ap (λ (x : Unregister × Advance Unit). x.1) step.2)
   store_done m m2 changed (rows.Registers c) after said is st = absurd is
   store_done m m2 changed (rows.Leaves c) after said is st = absurd is
   store_done m m2 changed (rows.Flushes c) after said is st = absurd is

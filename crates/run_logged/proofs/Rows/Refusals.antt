@@ -7,8 +7,8 @@ use Rattle.run_schedules.specs.Given.SeizeWordsMem.{Mem, value_at}
 use Rattle.run_schedules.specs.Given.SeizeWordsOp.{Out, Room, Found, Stored, Exchanged, Made, Taken, Roomed}
 use Rattle.run_schedules.specs.Given.SeizeWordsPlan.{Ends}
 use Rattle.seize.specs.declared.states.TheConstants.{LAST_SLOT}
-use Rattle.seize.specs.declared.progress.Progress.{Progress}
-use Rattle.seize.specs.declared.progress.Progress.TheVariants as progress
+use Rattle.seize.specs.declared.advance.Advance.{Advance}
+use Rattle.seize.specs.declared.advance.Advance.TheVariants as progress
 use Rattle.seize.specs.declared.rows.register.Register.{Register}
 use Rattle.seize.specs.declared.rows.register.Registering.{Registering}
 use Rattle.seize.specs.declared.rows.register.Registering.TheVariants as at
@@ -19,13 +19,13 @@ use Rattle.run_effects.specs.ReportingMemory.Tells.{StepsTold, told_of}
 use Rattle.run_effects.specs.declared.changed.Changed.{Changed}
 use Rattle.run_effects.specs.declared.changed.Changed.TheVariants as changed
 
-abbrev is_memory : Progress ℕ → Bool
+abbrev is_memory : Advance ℕ → Bool
 is_memory (progress.Refused Memory) = true
 is_memory _ = false
 
-fine_end : (end x : Register × Progress ℕ) → end ≡ x → is_memory x.1 ≡ false → end.1 ≡ progress.Refused Memory → ⊥
+fine_end : (end x : Register × Advance ℕ) → end ≡ x → is_memory x.1 ≡ false → end.1 ≡ progress.Refused Memory → ⊥
 fine_end end x e fine is =
-    let a = ap (λ (q : Register × Progress ℕ). is_memory q.1) e in
+    let a = ap (λ (q : Register × Advance ℕ). is_memory q.1) e in
     let b = ap is_memory is in
     cc (a, b, fine)
 
@@ -54,7 +54,7 @@ won_fine c = by c.enters
     by true = refl
     by false = refl
 
-module _ {K V : Type 0} (m m2 : Mem (Node K V)) (told_so : Changed) (c : Register) (end : Register × Progress ℕ) (is : end.1 ≡ progress.Refused Memory) where
+module _ {K V : Type 0} (m m2 : Mem (Node K V)) (told_so : Changed) (c : Register) (end : Register × Advance ℕ) (is : end.1 ≡ progress.Refused Memory) where
   -- a bucket was asked for, and no memory was found for it
   abbrev FoundNone : Type 0
   FoundNone = (bucket : ℕ) × (told_so ≡ changed.Roomed bucket false)
@@ -95,7 +95,7 @@ module _ {K V : Type 0} (m m2 : Mem (Node K V)) (told_so : Changed) (c : Registe
   not_taken (Made block) ends = fine_end end (c, progress.Goes) ends refl is
   not_taken (Taken value) ends = fine_end end (c, progress.Goes) ends refl is
 
-  pub found_none : (p : Registering) → ((fault : Fault) → p ≡ at.Refused fault → ⊥) → StepsTold K V (Register × Progress ℕ) m changed.Nothing (plan_at c p) m2 told_so end → FoundNone
+  pub found_none : (p : Registering) → ((fault : Fault) → p ≡ at.Refused fault → ⊥) → StepsTold K V (Register × Advance ℕ) m changed.Nothing (plan_at c p) m2 told_so end → FoundNone
   found_none at.Begin under st = none_begun st.0 st.1.1 st.2
   found_none at.Look under st = absurd (not_looked st.0 st.2)
   found_none (at.Widen bucket seen) under st = none_widened bucket seen st.0 st.1.1 st.2

@@ -2,13 +2,13 @@
 use Rattle.std.specs.Prelude.{filter, ◌==◌, ◌||◌, not, option_map, if◌then◌else◌}
 use Rattle.std.proofs.Common.{◌≡◌, ℕ, ◌+◌, ◌≤◌, Bool, true, false, cond, List, [], ◌∷◌, ◌++◌, Option, Some, None, refl, sym, ap, ◌∙◌, arith, eqb-true}
 use Rattle.std.proofs.lemmas.Bool.{eq-eqb, ne_eqb}
-use Rattle.run_schedules.specs.declared.holders.Registration.{Registration}
+use Rattle.run_schedules.specs.declared.holders.NamedRegistration.{NamedRegistration}
 use Rattle.run_schedules.specs.Runs.Same.{is_same}
 use Rattle.run_schedules.specs.Runs.Present.{Present, HaveNames, registration_of, registrations_named, registrations_on, has_registration, registers, unregisters}
 use Rattle.run_schedules.proofs.Runs.Laws.{same_tells}
 
 -- a slot has a registration exactly if their number is not zero
-pub has_counted : (slot : ℕ) (registrations : List Registration) → has_registration slot registrations ≡ not (registrations_on slot registrations == 0)
+pub has_counted : (slot : ℕ) (registrations : List NamedRegistration) → has_registration slot registrations ≡ not (registrations_on slot registrations == 0)
 has_counted slot [] = refl
 has_counted slot (r ∷ registrations) = at (r.slot == slot) (has_counted slot registrations)
   where
@@ -18,16 +18,16 @@ has_counted slot (r ∷ registrations) = at (r.slot == slot) (has_counted slot r
     at false ih = ih ∙ ap (λ (n : ℕ). not (n == 0)) (omega arith)
 
 -- the slot of the one of a name
-pub slot_found : (o : Option Registration) (slot : ℕ) → option_map (λ r. r.slot) o ≡ Some slot → (r : Registration) × (o ≡ Some r) × (r.slot ≡ slot)
+pub slot_found : (o : Option NamedRegistration) (slot : ℕ) → option_map (λ r. r.slot) o ≡ Some slot → (r : NamedRegistration) × (o ≡ Some r) × (r.slot ≡ slot)
 slot_found None slot e = absurd (cc e)
 slot_found (Some r) slot e = (r, refl, cc e)
 
 -- how many registrations of a name are on this slot
-abbrev pub registered_on : ℕ → List ℕ → List Registration → ℕ
+abbrev pub registered_on : ℕ → List ℕ → List NamedRegistration → ℕ
 registered_on slot name [] = 0
 registered_on slot name (r ∷ registrations) = cond (is_same r.name name) (cond (r.slot == slot) 1 0) 0 + registered_on slot name registrations
 
-none_registered : (slot : ℕ) (name : List ℕ) (registrations : List Registration) → registrations_named name registrations ≡ 0 → registered_on slot name registrations ≡ 0
+none_registered : (slot : ℕ) (name : List ℕ) (registrations : List NamedRegistration) → registrations_named name registrations ≡ 0 → registered_on slot name registrations ≡ 0
 none_registered slot name [] e = refl
 none_registered slot name (r ∷ registrations) e = at (is_same r.name name) e (none_registered slot name registrations)
   where
@@ -36,7 +36,7 @@ none_registered slot name (r ∷ registrations) e = at (is_same r.name name) e (
     at true e ih = absurd (omega (arith, e))
     at false e ih = let a = ih (omega (arith, e)) in omega (arith, a)
 
-pub the_registered : (slot : ℕ) (name : List ℕ) (registrations : List Registration) (r : Registration) → registration_of name registrations ≡ Some r → registrations_named name registrations ≤ 1
+pub the_registered : (slot : ℕ) (name : List ℕ) (registrations : List NamedRegistration) (r : NamedRegistration) → registration_of name registrations ≡ Some r → registrations_named name registrations ≤ 1
     → registered_on slot name registrations ≡ cond (r.slot == slot) 1 0
 the_registered slot name [] r e l = absurd (cc e)
 the_registered slot name (x ∷ registrations) r e l = at (is_same x.name name) e l (the_registered slot name registrations r) (none_registered slot name registrations)
@@ -48,18 +48,18 @@ the_registered slot name (x ∷ registrations) r e l = at (is_same x.name name) 
     at true e l ih none =
         let same : x ≡ r = cc e in
         let a = none (omega (arith, l)) in
-        let b = ap {B = ℕ} (λ (y : Registration). cond (y.slot == slot) 1 0) same in
+        let b = ap {B = ℕ} (λ (y : NamedRegistration). cond (y.slot == slot) 1 0) same in
         omega (arith, a, b)
     at false e l ih none = let a = ih e (omega (arith, l)) in omega (arith, a)
 
 -- one less
 
-less_on : (slot : ℕ) (name : List ℕ) (registrations : List Registration)
+less_on : (slot : ℕ) (name : List ℕ) (registrations : List NamedRegistration)
     → registrations_on slot (filter (λ r. not (is_same r.name name)) registrations) + registered_on slot name registrations ≡ registrations_on slot registrations
 less_on slot name [] = refl
 less_on slot name (r ∷ registrations) = at (is_same r.name name) (less_on slot name registrations)
   where
-    rest : List Registration
+    rest : List NamedRegistration
     rest = filter (λ r. not (is_same r.name name)) registrations
 
     at : (b : Bool) → registrations_on slot rest + registered_on slot name registrations ≡ registrations_on slot registrations
@@ -68,12 +68,12 @@ less_on slot name (r ∷ registrations) = at (is_same r.name name) (less_on slot
     at true ih = omega (arith, ih)
     at false ih = omega (arith, ih)
 
-less_named : (other name : List ℕ) (registrations : List Registration)
+less_named : (other name : List ℕ) (registrations : List NamedRegistration)
     → registrations_named other (filter (λ r. not (is_same r.name name)) registrations) ≤ registrations_named other registrations
 less_named other name [] = omega arith
 less_named other name (r ∷ registrations) = at (is_same r.name name) (less_named other name registrations)
   where
-    rest : List Registration
+    rest : List NamedRegistration
     rest = filter (λ r. not (is_same r.name name)) registrations
 
     at : (b : Bool) → registrations_named other rest ≤ registrations_named other registrations
@@ -90,7 +90,7 @@ module _ (name : List ℕ) (there : Present) (h : HaveNames there) where
   }
 
   -- its slot has no registration then, and other slots are as they were
-  pub none_then : (r : Registration) → registration_of name there.registrations ≡ Some r → has_registration r.slot (unregisters name there).registrations ≡ false
+  pub none_then : (r : NamedRegistration) → registration_of name there.registrations ≡ Some r → has_registration r.slot (unregisters name there).registrations ≡ false
   none_then r e =
       let a = less_on r.slot name there.registrations in
       let b = the_registered r.slot name there.registrations r e (h.registrations name) in
@@ -100,7 +100,7 @@ module _ (name : List ℕ) (there : Present) (h : HaveNames there) where
       let z : registrations_on r.slot (unregisters name there).registrations ≡ 0 = omega (arith, a, d, k) in
       has_counted r.slot (unregisters name there).registrations ∙ ap (λ (n : ℕ). not (n == 0)) z
 
-  pub others_then : (r : Registration) (t : ℕ) → registration_of name there.registrations ≡ Some r → (r.slot == t) ≡ false
+  pub others_then : (r : NamedRegistration) (t : ℕ) → registration_of name there.registrations ≡ Some r → (r.slot == t) ≡ false
       → has_registration t (unregisters name there).registrations ≡ has_registration t there.registrations
   others_then r t e ne =
       let a = less_on t name there.registrations in
@@ -110,7 +110,7 @@ module _ (name : List ℕ) (there : Present) (h : HaveNames there) where
       has_counted t (unregisters name there).registrations ∙ ap (λ (n : ℕ). not (n == 0)) z ∙ sym (has_counted t there.registrations)
 
   -- the slot of one that is found has a registration
-  pub found_has : (r : Registration) → registration_of name there.registrations ≡ Some r → has_registration r.slot there.registrations ≡ true
+  pub found_has : (r : NamedRegistration) → registration_of name there.registrations ≡ Some r → has_registration r.slot there.registrations ≡ true
   found_has r e =
       let a = less_on r.slot name there.registrations in
       let b = the_registered r.slot name there.registrations r e (h.registrations name) in
@@ -120,7 +120,7 @@ module _ (name : List ℕ) (there : Present) (h : HaveNames there) where
 
 -- one more
 
-none_named : (name : List ℕ) (registrations : List Registration) → registration_of name registrations ≡ None → registrations_named name registrations ≡ 0
+none_named : (name : List ℕ) (registrations : List NamedRegistration) → registration_of name registrations ≡ None → registrations_named name registrations ≡ 0
 none_named name [] e = refl
 none_named name (r ∷ registrations) e = at (is_same r.name name) e (none_named name registrations)
   where
@@ -129,18 +129,18 @@ none_named name (r ∷ registrations) e = at (is_same r.name name) e (none_named
     at true e ih = absurd (cc e)
     at false e ih = let a = ih e in omega (arith, a)
 
-named_more : (name : List ℕ) (registrations : List Registration) (r : Registration)
+named_more : (name : List ℕ) (registrations : List NamedRegistration) (r : NamedRegistration)
     → registrations_named name (registrations ++ r ∷ []) ≡ registrations_named name registrations + cond (is_same r.name name) 1 0
 named_more name [] r = omega arith
 named_more name (x ∷ registrations) r = let ih = named_more name registrations r in omega (arith, ih)
 
-pub on_more : (slot : ℕ) (registrations : List Registration) (r : Registration)
+pub on_more : (slot : ℕ) (registrations : List NamedRegistration) (r : NamedRegistration)
     → registrations_on slot (registrations ++ r ∷ []) ≡ registrations_on slot registrations + cond (r.slot == slot) 1 0
 on_more slot [] r = omega arith
 on_more slot (x ∷ registrations) r = let ih = on_more slot registrations r in omega (arith, ih)
 
 module _ (name : List ℕ) (slot : ℕ) (there : Present) (h : HaveNames there) (none : registration_of name there.registrations ≡ None) where
-  abbrev new : Registration
+  abbrev new : NamedRegistration
   new = record { name = name; slot = slot }
 
   more_named : (other : List ℕ) (b : Bool) → is_same name other ≡ b → registrations_named other (there.registrations ++ new ∷ []) ≤ 1
@@ -179,7 +179,7 @@ pub has_more : (name : List ℕ) (slot : ℕ) (there : Present) (t : ℕ)
     → has_registration t (registers name slot there).registrations ≡ (if slot == t then true else has_registration t there.registrations)
 has_more name slot there t = by (slot == t) refl
   where
-    more : List Registration
+    more : List NamedRegistration
     more = (registers name slot there).registrations
 
     by : (b : Bool) → (slot == t) ≡ b → has_registration t more ≡ (if b then true else has_registration t there.registrations)

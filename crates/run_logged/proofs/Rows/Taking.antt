@@ -6,8 +6,8 @@ use Rattle.run_schedules.specs.Given.SeizeWordsDeclared.fault.Fault.TheVariants.
 use Rattle.run_schedules.specs.Given.SeizeWordsMem.{Mem, Took, value_at}
 use Rattle.run_schedules.specs.Given.SeizeWordsPlan.{Steps}
 use Rattle.seize.specs.declared.states.TheConstants.{LAST_SLOT}
-use Rattle.seize.specs.declared.progress.Progress.{Progress}
-use Rattle.seize.specs.declared.progress.Progress.TheVariants as progress
+use Rattle.seize.specs.declared.advance.Advance.{Advance}
+use Rattle.seize.specs.declared.advance.Advance.TheVariants as progress
 use Rattle.seize.specs.declared.rows.register.Register.{Register}
 use Rattle.seize.specs.declared.rows.register.Registering.{Registering}
 use Rattle.seize.specs.declared.rows.register.Registering.TheVariants as at
@@ -73,7 +73,7 @@ module _ {K V : Type 0} (same : K → K → Bool) (hash : ℕ → K → ℕ) (i 
     abbrev now : World (Node K V)
     now = here.w
 
-    abbrev end : Register × Progress ℕ
+    abbrev end : Register × Advance ℕ
     end = went.0
 
     steps : Steps Took value_at now.memory (register_plan c) e2.memory end
@@ -106,19 +106,19 @@ module _ {K V : Type 0} (same : K → K → Bool) (hash : ℕ → K → ℕ) (i 
     told_is : said ≡ of_registering end.1
     told_is = ap (λ (x : SlotRow × RowTold (Node K V)). x.1) went.2
 
-    told_by : (end2 : Register × Progress ℕ) → end ≡ end2 → said ≡ of_registering end2.1
-    told_by end2 is = told_is ∙ ap (λ (q : Register × Progress ℕ). of_registering {T = Node K V} q.1) is
+    told_by : (end2 : Register × Advance ℕ) → end ≡ end2 → said ≡ of_registering end2.1
+    told_by end2 is = told_is ∙ ap (λ (q : Register × Advance ℕ). of_registering {T = Node K V} q.1) is
 
     next_by : Comes s.world.uses enters i v end → Next e2 after said
     next_by (GoesOn c2 is row2 on2) =
         inl (
           c2,
           told_by (c2, progress.Goes) is,
-          ap (λ (x : SlotRow × RowTold (Node K V)). x.0) went.2 ∙ ap (λ (q : Register × Progress ℕ). rows.Registers q.0) is,
+          ap (λ (x : SlotRow × RowTold (Node K V)). x.0) went.2 ∙ ap (λ (q : Register × Advance ℕ). rows.Registers q.0) is,
           record {
             w = v;
             came = came_next size now v (Step i) here.came happens;
-            memory = ap (λ (q : Register × Progress ℕ). (registers_on now i c e2.memory q).memory) is;
+            memory = ap (λ (q : Register × Advance ℕ). (registers_on now i c e2.memory q).memory) is;
             row = row2;
             on = on2;
             others = λ j other. steps_others deferred_word size now v i j other (now.row i) happens ∙ here.others j other;
@@ -128,10 +128,10 @@ module _ {K V : Type 0} (same : K → K → Bool) (hash : ℕ → K → ℕ) (i 
         inr (inl (
           fault,
           told_by (c2, progress.Refused fault) is,
-          subst (λ (m : Mem (Node K V)). WhyRefused m s.world.uses fault) (ap (λ (q : Register × Progress ℕ). (registers_on now i c e2.memory q).memory) is) why,
+          subst (λ (m : Mem (Node K V)). WhyRefused m s.world.uses fault) (ap (λ (q : Register × Advance ℕ). (registers_on now i c e2.memory q).memory) is) why,
           λ memory.
               found_none e.memory e2.memory e2.changed c end
-              (ap (λ (q : Register × Progress ℕ). q.1) is ∙ ap progress.Refused memory) c.stands under went.1,
+              (ap (λ (q : Register × Advance ℕ). q.1) is ∙ ap progress.Refused memory) c.stands under went.1,
         ))
     next_by (TakesFirst c2 slot is row2 first used2) = inr (inr (slot, told_by (c2, progress.Done slot) is, first))
 

@@ -3,8 +3,8 @@ use Rattle.std.specs.Prelude.{◌==◌, ◌&&◌, ◌||◌, not, cond, filter, i
 use Rattle.std.specs.List.{list_any}
 use Rattle.std.proofs.Common.{◌≡◌, ◌≢◌, ℕ, ◌+◌, ◌≤◌, Bool, true, false, List, [], ◌∷◌, refl, sym, ap, ◌∙◌, arith}
 use Rattle.std.proofs.lemmas.Bool.{eq-eqb}
-use Rattle.run_schedules.specs.declared.holders.Guard.{Guard}
-use Rattle.run_schedules.specs.declared.holders.Registration.{Registration}
+use Rattle.run_schedules.specs.declared.holders.NamedGuard.{NamedGuard}
+use Rattle.run_schedules.specs.declared.holders.NamedRegistration.{NamedRegistration}
 use Rattle.run_schedules.specs.Runs.Present.{Present, guard_of, guards_named, guards_on, living_slot, registration_of, has_registration, forgotten_if, forgets, slot_of_registration, slot_or}
 use Rattle.run_schedules.specs.Runs.Same.{is_same}
 use Rattle.run_schedules.proofs.Runs.Laws.{same_tells, forgets_counts}
@@ -20,7 +20,7 @@ guard_is name there = sym (is_found (λ g. is_same g.name name) there.guards)
 pub registered_is : (name : List ℕ) (there : Present) → is_registered name there ≡ is_some (registration_of name there.registrations)
 registered_is name there = sym (is_found (λ r. is_same r.name name) there.registrations)
 
-pub slot_some : (o : Option Registration) → is_some (option_map (λ r. r.slot) o) ≡ is_some o
+pub slot_some : (o : Option NamedRegistration) → is_some (option_map (λ r. r.slot) o) ≡ is_some o
 slot_some None = refl
 slot_some (Some r) = refl
 
@@ -28,12 +28,12 @@ slot_some (Some r) = refl
 pub slot_is : (name : List ℕ) (there : Present) (slot : ℕ) → option_map (λ r. r.slot) (registration_of name there.registrations) ≡ Some slot → slot_of_registration name there ≡ slot
 slot_is name there slot e = by (registration_of name there.registrations) e
   where
-    by : (o : Option Registration) → option_map (λ r. r.slot) o ≡ Some slot → slot_or o ≡ slot
+    by : (o : Option NamedRegistration) → option_map (λ r. r.slot) o ≡ Some slot → slot_or o ≡ slot
     by None f = absurd (cc f)
     by (Some r) f = cc f
 
 -- where no guard has the name none lives
-none_lives : (name : List ℕ) (guards : List Guard) → guards_named name guards ≡ 0 → list_any (λ g. is_same g.name name && not g.forgotten) guards ≡ false
+none_lives : (name : List ℕ) (guards : List NamedGuard) → guards_named name guards ≡ 0 → list_any (λ g. is_same g.name name && not g.forgotten) guards ≡ false
 none_lives name [] e = refl
 none_lives name (g ∷ guards) e = at (is_same g.name name) e (none_lives name guards)
   where
@@ -43,7 +43,7 @@ none_lives name (g ∷ guards) e = at (is_same g.name name) e (none_lives name g
     at false e ih = ih (omega (arith, e))
 
 -- the one of a name lives where it is found with its slot
-lives_in : (name : List ℕ) (guards : List Guard) → guards_named name guards ≤ 1 → list_any (λ g. is_same g.name name && not g.forgotten) guards ≡ is_some (living_slot (guard_of name guards))
+lives_in : (name : List ℕ) (guards : List NamedGuard) → guards_named name guards ≤ 1 → list_any (λ g. is_same g.name name && not g.forgotten) guards ≡ is_some (living_slot (guard_of name guards))
 lives_in name [] l = refl
 lives_in name (g ∷ guards) l = at (is_same g.name name) l (lives_in name guards) (none_lives name guards)
   where
@@ -71,7 +71,7 @@ not_other own name other ne e = by (is_same own other) refl
     by false f = f
 
 -- others are found as before where one is forgotten,
-pub others_found : (name other : List ℕ) (guards : List Guard) → is_same other name ≡ false → guard_of other (forgotten_if name guards) ≡ guard_of other guards
+pub others_found : (name other : List ℕ) (guards : List NamedGuard) → is_same other name ≡ false → guard_of other (forgotten_if name guards) ≡ guard_of other guards
 others_found name other [] ne = refl
 others_found name other (g ∷ guards) ne = at (is_same g.name name) refl (others_found name other guards ne)
   where
@@ -80,20 +80,20 @@ others_found name other (g ∷ guards) ne = at (is_same g.name name) refl (other
     at true e ih =
         ap (λ (q : Bool). cond q (Some (record g { forgotten = true })) (guard_of other (forgotten_if name guards))) (not_other g.name name other ne e) ∙ ih
         ∙ sym (ap (λ (q : Bool). cond q (Some g) (guard_of other guards)) (not_other g.name name other ne e))
-    at false e ih = ap (λ (o : Option Guard). cond (is_same g.name other) (Some g) o) ih
+    at false e ih = ap (λ (o : Option NamedGuard). cond (is_same g.name other) (Some g) o) ih
 
 -- and where one is dropped
-pub others_left : (name other : List ℕ) (guards : List Guard) → is_same other name ≡ false → guard_of other (filter (λ h. not (is_same h.name name)) guards) ≡ guard_of other guards
+pub others_left : (name other : List ℕ) (guards : List NamedGuard) → is_same other name ≡ false → guard_of other (filter (λ h. not (is_same h.name name)) guards) ≡ guard_of other guards
 others_left name other [] ne = refl
 others_left name other (g ∷ guards) ne = at (is_same g.name name) refl (others_left name other guards ne)
   where
-    rest : List Guard
+    rest : List NamedGuard
     rest = filter (λ h. not (is_same h.name name)) guards
 
     at : (b : Bool) → is_same g.name name ≡ b → guard_of other rest ≡ guard_of other guards
         → guard_of other (cond (not b) (g ∷ rest) rest) ≡ cond (is_same g.name other) (Some g) (guard_of other guards)
     at true e ih = ih ∙ sym (ap (λ (q : Bool). cond q (Some g) (guard_of other guards)) (not_other g.name name other ne e))
-    at false e ih = ap (λ (o : Option Guard). cond (is_same g.name other) (Some g) o) ih
+    at false e ih = ap (λ (o : Option NamedGuard). cond (is_same g.name other) (Some g) o) ih
 
 -- slots are used as before where one is forgotten
 pub forgets_used : (name : List ℕ) (slot : ℕ) (there : Present) → used_as slot (forgets name there) ≡ used_as slot there
@@ -129,7 +129,7 @@ used_alike slot there there2 on has =
     ∙ ap (λ (q : Bool). if guards_on slot there.guards == 0 then (if q then used.Outside else used.Vacant) else used.Inside) has
 
 -- a guard that lives on a slot is on it
-pub on_its_slot : (name : List ℕ) (guards : List Guard) (slot : ℕ) → living_slot (guard_of name guards) ≡ Some slot → guards_on slot guards ≢ 0
+pub on_its_slot : (name : List ℕ) (guards : List NamedGuard) (slot : ℕ) → living_slot (guard_of name guards) ≡ Some slot → guards_on slot guards ≢ 0
 on_its_slot name [] slot e = absurd (cc e)
 on_its_slot name (g ∷ guards) slot e = at (is_same g.name name) e (on_its_slot name guards slot)
   where

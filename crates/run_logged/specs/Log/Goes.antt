@@ -1,6 +1,6 @@
 -- Which steps ran, one after another, each as it was noted.
 use Rattle.std.specs.Prelude.{◌≡◌, ℕ, zero, suc, Bool, true, false, List, ◌++◌, Some, if◌then◌else◌}
-use Rattle.seize.specs.declared.progress.Progress.{Progress}
+use Rattle.seize.specs.declared.advance.Advance.{Advance}
 use Rattle.seize.specs.declared.rows.reclaim_all.ReclaimAll.{ReclaimAll}
 use Rattle.seize.specs.declared.rows.settle.Settled.{Settled}
 use Rattle.seize.specs.ReclaimAll.{reclaiming_all, clearing}
@@ -52,7 +52,7 @@ module _ {K V S : Type 0} where
     pub given : KeepsGiven from.logged.executor to.logged.executor
 
   -- what a step of a making leads to, in whatever scene the executor is there, and one of an end
-  abbrev pub StepsMaking : ℕ → Progress Setting → (old new : Executor K V S) → Type 0
+  abbrev pub StepsMaking : ℕ → Advance Setting → (old new : Executor K V S) → Type 0
   StepsMaking i said old new = (same : K → K → Bool) (hash : K → ℕ) (s : Scene K V) → IsThere same hash old s → MakesThere same hash i said s old new
 
   abbrev pub StepsEnd : ℕ → Settled (Node K V) → (old new : Executor K V S) → Type 0
@@ -69,7 +69,7 @@ module _ {K V S : Type 0} where
   pub record MakingGoes (i map : ℕ) (from to : Far K V S) : Type 0 where
     pub under : (opening : NewMap) × (making_in (work_of from.logged.executor i) ≡ Some (map, opening))
     pub is_noted : IsNotedAs (acts.Making map) from to
-    pub said : Progress Setting
+    pub said : Advance Setting
     pub leads : StepsMaking i said from.logged.executor to.logged.executor
 
   -- of its end of this map,
@@ -106,7 +106,7 @@ module _ {K V S : Type 0} where
   RowGone i told before after old new = (prev : Far K V S) × GoesTo (RowGoes i) (far before old) prev × (step : RowGoes i prev (far after new)) × (step.said ≡ told)
 
   -- A making has run by its steps, which told this at last; then its number was given back, if it was refused.
-  abbrev pub MakingGone : (i map : ℕ) → Progress Setting → (before after : List Effect) → (old new : Logged K V S) → Type 0
+  abbrev pub MakingGone : (i map : ℕ) → Advance Setting → (before after : List Effect) → (old new : Logged K V S) → Type 0
   MakingGone i map told before after old new =
       (prev : Far K V S) × GoesTo (MakingOn i map) (far before old) prev × (mid : Logged K V S) × (step : MakingGoes i map prev (far after mid)) × (step.said ≡ told) × (new.notes ≡ mid.notes)
       × (new.executor ≡ record mid.executor { maps = new.executor.maps })

@@ -3,8 +3,8 @@ use Rattle.std.specs.Prelude.{◌≡◌, ◌≢◌, ◌<◌, ◌≤◌, ◌+◌,
 use Rattle.std.specs.List.{list_all}
 use Rattle.std.specs.Int.{IsPowerOfTwo}
 use Rattle.seize.specs.World.{with_at}
-use Rattle.seize.specs.declared.progress.Progress.{Progress}
-use Rattle.seize.specs.declared.progress.Progress.TheVariants as progress
+use Rattle.seize.specs.declared.advance.Advance.{Advance}
+use Rattle.seize.specs.declared.advance.Advance.TheVariants as progress
 use Rattle.papaya_raw.specs.Given.TablesLengths.{IsTableLen}
 use Rattle.papaya_raw.specs.Given.TablesDeclared.setting.Setting.{Setting}
 use Rattle.run_effects.specs.Given.ResizeDeclared.new_map.NewMap.{NewMap}
@@ -33,27 +33,27 @@ use Rattle.run_shows.specs.Scenes.Scene.{Scene}
 use Rattle.run_shows.specs.Scenes.Making.{MakingLeads}
 
 -- a making is over
-abbrev pub is_over : {T : Type 0} → Progress T → Bool
+abbrev pub is_over : {T : Type 0} → Advance T → Bool
 is_over (progress.Done answer) = true
 is_over (progress.Refused fault) = true
 is_over _ = false
 
 -- The number of a making that was refused is given back, if it was the last one: there are so many then, and these settings are kept.
-abbrev pub given_back : ℕ → Progress Setting → List (Option Setting) → List (Option Setting)
+abbrev pub given_back : ℕ → Advance Setting → List (Option Setting) → List (Option Setting)
 given_back map (progress.Refused fault) maps = if length maps == map + 1 then take map maps else maps
 given_back map _ maps = maps
 
-abbrev pub numbers_then : ℕ → Progress Setting → ℕ → ℕ
+abbrev pub numbers_then : ℕ → Advance Setting → ℕ → ℕ
 numbers_then map (progress.Refused fault) count = if count == map + 1 then map else count
 numbers_then map _ count = count
 
 -- where its number is given back, each number that is used is below it
-abbrev pub BelowIfRefused : {K V : Type 0} → ℕ → Progress Setting → Moment K V → Type 0
+abbrev pub BelowIfRefused : {K V : Type 0} → ℕ → Advance Setting → Moment K V → Type 0
 BelowIfRefused map (progress.Refused fault) m = NumbersUpTo map m
 BelowIfRefused map _ m = Unit {0}
 
 -- a map that is there as a new one stays so while its making goes on
-abbrev pub StaysNew : {K V : Type 0} → ℕ → Progress Setting → Moment K V → Moment K V → Type 0
+abbrev pub StaysNew : {K V : Type 0} → ℕ → Advance Setting → Moment K V → Moment K V → Type 0
 StaysNew map progress.Goes m v = (setting : Setting) → IsNew map setting m → IsNew map setting v
 StaysNew map _ m v = Unit {0}
 
@@ -71,7 +71,7 @@ has_tabled opens.Over = true
 has_tabled _ = false
 
 -- by what a step told: it has made none yet, or was refused
-abbrev pub IsBare : Progress Setting → NewMap → Type 0
+abbrev pub IsBare : Advance Setting → NewMap → Type 0
 IsBare progress.Goes n = has_tabled n.stands ≡ false
 IsBare (progress.Refused fault) n = Unit {0}
 IsBare _ n = ⊥
@@ -81,7 +81,7 @@ abbrev pub JustAsks : {K : Type 0} → Beginning K → List Effect → Type 0
 JustAsks b did = (has_tabled b.machine.stands ≡ false) × (list_all is_growth did ≡ true)
 
 -- the map that came has a table where it was to have one
-abbrev pub HasTable : {K V : Type 0} → Progress Setting → Beginning K → Moment K V → Type 0
+abbrev pub HasTable : {K V : Type 0} → Advance Setting → Beginning K → Moment K V → Type 0
 HasTable (progress.Done setting) b w = length (tables_of b.map w) ≡ (if b.places == 0 then 0 else 1)
 HasTable _ b w = Unit {0}
 
@@ -95,7 +95,7 @@ module _ {K V S : Type 0} (same : K → K → Bool) (hash : K → ℕ) (name : �
 
   -- A step of a caller's making of this map, which did this. The moment after it shows where the step has led; if the map stands then, it was there as a new one. A step
   -- of one that has made no table yet, or was refused, does nothing but ask for growths.
-  abbrev pub MakingGoesOn : (i map : ℕ) → Progress Setting → List Effect → (old new : Logged K V S) → Type 0
+  abbrev pub MakingGoesOn : (i map : ℕ) → Advance Setting → List Effect → (old new : Logged K V S) → Type 0
   MakingGoesOn i map told did old new =
       (b : Beginning K) (here : s.makers i ≡ Some b) → b.map ≡ map
       → (leads : MakingLeads same (λ map. hash) i told s (held_by old.executor) (held_by new.executor))
@@ -108,7 +108,7 @@ module _ {K V S : Type 0} (same : K → K → Bool) (hash : K → ℕ) (name : �
 -- Where a making has come that began so, by what its last step told: it goes on, as another machine; or its map stands, as it was to be made; or it is over without
 -- a map. All else that is under way is so as before, and so are the uses of slots.
 module _ {K V : Type 0} (s s2 : Scene K V) (i : ℕ) (b : Beginning K) where
-  abbrev pub MakerIs : Progress Setting → Type 0
+  abbrev pub MakerIs : Advance Setting → Type 0
   MakerIs progress.Goes = (opening : NewMap) × (s2.makers i ≡ Some (record b { machine = opening }))
   MakerIs _ = s2.makers i ≡ None
 
@@ -123,16 +123,16 @@ module _ {K V : Type 0} (s s2 : Scene K V) (i : ℕ) (b : Beginning K) where
     pub others : (n : ℕ) → n ≢ b.map → s2.maps n ≡ s.maps n
 
   -- it has made no table yet, or was refused
-  abbrev pub CameBare : (told : Progress Setting) → MakerIs told → Type 0
+  abbrev pub CameBare : (told : Advance Setting) → MakerIs told → Type 0
   CameBare progress.Goes maker = has_tabled maker.0.stands ≡ false
   CameBare (progress.Refused fault) maker = Unit {0}
   CameBare _ maker = ⊥
 
-  abbrev pub MapsAre : Progress Setting → Type 0
+  abbrev pub MapsAre : Advance Setting → Type 0
   MapsAre (progress.Done setting) = HasCome setting
   MapsAre _ = s2.maps ≡ s.maps
 
-  pub record MakingCame (told : Progress Setting) : Type 0 where
+  pub record MakingCame (told : Advance Setting) : Type 0 where
     pub maker : MakerIs told
     pub makers : (j : ℕ) → j ≢ i → s2.makers j ≡ s.makers j
     pub maps : MapsAre told
@@ -143,12 +143,12 @@ module _ {K V : Type 0} (s s2 : Scene K V) (i : ℕ) (b : Beginning K) where
 
 module _ {K V S : Type 0} where
   -- What a step does follows in the list, whatever shows the executor.
-  abbrev pub MakingSteps : (i map : ℕ) → Progress Setting → (before after : List Effect) → (old new : Logged K V S) → Type 0
+  abbrev pub MakingSteps : (i map : ℕ) → Advance Setting → (before after : List Effect) → (old new : Logged K V S) → Type 0
   MakingSteps i map told before after old new =
       (did : List Effect) × (after ≡ before ++ did)
       × ((same : K → K → Bool) (hash : K → ℕ) (name : ℕ → List ℕ) (m : Moment K V) (s : Scene K V) → IsShown same hash name m old s → MakingGoesOn same hash name m s i map told did old new)
 
-  module _ (same : K → K → Bool) (hash : K → ℕ) (s : Scene K V) (i map : ℕ) (told : Progress Setting) (did : List Effect) (old new : Logged K V S) where
+  module _ (same : K → K → Bool) (hash : K → ℕ) (s : Scene K V) (i map : ℕ) (told : Advance Setting) (did : List Effect) (old new : Logged K V S) where
     -- The executor is there where the making has come,
     abbrev pub MakingIsAt : Type 0
     MakingIsAt = (b : Beginning K) → s.makers i ≡ Some b → b.map ≡ map → (s2 : Scene K V) × MakingCame s s2 i b told × IsThere same hash new.executor s2
@@ -163,7 +163,7 @@ module _ {K V S : Type 0} where
         × HasTable told b (with_effects None of did m))
 
   -- So it is of several steps.
-  abbrev pub MakingRan : (i map : ℕ) → Progress Setting → (before after : List Effect) → (old new : Logged K V S) → Type 0
+  abbrev pub MakingRan : (i map : ℕ) → Advance Setting → (before after : List Effect) → (old new : Logged K V S) → Type 0
   MakingRan i map told before after old new =
       (did : List Effect) × (after ≡ before ++ did)
       × ((same : K → K → Bool) (hash : K → ℕ) (s : Scene K V) → IsThere same hash old.executor s → MakingIsAt same hash s i map told did old new)

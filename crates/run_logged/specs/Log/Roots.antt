@@ -3,8 +3,8 @@ use Rattle.std.specs.Prelude.{◌≡◌, ◌<◌, ◌≤◌, ◌^◌, ◌==◌, 
 use Rattle.run_schedules.specs.Given.SeizeWordsDeclared.at.At.TheVariants.{Used}
 use Rattle.run_schedules.specs.Given.SeizeWordsDeclared.fault.Fault.TheVariants.{Memory, RootsUsedUp}
 use Rattle.run_schedules.specs.Given.SeizeWordsMem.{Mem, word_at}
-use Rattle.seize.specs.declared.progress.Progress.{Progress}
-use Rattle.seize.specs.declared.progress.Progress.TheVariants as progress
+use Rattle.seize.specs.declared.advance.Advance.{Advance}
+use Rattle.seize.specs.declared.advance.Advance.TheVariants as progress
 use Rattle.papaya_raw.specs.Given.TablesDeclared.setting.Setting.{Setting}
 use Rattle.run_effects.specs.Given.ResizeNewMap.{opening}
 use Rattle.run_schedules.specs.declared.effect.Effect.{Effect}
@@ -28,7 +28,7 @@ with_root root taken r = (r == root) || taken r
 
 -- A making, which has done this, has taken the first root that was free, and its map has it; or all are taken; or it was refused memory, for which it has asked, and has given
 -- the root up.
-abbrev pub FindsRoot : {T : Type 0} → ℕ → (ℕ → Bool) → List Effect → Mem T → Progress Setting → Type 0
+abbrev pub FindsRoot : {T : Type 0} → ℕ → (ℕ → Bool) → List Effect → Mem T → Advance Setting → Type 0
 FindsRoot roots taken did m (progress.Done setting) = IsFirstFree roots taken setting.root × AreTaken roots (with_root setting.root taken) m
 FindsRoot roots taken did m (progress.Refused RootsUsedUp) = ((q : ℕ) → q < roots → taken q ≡ true) × AreTaken roots taken m
 FindsRoot roots taken did m (progress.Refused Memory) = (has_grown did ≡ true) × ((r : ℕ) × IsFirstFree roots taken r) × AreTaken roots taken m
@@ -36,7 +36,7 @@ FindsRoot roots taken did m _ = ⊥
 
 module _ {K V S : Type 0} where
   -- So does one that has just begun, if its table is not too long.
-  abbrev pub MakingFinds : (i map : ℕ) → Progress Setting → (before after : List Effect) → (old new : Logged K V S) → Type 0
+  abbrev pub MakingFinds : (i map : ℕ) → Advance Setting → (before after : List Effect) → (old new : Logged K V S) → Type 0
   MakingFinds i map told before after old new =
       (same : K → K → Bool) (hash : K → ℕ) (s : Scene K V) → IsThere same hash old.executor s → (b : Beginning K) → s.makers i ≡ Some b → b.map ≡ map
       → b.machine ≡ opening b.given old.executor.roots b.places → max b.places 8 ≤ 2 ^ 48

@@ -6,7 +6,7 @@ use Rattle.std.proofs.Math.Dec.{eqb-suc-zero}
 use Rattle.std.proofs.lemmas.Option.{slice_get_cases}
 use Rattle.run_names.specs.Crews.Crew.{HoldsJust, Listed, held_by, held_first, same_list}
 use Rattle.run_names.specs.declared.kept.Applied.{Applied}
-use Rattle.run_names.specs.declared.kept.Kept.{Kept}
+use Rattle.run_names.specs.declared.kept.KeptEvent.{KeptEvent}
 
 -- a list that is not empty has a last one
 pub has_last : {X : Type 0} (xs : List X) (n : ℕ) → length xs ≡ n + 1 → slice_get xs (length xs - 1) ≡ None → ⊥
@@ -16,7 +16,7 @@ has_last xs n long none =
 
 module _ {E O : Type 0} (same_event : E → E → Bool) (same_outcome : O → O → Bool) (number : ℕ) where
   -- an event that the schedule has next
-  pub on_kept : (schedule later : List (Kept E)) (outcomes others : List O) (list : List (Applied E O)) (k : Kept E) (o : O) → schedule ≡ k ∷ later → outcomes ≡ o ∷ others
+  pub on_kept : (schedule later : List (KeptEvent E)) (outcomes others : List O) (list : List (Applied E O)) (k : KeptEvent E) (o : O) → schedule ≡ k ∷ later → outcomes ≡ o ∷ others
       → same_list same_event same_outcome (held_by number schedule outcomes) list ≡ same_list same_event same_outcome (held_first number k o (held_by number later others)) list
   on_kept schedule later outcomes others list k o s e = λ i. same_list same_event same_outcome (held_by number (s i) (e i)) list
 
@@ -25,21 +25,21 @@ module _ {E O : Type 0} (same_event : E → E → Bool) (same_outcome : O → O 
   empty_same (a ∷ list) = eqb-suc-zero (length list)
 
   -- where no event is left, none may be listed
-  pub none_kept : (schedule : List (Kept E)) (outcomes : List O) (list : List (Applied E O)) → length schedule ≡ 0 → (length list == 0) ≡ same_list same_event same_outcome (held_by number schedule outcomes) list
+  pub none_kept : (schedule : List (KeptEvent E)) (outcomes : List O) (list : List (Applied E O)) → length schedule ≡ 0 → (length list == 0) ≡ same_list same_event same_outcome (held_by number schedule outcomes) list
   none_kept [] outcomes list none = empty_same list
   none_kept (k ∷ schedule) outcomes list none = absurd (omega (arith, none))
 
-  pub none_told : (schedule : List (Kept E)) (outcomes : List O) (list : List (Applied E O)) → length outcomes ≡ 0 → (length list == 0) ≡ same_list same_event same_outcome (held_by number schedule outcomes) list
+  pub none_told : (schedule : List (KeptEvent E)) (outcomes : List O) (list : List (Applied E O)) → length outcomes ≡ 0 → (length list == 0) ≡ same_list same_event same_outcome (held_by number schedule outcomes) list
   none_told [] outcomes list none = empty_same list
   none_told (k ∷ schedule) [] list none = empty_same list
   none_told (k ∷ schedule) (o ∷ outcomes) list none = absurd (omega (arith, none))
 
 -- what a schedule holds of drivers, by equal lists of all three
 pub all_hold :
-    {E O : Type 0} (same_event : E → E → Bool) (same_outcome : O → O → Bool) {schedule kept : List (Kept E)} {outcomes told : List O} {drivers all : List (Listed E O)}
+    {E O : Type 0} (same_event : E → E → Bool) (same_outcome : O → O → Bool) {schedule kept : List (KeptEvent E)} {outcomes told : List O} {drivers all : List (Listed E O)}
     → schedule ≡ kept → outcomes ≡ told → drivers ≡ all → AllByRecursion (HoldsJust same_event same_outcome schedule outcomes) drivers
     → AllByRecursion (HoldsJust same_event same_outcome kept told) all
 all_hold {E} {O} same_event same_outcome {schedule} {kept} {outcomes} {told} {drivers} {all} s o d hold =
-    subst (λ (l : List (Kept E)). AllByRecursion (HoldsJust same_event same_outcome l told) all) s
+    subst (λ (l : List (KeptEvent E)). AllByRecursion (HoldsJust same_event same_outcome l told) all) s
     (subst (λ (l : List O). AllByRecursion (HoldsJust same_event same_outcome schedule l) all) o
     (subst (AllByRecursion (HoldsJust same_event same_outcome schedule outcomes)) d hold))

@@ -1,8 +1,8 @@
 -- Items that stand at places of a list, each under a name.
 use Rattle.std.specs.Prelude.{◌≡◌, ℕ, ◌+◌, ◌==◌, Bool, List, [], ◌∷◌, Option, Some, None, slice_get, if◌then◌else◌}
-use Rattle.run_names.specs.declared.places.Places.{Places}
+use Rattle.run_names.specs.declared.name_index.NameIndex.{NameIndex}
 use Rattle.run_names.specs.Presence.Places.{place_of}
-use Rattle.run_schedules.specs.declared.holders.Guard.{Guard}
+use Rattle.run_schedules.specs.declared.holders.NamedGuard.{NamedGuard}
 use Rattle.run_schedules.specs.Runs.Same.{is_same}
 
 module _ {T : Type 0} where
@@ -23,7 +23,7 @@ module _ {T : Type 0} where
 
   module _ (name_of : T → List ℕ) where
     -- the name of each item leads to its place
-    pub record LeadsHome (comers : List (Option T)) (places : Places) : Type 0 where
+    pub record LeadsHome (comers : List (Option T)) (places : NameIndex) : Type 0 where
       pub home : (place : ℕ) (t : T) → StandsAt comers place t → place_of (name_of t) places ≡ Some place
 
     -- no item has this name
@@ -39,7 +39,7 @@ module _ {T : Type 0} where
     is_named name t = is_same (name_of t) name
 
 -- 1 for a guard that was not forgotten
-abbrev pub is_living : Guard → ℕ
+abbrev pub is_living : NamedGuard → ℕ
 is_living g = if g.forgotten then 0 else 1
 
 -- 1 where there is a slot, and where it is this one

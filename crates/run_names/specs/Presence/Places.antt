@@ -2,10 +2,10 @@
 use Rattle.std.specs.Prelude.{◌≡◌, ℕ, List, Option, nat_eq}
 use Rattle.std.specs.HashMap.{get_by}
 use Rattle.std.specs.Cmp.Lexicographic.{pointwise}
-use Rattle.run_names.specs.declared.places.Places.{Places}
+use Rattle.run_names.specs.declared.name_index.NameIndex.{NameIndex}
 
 -- where a name leads
-abbrev pub place_of : List ℕ → Places → Option ℕ
+abbrev pub place_of : List ℕ → NameIndex → Option ℕ
 place_of name places = get_by (λ k. pointwise nat_eq name k.items) places.by_name
 
 -- the two names differ

@@ -9,7 +9,7 @@ use Rattle.run_shows.specs.Given.RawDeclared.machines.answer.Called.{Called}
 use Rattle.run_shows.specs.Given.RawDeclared.machines.call.KeyCall.{KeyCall}
 use Rattle.run_shows.specs.Given.RawDeclared.machines.progress.Progress.{Progress}
 use Rattle.run_shows.specs.Given.RunsSame.{is_same}
-use Rattle.run_shows.specs.Given.RunsDeclared.call.Answer.{Answer}
+use Rattle.run_shows.specs.Given.RunsDeclared.call.Response.{Response}
 use Rattle.run_shows.specs.Given.RunsDeclared.call.Call.{Call}
 use Rattle.run_shows.specs.Given.RunsDeclared.call.Call.TheVariants.{On}
 use Rattle.run_shows.specs.Given.RunsDeclared.call.OneKey.{OneKey}
@@ -134,7 +134,7 @@ module _ {K V : Type 0} (same : K → K → Bool) (hash : ℕ → K → ℕ) (na
   next_is = ap (λ (z : ℕ). z + 1) shown.blocks.stored
 
   -- so it comes to this
-  comes_to : (o : Option ℕ) → there_for same one c m ≡ o → (a : Answer V) (d : Deed V) → means one (reply_to o c.replies) o new_number ≡ Answers a d → flat_map shift_of effects ≡ shifts o new_number d
+  comes_to : (o : Option ℕ) → there_for same one c m ≡ o → (a : Response V) (d : Deed V) → means one (reply_to o c.replies) o new_number ≡ Answers a d → flat_map shift_of effects ≡ shifts o new_number d
       → x.change ≡ Unchanged → Goal
   comes_to o is a d meaning did unchanged = inr (
     due unchanged,
@@ -146,7 +146,7 @@ module _ {K V : Type 0} (same : K → K → Bool) (hash : ℕ → K → ℕ) (na
 
   -- what a call has to store it means to put there
   pub has_to : (b q : ℕ) (old : Option ℕ) (d : CallThere K V) → d.call ≡ c.call → d.replies ≡ c.replies → d.replacing ≡ old → HasToStore s.world.memory b (Some d) q
-      → (a : Answer V) × (v : V) × (means one (reply_to old c.replies) old q ≡ Answers a (Puts v))
+      → (a : Response V) × (v : V) × (means one (reply_to old c.replies) old q ≡ Answers a (Puts v))
   has_to b q old d call_is replies_are replacing_is has =
       puts_some (λ v. (k, v)) (has.0, has.1) [] (means one (reply_to old c.replies) old q)
       (sym (new_pairs replacing_is replies_are) ∙ sym (ap (λ (z : Call K V). new_pair z d q) (call_is ∙ one_is)) ∙ has.2)
@@ -181,7 +181,7 @@ module _ {K V : Type 0} (same : K → K → Bool) (hash : ℕ → K → ℕ) (na
       (ap (λ (l : List Effect). flat_map shift_of l) is ∙ ap (λ (z : ℕ). GivesWay (number n) ∷ ComesIn z ∷ []) next_is) unchanged
 
   -- what it has removed it means to take
-  pub takes_now : (n : ℕ) → ch.current n ≡ true → MayDo (kind_of x.pair) (Removed n) → ToRemove n x.pair → (a : Answer V) × (means one (reply_to (Some (number n)) c.replies) (Some (number n)) new_number ≡ Answers a Takes)
+  pub takes_now : (n : ℕ) → ch.current n ≡ true → MayDo (kind_of x.pair) (Removed n) → ToRemove n x.pair → (a : Response V) × (means one (reply_to (Some (number n)) c.replies) (Some (number n)) new_number ≡ Answers a Takes)
   takes_now n is may told =
       takes_it number ch.stored (numbers_apart map number st m known (shown.maps map st to.2).pairs) asked_on.asked c.replies asked_on.replies n (there n is) new_number one taken
       (subst (λ (g : Given K V). MayDo (kind_of g) (Removed n)) asked_on.given may) (subst (λ (g : Given K V). ToRemove n g) asked_on.given told)

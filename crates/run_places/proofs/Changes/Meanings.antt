@@ -2,11 +2,11 @@
 use Rattle.run_shows.specs.Given.SeizeWordsDeclared.fault.Fault.TheVariants.{RemoveNothing}
 use Rattle.std.specs.Prelude.{◌≡◌, ℕ, ◌<◌, true, false, List, ◌∷◌, map, Option, Some, None, option_map, ◌⊎◌}
 use Rattle.std.proofs.Common.{refl, ap, sym, ◌∙◌, inl, inr}
-use Rattle.run_shows.specs.Given.RawDeclared.machines.asking.Reply.{Reply as MachineReply}
-use Rattle.run_shows.specs.Given.RawDeclared.machines.asking.Reply.TheVariants as reply
+use Rattle.run_shows.specs.Given.RawDeclared.machines.asking.MachineReply.{MachineReply}
+use Rattle.run_shows.specs.Given.RawDeclared.machines.asking.MachineReply.TheVariants as reply
 use Rattle.run_shows.specs.Given.RawDeclared.machines.asking.Takes.TheVariants as takes
-use Rattle.run_shows.specs.Given.RunsDeclared.call.Answer.{Answer}
-use Rattle.run_shows.specs.Given.RunsDeclared.call.Answer.TheVariants as answer
+use Rattle.run_shows.specs.Given.RunsDeclared.call.Response.{Response}
+use Rattle.run_shows.specs.Given.RunsDeclared.call.Response.TheVariants as answer
 use Rattle.run_shows.specs.Given.RunsDeclared.call.OneKey.{OneKey}
 use Rattle.run_shows.specs.Given.RunsDeclared.call.OneKey.TheVariants.{Get, GetKeyValue, ContainsKey, Insert, TryInsert, TryInsertWith, GetOrInsert, GetOrInsertWith, Update, UpdateOrInsert, UpdateOrInsertWith, Compute, Remove, RemoveEntry, RemoveIf}
 use Rattle.run_shows.specs.Given.RunsDeclared.call.Reply.{Reply}
@@ -23,7 +23,7 @@ use Rattle.run_places.specs.Changes.Changes.{AreTaken}
 
 module _ {V X : Type 0} where
   -- where it has a value to put, it is to put it
-  pub puts_some : (f : V → X) (x : X) (xs : List X) (meaning : Meaning V) → map f (value_put meaning) ≡ x ∷ xs → (a : Answer V) × (v : V) × (meaning ≡ Answers a (Puts v))
+  pub puts_some : (f : V → X) (x : X) (xs : List X) (meaning : Meaning V) → map f (value_put meaning) ≡ x ∷ xs → (a : Response V) × (v : V) × (meaning ≡ Answers a (Puts v))
   puts_some f x xs (Answers a Leaves) e = absurd (cc e)
   puts_some f x xs (Answers a (Puts v)) e = (a, v, refl)
   puts_some f x xs (Answers a Takes) e = absurd (cc e)
@@ -63,7 +63,7 @@ module _ {K V : Type 0} (number : ℕ → ℕ) (stored : ℕ) (apart : (n o : �
     (asked : List (Asked V)) (replies : List (Option ℕ × Reply V)) (are : AreReplies number stored asked replies) (n : ℕ) (l : n < stored) (new : ℕ) where
   -- it means to remove this pair
   abbrev pub TakesIt : OneKey K V → Type 0
-  TakesIt one = (a : Answer V) × (means one (reply_to (Some (number n)) replies) (Some (number n)) new ≡ Answers a Takes)
+  TakesIt one = (a : Response V) × (means one (reply_to (Some (number n)) replies) (Some (number n)) new ≡ Answers a Takes)
 
   computed : (k : K) → AreTaken (Compute k) replies → (last_told (Some n) asked ≡ Some reply.Remove) ⊎ (last_told (Some n) asked ≡ Some reply.Yes) → TakesIt (Compute k)
   computed k taken (inl told) =

@@ -25,7 +25,7 @@ use Rattle.run_shows.specs.Given.RunsDeclared.effect.Effect.{Effect}
 use Rattle.run_shows.specs.Given.RunsDeclared.effect.Effect.TheVariants as effect
 use Rattle.run_shows.specs.Given.RunsDeclared.effect.Growth.TheVariants.{ABlock, ABucket}
 use Rattle.run_shows.specs.Given.RunsDeclared.effect.Spot.{Spot}
-use Rattle.run_shows.specs.Given.RunsDeclared.effect.Table.{Table}
+use Rattle.run_shows.specs.Given.RunsDeclared.effect.TableId.{TableId}
 use Rattle.run_shows.specs.Given.RunsDeclared.effect.Thing.TheVariants.{APair, ATable}
 use Rattle.run_shows.specs.Given.SchedulesMoment.{MapThere, Moment}
 use Rattle.run_shows.specs.Given.SchedulesViews.{is_in_a_map, map_at}
@@ -174,7 +174,7 @@ module _ {K V : Type 0} (name : List ℕ) (caller map : ℕ) (m : Moment K V) (k
       by true e = absurd (out (hands.pairs b n is e))
       by false e = e
 
-  table_left : (b len : ℕ) (t : Table) → known.roles b ≡ role.Table t len → (IsInUse (s.world.hand b) → ⊥) → (there : MapThere) → map_at t.map m ≡ Some there → t.turn < there.first
+  table_left : (b len : ℕ) (t : TableId) → known.roles b ≡ role.Table t len → (IsInUse (s.world.hand b) → ⊥) → (there : MapThere) → map_at t.map m ≡ Some there → t.turn < there.first
   table_left b len t is out there at = elim (cases_lt t.turn there.first) as (λ _. t.turn < there.first) [
     | inl less ↦ less
     | inr more ↦ absurd (out (hands.tables b len t there is at more))
@@ -200,7 +200,7 @@ module _ {K V : Type 0} (name : List ℕ) (caller map : ℕ) (m : Moment K V) (k
   placed_left x stored role.Free (role.Pair n) = (tt, tt)
   placed_left x stored _ _ = tt
 
-  carried_left : (t : Table) (b : ℕ) → (IsInUse (s.world.hand b) → ⊥) → (r : Role) → known.roles b ≡ r → Left (carried t r)
+  carried_left : (t : TableId) (b : ℕ) → (IsInUse (s.world.hand b) → ⊥) → (r : Role) → known.roles b ≡ r → Left (carried t r)
   carried_left t b out role.Free e = tt
   carried_left t b out (role.OwnPair j) e = tt
   carried_left t b out (role.OwnTable turn shape) e = tt

@@ -9,8 +9,8 @@ use Rattle.run_shows.specs.Given.SeizeWordsOp.{Op, Out, Load, Store, Swap, Add, 
 use Rattle.run_shows.specs.Given.SeizeWordsPlan.{Plan, Turn, Do, May, Steps}
 use Rattle.run_shows.specs.Given.SeizeWordsWord.{block_in}
 use Rattle.run_shows.proofs.Given.SeizeWordsOneOwner.AfterWrites.{word_at-with_word, block_of-with_block}
-use Rattle.run_shows.specs.Given.SeizeDeclared.progress.Progress.{Progress}
-use Rattle.run_shows.specs.Given.SeizeDeclared.progress.Progress.TheVariants as progress
+use Rattle.run_shows.specs.Given.SeizeDeclared.advance.Advance.{Advance}
+use Rattle.run_shows.specs.Given.SeizeDeclared.advance.Advance.TheVariants as progress
 use Rattle.run_shows.specs.Given.SeizeDeclared.rows.defer.Defer.{Defer}
 use Rattle.run_shows.specs.Given.SeizeDeclared.rows.defer.Deferring.{Deferring}
 use Rattle.run_shows.specs.Given.SeizeDeclared.rows.defer.Deferring.TheVariants as deferring
@@ -251,7 +251,7 @@ module _ {T : Type 0} (defers : T → Option ℕ) (size : ℕ) (w w2 : World T) 
     pushes_hands s c head fits some (Roomed got) gives e = absurd gives
 
     defer_hands : (s : ℕ) (c : Defer) (p : Deferring) → FitsDefer (LAST_SLOT + 1) i (view defers w.memory) good.state good.extra s c.block c.table_word p
-        → May Can Took value_at w.memory (defer.plan_at {T = T} c p) → (end : Defer × Progress Unit) → Steps Took value_at w.memory (defer.plan_at {T = T} c p) w2.memory end → Told
+        → May Can Took value_at w.memory (defer.plan_at {T = T} c p) → (end : Defer × Advance Unit) → Steps Took value_at w.memory (defer.plan_at {T = T} c p) w2.memory end → Told
     defer_hands s c deferring.Reads fits may end steps = same_so steps.1.1
     defer_hands s c (deferring.Links head) fits may end steps =
         inl (plan_aside w.memory w2.memory x handing old new was is values (defer.plan_at {T = T} c (deferring.Links head)) end (λ e. omega (arith, e)) may steps)
@@ -264,7 +264,7 @@ module _ {T : Type 0} (defers : T → Option ℕ) (size : ℕ) (w w2 : World T) 
     settled_memory c m (d, settled.Gave value) = refl
     settled_memory c m (d, settled.Done) = refl
 
-    deferred_memory : (s : ℕ) (m : Mem T) (end : Defer × Progress Unit) → (defers_on w i s m end).memory ≡ m
+    deferred_memory : (s : ℕ) (m : Mem T) (end : Defer × Advance Unit) → (defers_on w i s m end).memory ≡ m
     deferred_memory s m (d, progress.Goes) = refl
     deferred_memory s m (d, progress.Waits) = refl
     deferred_memory s m (d, progress.Done u) = refl

@@ -3,7 +3,7 @@ use Rattle.std.specs.Prelude.{◌≡◌, ℕ, ◌<◌, ◌≤◌, Bool, true, Li
 use Rattle.std.proofs.Common.{refl, ap, sym, subst, ◌∙◌, arith, inl, inr}
 use Rattle.std.proofs.lemmas.Bool.{eq-eqb}
 use Rattle.run_shows.specs.Given.SeizeWorld.{Hand, InUse}
-use Rattle.run_shows.specs.Given.RunsDeclared.effect.Table.{Table}
+use Rattle.run_shows.specs.Given.RunsDeclared.effect.TableId.{TableId}
 use Rattle.run_shows.specs.Given.SchedulesMoment.{Place, Unborn, InMap, Out, Handed, Behind, Left, GivenBack, MapThere, UnderWay as CallThere, Moment}
 use Rattle.run_shows.specs.Given.SchedulesViews.{is_in_map, is_in_a_map, map_at}
 use Rattle.run_shows.specs.Given.RuleInWorld.{IsMapIn}
@@ -44,7 +44,7 @@ hands_with m known s calls calls2 h = record { pairs = h.pairs; tables = h.table
 module _ {K V : Type 0} (same : K → K → Bool) (hash : ℕ → K → ℕ) (name : ℕ → List ℕ) (m : Moment K V) (known : Known) (s : Scene K V) (shown : Shows same name m known s) (hands : ShowsHands m known s)
     (m2 : Moment K V) (known2 : Known) (s2 : Scene K V) (on : ShowsOn same name m known s shown m2 known2 s2) (new : Held K V) (at : IsAt same hash new s2)
     (pairs : (b n map : ℕ) → known.roles b ≡ role.Pair n → m.place n ≡ InMap map → s.maps map ≡ None → IsInUse (s.world.hand b) → IsInUse (s2.world.hand b))
-    (tables : (b len : ℕ) (t : Table) → known.roles b ≡ role.Table t len → s.maps t.map ≡ None → IsInUse (s.world.hand b) → IsInUse (s2.world.hand b)) where
+    (tables : (b len : ℕ) (t : TableId) → known.roles b ≡ role.Table t len → s.maps t.map ≡ None → IsInUse (s.world.hand b) → IsInUse (s2.world.hand b)) where
   abbrev MapThen : Standing K → Type 0
   MapThen st = IsMapIn same st.hash st.setting s2.world st.chart st.blocks
 
@@ -88,7 +88,7 @@ module _ {K V : Type 0} (same : K → K → Bool) (hash : ℕ → K → ℕ) (na
           let was_role = role_before b n (hands.born n map was_there).0 is in
           pairs b n map was_role was_there (not_before map gone) (hands.pairs b n was_role (ap is_in_a_map was_there))
 
-  pub stand_on : (b len : ℕ) (t : Table) (st : Standing K) → known2.roles b ≡ role.Table t len → s2.maps t.map ≡ Some st → (t.turn < st.chart.past) × (st.chart.first ≤ t.turn → b ≡ st.blocks.table t.turn)
+  pub stand_on : (b len : ℕ) (t : TableId) (st : Standing K) → known2.roles b ≡ role.Table t len → s2.maps t.map ≡ Some st → (t.turn < st.chart.past) × (st.chart.first ≤ t.turn → b ≡ st.blocks.table t.turn)
   stand_on b len t st is there = by (s.maps t.map) refl
     where
       Goal : Standing K → Type 0
@@ -110,7 +110,7 @@ module _ {K V : Type 0} (same : K → K → Bool) (hash : ℕ → K → ℕ) (na
                 subst Goal after_is (let turn = k.4 in let next = k.5 in omega (arith, turn, next), λ from. k.6 ∙ ap k.1.blocks.table (sym k.4))
           ])
 
-  table_on : (b len : ℕ) (t : Table) (there : MapThere) → known2.roles b ≡ role.Table t len → map_at t.map m2 ≡ Some there → there.first ≤ t.turn → IsInUse (s2.world.hand b)
+  table_on : (b len : ℕ) (t : TableId) (there : MapThere) → known2.roles b ≡ role.Table t len → map_at t.map m2 ≡ Some there → there.first ≤ t.turn → IsInUse (s2.world.hand b)
   table_on b len t there is at_map from = by (s2.maps t.map) refl
     where
       by : (o : Option (Standing K)) → s2.maps t.map ≡ o → IsInUse (s2.world.hand b)

@@ -4,7 +4,7 @@ use Rattle.std.proofs.Common.{refl, ap, sym, ◌∙◌, inl, inr}
 use Rattle.run_shows.specs.Given.SeizeWordsMem.{Mem, value_at}
 use Rattle.run_shows.specs.Given.TablesDeclared.node.Node.{Node}
 use Rattle.run_shows.specs.Given.TablesDeclared.node.Node.TheVariants as node
-use Rattle.run_shows.specs.Given.RawDeclared.machines.asking.Reply.TheVariants as reply
+use Rattle.run_shows.specs.Given.RawDeclared.machines.asking.MachineReply.TheVariants as reply
 use Rattle.run_shows.specs.Given.RunsDeclared.call.OneKey.{OneKey}
 use Rattle.run_shows.specs.Given.RunsDeclared.call.OneKey.TheVariants.{Get, GetKeyValue, ContainsKey, Insert, TryInsert, TryInsertWith, GetOrInsert, GetOrInsertWith, Update, UpdateOrInsert, UpdateOrInsertWith, Compute, Remove, RemoveEntry, RemoveIf}
 use Rattle.run_shows.specs.Given.RunsDeclared.call.Reply.{Reply}

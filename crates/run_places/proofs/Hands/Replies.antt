@@ -2,8 +2,8 @@
 use Rattle.std.specs.Prelude.{◌≡◌, ℕ, ◌<◌, ◌==◌, Bool, true, false, List, [], ◌∷◌, ◌++◌, Option, Some, None, option_map, if◌then◌else◌}
 use Rattle.std.proofs.Common.{refl, ap, sym, ◌∙◌, inl, inr}
 use Rattle.std.proofs.lemmas.Bool.{ne_eqb, eq-eqb, cases_eq}
-use Rattle.run_shows.specs.Given.RawDeclared.machines.asking.Reply.{Reply as MachineReply}
-use Rattle.run_shows.specs.Given.RawDeclared.machines.asking.Reply.TheVariants as reply
+use Rattle.run_shows.specs.Given.RawDeclared.machines.asking.MachineReply.{MachineReply}
+use Rattle.run_shows.specs.Given.RawDeclared.machines.asking.MachineReply.TheVariants as reply
 use Rattle.run_shows.specs.Given.RunsDeclared.call.Reply.{Reply}
 use Rattle.run_shows.specs.Given.RunsDeclared.call.Reply.TheVariants.{Gives, Removes, Aborts, Decides}
 use Rattle.run_shows.specs.Given.SchedulesThings.{same_question}

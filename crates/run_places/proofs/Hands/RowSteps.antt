@@ -5,7 +5,7 @@ use Rattle.run_shows.specs.Given.SeizeWordsMem.{Mem, value_at}
 use Rattle.run_shows.specs.Given.SeizeWorld.{World, IsInside}
 use Rattle.run_shows.specs.Given.TablesDeclared.node.Node.{Node}
 use Rattle.run_shows.specs.Given.RawDeclared.machines.progress.Progress.{Progress}
-use Rattle.run_shows.specs.Given.RunsDeclared.effect.Table.{Table}
+use Rattle.run_shows.specs.Given.RunsDeclared.effect.TableId.{TableId}
 use Rattle.run_shows.specs.Given.SchedulesMoment.{InMap, Moment}
 use Rattle.run_shows.specs.Given.CallersTogether.{UnderWay, UnlessCounts, OnKey, ForRoom, Counting, OverAll, IsOneStep, Together}
 use Rattle.run_shows.specs.Given.EffectsEffects.{effects_of}
@@ -111,7 +111,7 @@ module _ {K V : Type 0} (same : K → K → Bool) (hash : ℕ → K → ℕ) (na
     pairs_then b n of is there gone =
         let its = subst (HasRole to.4.w2 _ b) (on.keeps b (subst IsLasting (sym is) tt) ∙ is) (on.shows.blocks.roles b) in used_then b (λ none. let some = its.3 in cc (some, none))
 
-    pub tables_then : (b len : ℕ) (t : Table) → known.roles b ≡ role.Table t len → s.maps t.map ≡ None → IsInUse (s.world.hand b) → IsInUse (to.4.w2.hand b)
+    pub tables_then : (b len : ℕ) (t : TableId) → known.roles b ≡ role.Table t len → s.maps t.map ≡ None → IsInUse (s.world.hand b) → IsInUse (to.4.w2.hand b)
     tables_then b len t is gone =
         let its = subst (HasRole to.4.w2 _ b) (on.keeps b (subst IsLasting (sym is) tt) ∙ is) (on.shows.blocks.roles b) in used_then b (λ none. let some = its.1 in cc (some, none))
 

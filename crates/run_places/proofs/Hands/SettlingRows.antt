@@ -5,8 +5,8 @@ use Rattle.std.proofs.lemmas.Bool.{eq-eqb}
 use Rattle.run_shows.specs.Given.SeizeWordsDeclared.at.At.TheVariants.{Entry}
 use Rattle.run_shows.specs.Given.SeizeWordsMem.{Mem, Can, Took, value_at, word_at}
 use Rattle.run_shows.specs.Given.SeizeWordsPlan.{May, Steps}
-use Rattle.run_shows.specs.Given.SeizeDeclared.progress.Progress.{Progress}
-use Rattle.run_shows.specs.Given.SeizeDeclared.progress.Progress.TheVariants as progress
+use Rattle.run_shows.specs.Given.SeizeDeclared.advance.Advance.{Advance}
+use Rattle.run_shows.specs.Given.SeizeDeclared.advance.Advance.TheVariants as progress
 use Rattle.run_shows.specs.Given.SeizeDeclared.rows.defer.Defer.{Defer}
 use Rattle.run_shows.specs.Given.SeizeDeclared.rows.register.Register.{Register}
 use Rattle.run_shows.specs.Given.SeizeDeclared.rows.settle.Settle.{Settle}
@@ -147,7 +147,7 @@ module _ {K V : Type 0} {size : ℕ} (w : World (Node K V)) (r : Reached deferre
   row_goes Rests is none one h = absurd h
   row_goes (Registers c) is none one h = subst GoesOn (sym h.3) (by h.0 h.1.0 h.1.1)
     where
-      by : (mem : Mem (Node K V)) (d : Register) (p : Progress ℕ) → GoesOn (registers_on w i c mem (d, p))
+      by : (mem : Mem (Node K V)) (d : Register) (p : Advance ℕ) → GoesOn (registers_on w i c mem (d, p))
       by mem d progress.Goes = row_at (Registers d) (tt, tt)
       by mem d progress.Waits = row_at (Registers d) (tt, tt)
       by mem d (progress.Done s) = row_at Rests (tt, tt)
@@ -163,7 +163,7 @@ module _ {K V : Type 0} {size : ℕ} (w : World (Node K V)) (r : Reached deferre
   row_goes (Leaves c) is none one h = absurd none
   row_goes (Defers s c) is none one h = subst GoesOn (sym h.3) (by h.0 h.1.0 h.1.1)
     where
-      by : (mem : Mem (Node K V)) (d : Defer) (p : Progress Unit) → GoesOn (defers_on w i s mem (d, p))
+      by : (mem : Mem (Node K V)) (d : Defer) (p : Advance Unit) → GoesOn (defers_on w i s mem (d, p))
       by mem d progress.Goes = row_at (Defers s d) (tt, tt)
       by mem d progress.Waits = row_at (Defers s d) (tt, tt)
       by mem d (progress.Done x) = row_at Rests (tt, tt)

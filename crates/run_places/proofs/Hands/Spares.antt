@@ -15,7 +15,7 @@ use Rattle.run_shows.specs.Given.ReservesDeclared.sweep.Sweeping.TheVariants as 
 use Rattle.run_shows.specs.Given.RawDeclared.machines.call.Calling.{Calling}
 use Rattle.run_shows.specs.Given.RawDeclared.machines.call.Calling.TheVariants as at
 use Rattle.run_shows.specs.Given.RawDeclared.machines.progress.Progress.{Progress}
-use Rattle.run_shows.specs.Given.RunsDeclared.effect.Table.{Table}
+use Rattle.run_shows.specs.Given.RunsDeclared.effect.TableId.{TableId}
 use Rattle.run_shows.specs.Given.SchedulesMoment.{InMap, Moment}
 use Rattle.run_shows.specs.Given.RuleInWorld.{IsIts}
 use Rattle.run_shows.specs.Given.CallersOverAll.{row_of_sweep}
@@ -132,7 +132,7 @@ module _ {K V : Type 0} (same : K → K → Bool) (hash : ℕ → K → ℕ) (na
           let stands = ap s.maps map_is ∙ to.2 in cc (stands, gone)
 
   -- nor is a table of one
-  pub tables_spared : OfNoRow same hash name m known s old new at_old shown map i u here told leads u to.4.did → (b len : ℕ) (t : Table) → known.roles b ≡ role.Table t len → s.maps t.map ≡ None
+  pub tables_spared : OfNoRow same hash name m known s old new at_old shown map i u here told leads u to.4.did → (b len : ℕ) (t : TableId) → known.roles b ≡ role.Table t len → s.maps t.map ≡ None
       → IsInUse (s.world.hand b) → IsInUse (to.4.w2.hand b)
   tables_spared own b len t is gone used =
       let has = subst (HasRole s.world m.stored b) is (shown.blocks.roles b) in
@@ -144,6 +144,6 @@ module _ {K V : Type 0} (same : K → K → Bool) (hash : ℕ → K → ℕ) (na
           let its = ap known.roles e ∙ (shown.maps map to.0 to.2).tables.roles u l ((sight in_it).tables u l seen) in
           let one : role.Table t len ≡ role.Table (table_of map u) (to.0.chart.len u) = sym is ∙ its in
           let table_is : t ≡ table_of map u = cc one in
-          let stands = ap (λ (x : Table). s.maps x.map) table_is ∙ to.2 in cc (stands, gone)
+          let stands = ap (λ (x : TableId). s.maps x.map) table_is ∙ to.2 in cc (stands, gone)
       other in_it (inr (inr (k, l, seen, e))) =
           let its = ap known.roles e ∙ (shown.maps map to.0 to.2).pairs.roles k l ((sight in_it).pairs k l seen) in cc (its, is)

@@ -2,8 +2,8 @@
 use Rattle.std.specs.Prelude.{◌≡◌, ℕ, zero, suc, ◌==◌, Bool, true, false, [], ◌∷◌, Option, None, IsSome, if◌then◌else◌}
 use Rattle.std.proofs.Common.{refl, ap, sym, subst, ◌∙◌, arith, inl, inr}
 use Rattle.run_shows.specs.Given.SeizeWordsMem.{Mem, value_at}
-use Rattle.run_shows.specs.Given.SeizeDeclared.progress.Progress.{Progress}
-use Rattle.run_shows.specs.Given.SeizeDeclared.progress.Progress.TheVariants as progress
+use Rattle.run_shows.specs.Given.SeizeDeclared.advance.Advance.{Advance}
+use Rattle.run_shows.specs.Given.SeizeDeclared.advance.Advance.TheVariants as progress
 use Rattle.run_shows.specs.Given.SeizeDeclared.rows.leave.Leave.{Leave}
 use Rattle.run_shows.specs.Given.SeizeDeclared.rows.leave.Leaving.{Leaving}
 use Rattle.run_shows.specs.Given.SeizeDeclared.rows.leave.Leaving.TheVariants as leaving
@@ -105,7 +105,7 @@ module _ {K V : Type 0} (i : ℕ) (w w2 : World (Node K V)) where
   step_hands Rests never step = absurd step
   step_hands (Registers c) never step = ap (λ (v : World (Node K V)). v.hand) step.3 ∙ by step.0 step.1.0 step.1.1
     where
-      by : (mem : Mem (Node K V)) (d : Register) (p : Progress ℕ) → (registers_on w i c mem (d, p)).hand ≡ w.hand
+      by : (mem : Mem (Node K V)) (d : Register) (p : Advance ℕ) → (registers_on w i c mem (d, p)).hand ≡ w.hand
       by mem d progress.Goes = register_hands c c.stands w.hand
       by mem d progress.Waits = register_hands c c.stands w.hand
       by mem d (progress.Done s) = register_hands c c.stands w.hand
@@ -121,7 +121,7 @@ module _ {K V : Type 0} (i : ℕ) (w w2 : World (Node K V)) where
   step_hands (Leaves c) never step = ap (λ (v : World (Node K V)). v.hand) step.3 ∙ leave_hands c c.stands never w.hand
   step_hands (Defers s c) never step = ap (λ (v : World (Node K V)). v.hand) step.3 ∙ by step.0 step.1.0 step.1.1
     where
-      by : (mem : Mem (Node K V)) (d : Defer) (p : Progress Unit) → (defers_on w i s mem (d, p)).hand ≡ w.hand
+      by : (mem : Mem (Node K V)) (d : Defer) (p : Advance Unit) → (defers_on w i s mem (d, p)).hand ≡ w.hand
       by mem d progress.Goes = refl
       by mem d progress.Waits = refl
       by mem d (progress.Done s) = refl

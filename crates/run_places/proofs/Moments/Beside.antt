@@ -12,7 +12,7 @@ use Rattle.run_shows.specs.Given.RawDeclared.machines.asking.Asking.TheVariants 
 use Rattle.run_shows.specs.Given.RawDeclared.machines.call.Calling.TheVariants as at
 use Rattle.run_shows.specs.Given.RunsDeclared.call.Call.{Call}
 use Rattle.run_shows.specs.Given.RunsDeclared.call.Call.TheVariants as call
-use Rattle.run_shows.specs.Given.RunsDeclared.effect.Table.{Table}
+use Rattle.run_shows.specs.Given.RunsDeclared.effect.TableId.{TableId}
 use Rattle.run_shows.specs.Given.SchedulesMoment.{InMap, MapThere, UnderWay as CallThere, Moment}
 use Rattle.run_shows.specs.Given.SchedulesViews.{is_in_a_map, map_at, call_of}
 use Rattle.run_shows.specs.Given.RuleChart.{Chart, Still}
@@ -39,7 +39,7 @@ module _ {K V : Type 0} (known known2 : Known) (s s2 : Scene K V) where
   -- a block came as a table: it is in use, and has its place in its map, if that stands
   pub record CameAsTable (b : ℕ) : Type 0 where
     pub len : ℕ
-    pub table : Table
+    pub table : TableId
     pub is : known2.roles b ≡ role.Table table len
     pub used : (owner : ℕ) × (s2.world.hand b ≡ InUse owner)
     pub place : (st : Standing K) → s2.maps table.map ≡ Some st → (table.turn < st.chart.past) × (st.chart.first ≤ table.turn → b ≡ st.blocks.table table.turn)
@@ -50,7 +50,7 @@ module _ {K V : Type 0} (known known2 : Known) (s s2 : Scene K V) where
 
   -- or it is new: no call is under way on it, and no block was a table of it
   abbrev pub StandsNew : ℕ → Type 0
-  StandsNew map = ((i : ℕ) → s2.calls map i ≡ None) × ((b len : ℕ) (t : Table) → known.roles b ≡ role.Table t len → t.map ≡ map → ⊥)
+  StandsNew map = ((i : ℕ) → s2.calls map i ≡ None) × ((b len : ℕ) (t : TableId) → known.roles b ≡ role.Table t len → t.map ≡ map → ⊥)
 
 -- Calls, maps and what was stored are as they were. A pair is in the map in which it was, or in none. A block of a map was so, or came as a table. One that is there
 -- is what it was, and is in use still if it was, and each map that stands then stood so, with its tables, or is new.
@@ -83,7 +83,7 @@ module _ {K V : Type 0} (same : K → K → Bool) (name : ℕ → List ℕ) (m m
         was_pair (inl was) = sym was ∙ is
         was_pair (inr came) = absurd (let table = came.is in cc (table, is))
 
-    table_used : (b len : ℕ) (t : Table) (there : MapThere) → known2.roles b ≡ role.Table t len → map_at t.map m2 ≡ Some there → there.first ≤ t.turn → IsInUse (s2.world.hand b)
+    table_used : (b len : ℕ) (t : TableId) (there : MapThere) → known2.roles b ≡ role.Table t len → map_at t.map m2 ≡ Some there → there.first ≤ t.turn → IsInUse (s2.world.hand b)
     table_used b len t there is at_map from =
         let had = subst (HasRole s2.world m2.stored b) is (after.shows.blocks.roles b) in
         elim (beside.back b (subst IsOfMap (sym is) tt)) as (λ _. IsInUse (s2.world.hand b)) [
@@ -96,12 +96,12 @@ module _ {K V : Type 0} (same : K → K → Bool) (name : ℕ → List ℕ) (m m
     born_so : (n map : ℕ) → m2.place n ≡ InMap map → (n ≤ length m2.stored) × ((m2.born n).map ≡ map)
     born_so n map at_map =
         let was = hands.born n map (beside.place n map at_map) in
-        (subst (λ (xs : List (K × V)). n ≤ length xs) (sym beside.stored) was.0, ap (λ (f : ℕ → Table). (f n).map) beside.born ∙ was.1)
+        (subst (λ (xs : List (K × V)). n ≤ length xs) (sym beside.stored) was.0, ap (λ (f : ℕ → TableId). (f n).map) beside.born ∙ was.1)
 
-    stand_so : (b len : ℕ) (t : Table) (st : Standing K) → known2.roles b ≡ role.Table t len → s2.maps t.map ≡ Some st → (t.turn < st.chart.past) × (st.chart.first ≤ t.turn → b ≡ st.blocks.table t.turn)
+    stand_so : (b len : ℕ) (t : TableId) (st : Standing K) → known2.roles b ≡ role.Table t len → s2.maps t.map ≡ Some st → (t.turn < st.chart.past) × (st.chart.first ≤ t.turn → b ≡ st.blocks.table t.turn)
     stand_so b len t st is there = by (beside.back b (subst IsOfMap (sym is) tt)) (beside.stood t.map st there)
       where
-        Goal : Table → Type 0
+        Goal : TableId → Type 0
         Goal u = (u.turn < st.chart.past) × (st.chart.first ≤ u.turn → b ≡ st.blocks.table u.turn)
 
         by : (known2.roles b ≡ known.roles b) ⊎ CameAsTable known known2 s s2 b → StoodSo known known2 s s2 t.map st ⊎ StandsNew known known2 s s2 t.map → Goal t
@@ -113,7 +113,7 @@ module _ {K V : Type 0} (same : K → K → Bool) (name : ℕ → List ℕ) (m m
         by (inl was) (inr newly) = absurd (newly.1 b len t (sym was ∙ is) refl)
         by (inr came) so =
             let same_table : came.table ≡ t = (let table = came.is in cc (table, is)) in
-            subst Goal same_table (came.place st (ap s2.maps (ap (λ (u : Table). u.map) same_table) ∙ there))
+            subst Goal same_table (came.place st (ap s2.maps (ap (λ (u : TableId). u.map) same_table) ∙ there))
 
     pub hands_beside : ShowsHands m2 known2 s2
     hands_beside = record { pairs = pair_used; tables = table_used; born = born_so; stand = stand_so }

@@ -7,15 +7,15 @@ use Rattle.run_shows.specs.Given.SeizeWordsMem.{value_at, word_at}
 use Rattle.run_shows.specs.Given.SeizeWordsWord.{block_in}
 use Rattle.run_shows.specs.Given.SeizeWordsDeclared.at.At.TheVariants.{Root, Used, Slot, Entry, Word}
 use Rattle.run_shows.specs.Given.SeizeWorld.{World}
-use Rattle.run_shows.specs.Given.SeizeDeclared.progress.Progress.{Progress}
-use Rattle.run_shows.specs.Given.SeizeDeclared.progress.Progress.TheVariants as progress
+use Rattle.run_shows.specs.Given.SeizeDeclared.advance.Advance.{Advance}
+use Rattle.run_shows.specs.Given.SeizeDeclared.advance.Advance.TheVariants as progress
 use Rattle.run_shows.specs.Given.TablesDeclared.node.Node.{Node}
 use Rattle.run_shows.specs.Given.TablesDeclared.setting.Setting.{Setting}
 use Rattle.run_shows.specs.Given.ResizeDeclared.new_map.NewMap.{NewMap}
 use Rattle.run_shows.specs.Given.RunsDeclared.effect.Effect.{Effect}
 use Rattle.run_shows.specs.Given.RunsDeclared.effect.Effect.TheVariants.{Asked, Linked}
 use Rattle.run_shows.specs.Given.RunsDeclared.effect.Growth.TheVariants.{ABlock}
-use Rattle.run_shows.specs.Given.RunsDeclared.effect.Table.{Table}
+use Rattle.run_shows.specs.Given.RunsDeclared.effect.TableId.{TableId}
 use Rattle.run_shows.specs.Given.SchedulesEffects.{with_effects}
 use Rattle.run_shows.specs.Given.SchedulesMoment.{Place, Moment}
 use Rattle.run_shows.specs.Given.SchedulesThings.{same_table}
@@ -64,10 +64,10 @@ lasting_of (role.Table t len) is = is
 lasting_of (role.Counter n) is = absurd is
 
 -- of a map that has no table no block is one
-pub none_of_it : {K V : Type 0} (m : Moment K V) (known : Known) → ShowsUnreclaimed m known → (map : ℕ) → tables_of map m ≡ [] → (x len : ℕ) (t : Table) → known.roles x ≡ role.Table t len → t.map ≡ map → ⊥
+pub none_of_it : {K V : Type 0} (m : Moment K V) (known : Known) → ShowsUnreclaimed m known → (map : ℕ) → tables_of map m ≡ [] → (x len : ℕ) (t : TableId) → known.roles x ≡ role.Table t len → t.map ≡ map → ⊥
 none_of_it m known blocks map none x len t is e =
     let any = any_kept (λ u. same_table u.table t && is_there u.stage) (λ u. u.table.map == map)
-    (λ u a. ap (λ (y : ℕ). y == map) (ap (λ (y : Table). y.map) (table_is u.table t (and_both (same_table u.table t) (is_there u.stage) a).0) ∙ e) ∙ eq-eqb map map refl)
+    (λ u a. ap (λ (y : ℕ). y == map) (ap (λ (y : TableId). y.map) (table_is u.table t (and_both (same_table u.table t) (is_there u.stage) a).0) ∙ e) ∙ eq-eqb map map refl)
     m.tables (blocks.tables x len t is) in
     let never = ap (list_any (λ u. same_table u.table t && is_there u.stage)) none in
     absurd (cc (sym any ∙ never))
@@ -123,7 +123,7 @@ module _ {K V : Type 0} (map : ℕ) (of : Option ℕ) (m : Moment K V) (known : 
     led_blocks false b (role.Counter n) e = blocks
 
 module _ {K V : Type 0} (same : K → K → Bool) (hash : ℕ → K → ℕ) (name : ℕ → List ℕ) (m : Moment K V) (known : Known) (s : Scene K V) (old new : Held K V) (at : IsAt same hash old s)
-    (shown : Shows same name m known s) (blocks : ShowsUnreclaimed m known) (i : ℕ) (b : Beginning K) (here : s.makers i ≡ Some b) (end : NewMap) (said : Progress Setting)
+    (shown : Shows same name m known s) (blocks : ShowsUnreclaimed m known) (i : ℕ) (b : Beginning K) (here : s.makers i ≡ Some b) (end : NewMap) (said : Advance Setting)
     (steps : MakingStepsFrom b.machine old new end said)
     (did : MakingStepsAmong V same same old.batch_size old.roots slot_of s.world s.maps s.calls s.makers s.enders i b new.memory (end, said)) (of : Option ℕ) where
   abbrev w : World (Node K V)
@@ -182,7 +182,7 @@ module _ {K V : Type 0} (same : K → K → Bool) (hash : ℕ → K → ℕ) (na
     making_keeps =
         keeps new.changed refl (tells same hash name m known s old new at shown i b here end said steps did of) (left same hash name m known s old new at shown i b here end said steps did of)
 
-  blocks_by : (t : Progress Setting) → said ≡ t → MakingComesTo same hash s old new i b end w2 t → WasNew b.map t m → After new.changed
+  blocks_by : (t : Advance Setting) → said ≡ t → MakingComesTo same hash s old new i b end w2 t → WasNew b.map t m → After new.changed
   blocks_by progress.Goes is comes was_new =
       making_keeps (λ r before after wrote. absurd (not_going same hash name m known s old new at shown i b here end said steps did of r before after wrote is comes))
   blocks_by progress.Waits is comes was_new = absurd comes

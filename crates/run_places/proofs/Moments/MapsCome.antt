@@ -5,7 +5,7 @@ use Rattle.std.proofs.Common.{refl, ap, sym, subst, ◌∙◌}
 use Rattle.std.proofs.lemmas.Bool.{eqb-true}
 use Rattle.std.proofs.lemmas.List.Folds.{find-append}
 use Rattle.run_shows.specs.Given.RunsSame.{is_same}
-use Rattle.run_shows.specs.Given.RunsDeclared.effect.Table.{Table}
+use Rattle.run_shows.specs.Given.RunsDeclared.effect.TableId.{TableId}
 use Rattle.run_shows.specs.Given.SchedulesBeginning.{with_map}
 use Rattle.run_shows.specs.Given.SchedulesMoment.{UnderWay as CallThere, MapThere, Moment}
 use Rattle.run_shows.specs.Given.SchedulesViews.{map_at}
@@ -74,7 +74,7 @@ module _ (K V : Type 0) (same : K → K → Bool) where
       }
     where
       -- a table is of a map that was there before
-      used : (b len : ℕ) (t : Table) (x : MapThere) → known.roles b ≡ role.Table t len → map_at t.map (with_map there m) ≡ Some x → x.first ≤ t.turn → IsInUse (s.world.hand b)
+      used : (b len : ℕ) (t : TableId) (x : MapThere) → known.roles b ≡ role.Table t len → map_at t.map (with_map there m) ≡ Some x → x.first ≤ t.turn → IsInUse (s.world.hand b)
       used b len t x is at_map from = by (find test m.maps) refl (test there) refl
         where
           test : MapThere → Bool

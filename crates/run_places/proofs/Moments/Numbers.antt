@@ -11,7 +11,7 @@ use Rattle.run_shows.specs.Given.RunsSame.{is_same}
 use Rattle.run_shows.specs.Given.RunsDeclared.effect.Effect.{Effect}
 use Rattle.run_shows.specs.Given.RunsDeclared.effect.Effect.TheVariants.{Asked, Linked, Promoted, Retired, Reclaimed, Taken}
 use Rattle.run_shows.specs.Given.RunsDeclared.effect.Growth.TheVariants.{ABucket}
-use Rattle.run_shows.specs.Given.RunsDeclared.effect.Table.{Table}
+use Rattle.run_shows.specs.Given.RunsDeclared.effect.TableId.{TableId}
 use Rattle.run_shows.specs.Given.RunsDeclared.effect.Thing.TheVariants.{APair, ATable}
 use Rattle.run_shows.specs.Given.SchedulesBeginning.{with_map}
 use Rattle.run_shows.specs.Given.SchedulesEffects.{at_stage, promoted, with_effect, with_effects}
@@ -70,7 +70,7 @@ module _ {X : Type 0} where
       ap (λ z. if z then y ∷ filter test ys else filter test ys) (all 0 y (omega arith)) ∙ none_kept test ys (λ k d l. all (suc k) d (omega (arith, l)))
 
 -- a map whose root's table is another one has its number
-module _ (t : Table) where
+module _ (t : TableId) where
   number_same : (f : MapThere) → (promoted t f).number ≡ f.number
   number_same f = by (f.number == t.map)
     where
@@ -89,17 +89,17 @@ module _ (t : Table) where
       by false rest = rest
 
 -- and a table at another stage is that table
-stage_same : (t : Table) (stage : Stage) (u : TableThere) → (at_stage t stage u).table ≡ u.table
+stage_same : (t : TableId) (stage : Stage) (u : TableThere) → (at_stage t stage u).table ≡ u.table
 stage_same t stage u = by (same_table u.table t)
   where
     by : (q : Bool) → (if q then record u { stage = stage } else u).table ≡ u.table
     by true = refl
     by false = refl
 
-staged : (t : Table) (stage : Stage) (made : ℕ) (tables : List TableThere) → All (λ u. u.table.map < made) tables → All (λ u. u.table.map < made) (map (at_stage t stage) tables)
+staged : (t : TableId) (stage : Stage) (made : ℕ) (tables : List TableThere) → All (λ u. u.table.map < made) tables → All (λ u. u.table.map < made) (map (at_stage t stage) tables)
 staged t stage made tables all =
     All-map (λ u. u.table.map < made) (at_stage t stage) tables
-    (all_so (λ u. u.table.map < made) (λ u. (at_stage t stage u).table.map < made) (λ u l. subst (λ (v : Table). v.map < made) (sym (stage_same t stage u)) l) tables all)
+    (all_so (λ u. u.table.map < made) (λ u. (at_stage t stage u).table.map < made) (λ u l. subst (λ (v : TableId). v.map < made) (sym (stage_same t stage u)) l) tables all)
 
 -- a table that is linked is of a map that was made
 abbrev LinksMade : ℕ → Effect → Type 0
@@ -143,7 +143,7 @@ module _ (made : ℕ) where
   pair_links (acts.Ending map) n = tt
   pair_links _ n = tt
 
-  table_links : (acting : Acting) (t : Table) → LinksMade made (table_taken acting t)
+  table_links : (acting : Acting) (t : TableId) → LinksMade made (table_taken acting t)
   table_links (acts.Ending map) t = tt
   table_links _ t = tt
 

@@ -4,7 +4,7 @@ use Rattle.std.proofs.Common.{refl, ap, sym, ◌∙◌}
 use Rattle.std.proofs.lemmas.Bool.{eqb-true}
 use Rattle.std.proofs.lemmas.List.Elements.{All-filter}
 use Rattle.run_shows.specs.Given.RunsSame.{is_same}
-use Rattle.run_shows.specs.Given.RunsDeclared.effect.Table.{Table}
+use Rattle.run_shows.specs.Given.RunsDeclared.effect.TableId.{TableId}
 use Rattle.run_shows.specs.Given.SchedulesMoment.{MapThere}
 use Rattle.run_shows.specs.Given.SchedulesViews.{map_at}
 use Rattle.run_shows.specs.Given.EffectsDeclared.role.Role.TheVariants as role
@@ -39,7 +39,7 @@ module _ (K V : Type 0) (same : K → K → Bool) where
       }
     where
       -- a map that is there still is the one that was found by its number
-      used : (b len : ℕ) (t : Table) (x : MapThere) → known.roles b ≡ role.Table t len → map_at t.map (without_map own remains m) ≡ Some x → x.first ≤ t.turn → IsInUse (s.world.hand b)
+      used : (b len : ℕ) (t : TableId) (x : MapThere) → known.roles b ≡ role.Table t len → map_at t.map (without_map own remains m) ≡ Some x → x.first ≤ t.turn → IsInUse (s.world.hand b)
       used b len t x is at_map from =
           let it = found_of (λ there. map_at there.number m ≡ Some there) (λ f. f.number == t.map) (filter (λ f. not (is_same f.name own)) m.maps) x
           (All-filter (λ f. not (is_same f.name own)) (λ there. map_at there.number m ≡ Some there) m.maps apart) at_map in

@@ -10,7 +10,7 @@ use Rattle.run_shows.specs.Given.TablesChunks.{is_incremental}
 use Rattle.run_shows.specs.Given.RuleChart.{Chart}
 use Rattle.run_shows.specs.Given.RunsDeclared.effect.Effect.{Effect}
 use Rattle.run_shows.specs.Given.RunsDeclared.effect.Effect.TheVariants.{Ended, Taken}
-use Rattle.run_shows.specs.Given.RunsDeclared.effect.Table.{Table}
+use Rattle.run_shows.specs.Given.RunsDeclared.effect.TableId.{TableId}
 use Rattle.run_shows.specs.Given.SchedulesAfter.{tables_taken}
 use Rattle.run_shows.specs.Given.SchedulesEffects.{with_effect, with_effects}
 use Rattle.run_shows.specs.Given.SchedulesLists.{put}
@@ -28,7 +28,7 @@ use Rattle.run_places.proofs.Moments.After.{effects_after}
 use Rattle.run_places.proofs.Moments.OnSlots.{put_out, all_out}
 
 -- the tables of a map, so many, from this one on
-abbrev turns_from : ℕ → ℕ → ℕ → List Table
+abbrev turns_from : ℕ → ℕ → ℕ → List TableId
 turns_from of t zero = []
 turns_from of t (suc more) = table_of of t ∷ turns_from of (suc t) more
 
@@ -36,10 +36,10 @@ turns_more : (of t more : ℕ) → turns_from of t (suc more) ≡ turns_from of 
 turns_more of t zero = (let e : t ≡ t + 0 = omega arith in ap (λ (x : ℕ). table_of of x ∷ []) e)
 turns_more of t (suc more) =
     (let e : suc t + more ≡ t + suc more = omega arith in
-    ap (λ (l : List Table). table_of of t ∷ l) (turns_more of (suc t) more) ∙ ap (λ (x : ℕ). table_of of t ∷ (turns_from of (suc t) more ++ table_of of x ∷ [])) e)
+    ap (λ (l : List TableId). table_of of t ∷ l) (turns_more of (suc t) more) ∙ ap (λ (x : ℕ). table_of of t ∷ (turns_from of (suc t) more ++ table_of of x ∷ [])) e)
 
 module _ {K : Type 0} (of : ℕ) (c : Chart K) (stage : ℕ → Stage) (first : ℕ) where
-  abbrev kept : List TableThere → List Table
+  abbrev kept : List TableThere → List TableId
   kept tables = map (λ t. t.table) (filter (λ t. nat_le first t.table.turn) tables)
 
   abbrev one : ℕ → TableThere
@@ -60,7 +60,7 @@ module _ {K : Type 0} (of : ℕ) (c : Chart K) (stage : ℕ → Stage) (first : 
           (let le : first ≤ n = grind (arith, e) in
           let here : first + (n - first) ≡ n = omega (arith, le) in
           let long : suc (n - first) ≡ suc n - first = omega (arith, le) in
-          ap (λ (l : List Table). l ++ table_of of n ∷ []) before ∙ ap (λ (x : ℕ). turns_from of first (n - first) ++ table_of of x ∷ []) (sym here)
+          ap (λ (l : List TableId). l ++ table_of of n ∷ []) before ∙ ap (λ (x : ℕ). turns_from of first (n - first) ++ table_of of x ∷ []) (sym here)
           ∙ sym (turns_more of first (n - first)) ∙ ap (turns_from of first) long)
       by before false e =
           (let more : n < first = grind (arith, e) in
@@ -70,7 +70,7 @@ module _ {K : Type 0} (of : ℕ) (c : Chart K) (stage : ℕ → Stage) (first : 
 -- the tables that end
 ended_tables : (of t more : ℕ) → flat_map tables_taken (tables_ended of t more) ≡ turns_from of t more
 ended_tables of t zero = refl
-ended_tables of t (suc more) = ap (λ (l : List Table). table_of of t ∷ l) (ended_tables of (suc t) more)
+ended_tables of t (suc more) = ap (λ (l : List TableId). table_of of t ∷ l) (ended_tables of (suc t) more)
 
 -- the pairs that end
 abbrev pairs_ended : (ℕ → ℕ) → List ℕ → List Effect
@@ -149,6 +149,6 @@ whole_ends_take_all K V m known of number st shows once = (
   places_none (is_in_map of) (w m known of number st shows once).place (length (w m known of number st shows once).stored)
       (λ k. out_of of ((w m known of number st shows once).place k) (not_there m known of number st shows once k)),
   flat_map-append tables_taken (pairs_ended number (pairs m known of number st shows once)) (tables m known of number st shows once)
-      ∙ ap (λ (l : List Table). l ++ flat_map tables_taken (tables m known of number st shows once)) (no_tables number (pairs m known of number st shows once))
+      ∙ ap (λ (l : List TableId). l ++ flat_map tables_taken (tables m known of number st shows once)) (no_tables number (pairs m known of number st shows once))
       ∙ ended_tables of st.chart.first (st.chart.past - st.chart.first) ∙ sym (chain m known of number st shows once),
 )

@@ -4,7 +4,7 @@ use Rattle.std.proofs.Common.{refl, ap, sym, subst, ◌∙◌, arith, inl, inr}
 use Rattle.std.proofs.lemmas.Bool.{cases_eq}
 use Rattle.run_shows.specs.Given.RunsDeclared.effect.Effect.{Effect}
 use Rattle.run_shows.specs.Given.RunsDeclared.effect.Effect.TheVariants.{Asked, PairMade, PairGivenUp, TableMade, TableGivenUp, Linked, Promoted, Copied, Stored, Replaced, Removed, Counted, Deferred, Retired, Reclaimed, Ended, Taken}
-use Rattle.run_shows.specs.Given.RunsDeclared.effect.Table.{Table}
+use Rattle.run_shows.specs.Given.RunsDeclared.effect.TableId.{TableId}
 use Rattle.run_shows.specs.Given.RunsDeclared.effect.Thing.TheVariants.{APair, ATable}
 use Rattle.run_shows.specs.Given.SchedulesEffects.{all_at, in_map, place_by, deferred_by, with_effect}
 use Rattle.run_shows.specs.Given.SchedulesLists.{is_among, put}
@@ -74,10 +74,10 @@ module _ {K V : Type 0} where
 
   -- what waits then waited before, or was put there
   waited : (f : Effect) (m : Moment K V) → FindsNumbers m f → WaitOutside m → (n : ℕ) → is_among n (map (λ d. d.pair) (deferred_by f m.deferred)) ≡ true
-      → (is_among n (map (λ d. d.pair) m.deferred) ≡ true) ⊎ ((t : Table) × (f ≡ Deferred n t) × (n ≤ length m.stored))
+      → (is_among n (map (λ d. d.pair) m.deferred) ≡ true) ⊎ ((t : TableId) × (f ≡ Deferred n t) × (n ≤ length m.stored))
   waited (Deferred p t) m finds h n e = by (n == p) refl
     where
-      by : (q : Bool) → (n == p) ≡ q → (is_among n (map (λ d. d.pair) m.deferred) ≡ true) ⊎ ((u : Table) × (Deferred p t ≡ Deferred n u) × (n ≤ length m.stored))
+      by : (q : Bool) → (n == p) ≡ q → (is_among n (map (λ d. d.pair) m.deferred) ≡ true) ⊎ ((u : TableId) × (Deferred p t ≡ Deferred n u) × (n ≤ length m.stored))
       by true is = let same : n ≡ p = grind (arith, is) in inr (t, ap (λ (x : ℕ). Deferred x t) (sym same), (omega (arith, same, finds)))
       by false is = inl (ap (λ (q : Bool). q || is_among n (map (λ d. d.pair) m.deferred)) (sym is) ∙ e)
   waited (Reclaimed (ATable t)) m finds h n e = inl (in_part (λ d. not (same_table d.behind t)) n m.deferred e)
@@ -104,7 +104,7 @@ module _ {K V : Type 0} where
       more : length m.stored ≤ length (with_effect caller acted f m).stored
       more = stored_grows caller acted (f ∷ []) m
 
-      by : (is_among n (map (λ d. d.pair) m.deferred) ≡ true) ⊎ ((t : Table) × (f ≡ Deferred n t) × (n ≤ length m.stored))
+      by : (is_among n (map (λ d. d.pair) m.deferred) ≡ true) ⊎ ((t : TableId) × (f ≡ Deferred n t) × (n ≤ length m.stored))
           → (n ≤ length (with_effect caller acted f m).stored) × (is_in_a_map ((with_effect caller acted f m).place n) ≡ false)
       by (inl before) = let was = h n before in ((let l = was.0 in omega (arith, l, more)), stays_out acted f m finds n was.0 was.1)
       by (inr (t, is, l)) = (omega (arith, l, more), ap (λ (x : Effect). is_in_a_map (place_by acted m.deferred x m.place n)) is ∙ ap is_in_a_map (put_here n Behind m.place n refl))

@@ -4,7 +4,7 @@ use Rattle.std.proofs.Common.{refl, ap, ◌∙◌}
 use Rattle.run_shows.specs.Given.RunsDeclared.effect.Effect.{Effect}
 use Rattle.run_shows.specs.Given.RunsDeclared.effect.Effect.TheVariants.{Stored, Copied, Promoted}
 use Rattle.run_shows.specs.Given.RunsDeclared.effect.Spot.{Spot}
-use Rattle.run_shows.specs.Given.RunsDeclared.effect.Table.{Table}
+use Rattle.run_shows.specs.Given.RunsDeclared.effect.TableId.{TableId}
 use Rattle.run_shows.specs.Given.SchedulesEffects.{later, born_by, copy_by, spot_by, with_effect, with_effects}
 use Rattle.run_shows.specs.Given.SchedulesMoment.{Place, Moment}
 use Rattle.run_shows.specs.Given.SchedulesViews.{is_in_map}
@@ -45,7 +45,7 @@ copy_aside : (f : Effect) (copy : ℕ → Spot) → is_aside f ≡ true → copy
 copy_aside (Copied n s) copy e = absurd (cc e)
 copy_aside _ copy e = refl
 
-born_aside : (acted : Option ℕ) (f : Effect) (born : ℕ → Table) → is_aside f ≡ true → born_by acted f born ≡ born
+born_aside : (acted : Option ℕ) (f : Effect) (born : ℕ → TableId) → is_aside f ≡ true → born_by acted f born ≡ born
 born_aside None f born e = refl
 born_aside (Some map) (Stored n s) born e = absurd (cc e)
 born_aside (Some map) _ born e = refl
@@ -60,14 +60,14 @@ spot_copied_other true place copy k s spot x ne = put_elsewhere k (later (spot k
 spot_copied_other false place copy k s spot x ne = refl
 
 -- as the root comes to a table: in blocking mode a pair of the map that has its newest copy there lies there
-pub spot_promoted : (q : Bool) (place : ℕ → Place) (copy : ℕ → Spot) (t : Table) (spot : ℕ → Spot) (x : ℕ) → is_in_map t.map (place x) ≡ true → (q ≡ false → ((copy x).turn == t.turn) ≡ true)
+pub spot_promoted : (q : Bool) (place : ℕ → Place) (copy : ℕ → Spot) (t : TableId) (spot : ℕ → Spot) (x : ℕ) → is_in_map t.map (place x) ≡ true → (q ≡ false → ((copy x).turn == t.turn) ≡ true)
     → spot_by q place copy (Promoted t) spot x ≡ (if q then spot x else copy x)
 spot_promoted true place copy t spot x in_map there = refl
 spot_promoted false place copy t spot x in_map there =
     ap (λ (z : Bool). if z && ((copy x).turn == t.turn) then copy x else spot x) in_map ∙ ap (λ (z : Bool). if z then copy x else spot x) (there refl)
 
 -- and one of another map lies where it lay
-pub spot_promoted_other : (q : Bool) (place : ℕ → Place) (copy : ℕ → Spot) (t : Table) (spot : ℕ → Spot) (x : ℕ) → is_in_map t.map (place x) ≡ false → spot_by q place copy (Promoted t) spot x ≡ spot x
+pub spot_promoted_other : (q : Bool) (place : ℕ → Place) (copy : ℕ → Spot) (t : TableId) (spot : ℕ → Spot) (x : ℕ) → is_in_map t.map (place x) ≡ false → spot_by q place copy (Promoted t) spot x ≡ spot x
 spot_promoted_other true place copy t spot x out = refl
 spot_promoted_other false place copy t spot x out = ap (λ (z : Bool). if z && ((copy x).turn == t.turn) then copy x else spot x) out
 

@@ -9,7 +9,7 @@ use Rattle.run_shows.specs.Given.TablesDeclared.node.Node.{Node}
 use Rattle.run_shows.specs.Given.RunsDeclared.effect.Effect.{Effect}
 use Rattle.run_shows.specs.Given.RunsDeclared.effect.Effect.TheVariants.{Copied, Stored, Replaced}
 use Rattle.run_shows.specs.Given.RunsDeclared.effect.Spot.{Spot}
-use Rattle.run_shows.specs.Given.RunsDeclared.effect.Table.{Table}
+use Rattle.run_shows.specs.Given.RunsDeclared.effect.TableId.{TableId}
 use Rattle.run_shows.specs.Given.SchedulesEffects.{later, new_pair, stored_by, with_effect, with_effects}
 use Rattle.run_shows.specs.Given.SchedulesEntry.{acting}
 use Rattle.run_shows.specs.Given.SchedulesLists.{put}
@@ -63,7 +63,7 @@ module _ {K V : Type 0} where
 
   pub aside_elsewhere : (map : ℕ) (m v : Moment K V) → AreAside m v → IsElsewhere map m v
   aside_elsewhere map m v aside = record {
-    born = λ k l. ap (λ (f : ℕ → Table). f k) aside.born;
+    born = λ k l. ap (λ (f : ℕ → TableId). f k) aside.born;
     spot = λ k l apart out. ap (λ (f : ℕ → Spot). f k) aside.spot;
     copy = λ k apart. ap (λ (f : ℕ → Spot). f k) aside.copy;
     beyond = λ k l. ap (λ (f : ℕ → Spot). f k) aside.copy;
@@ -73,10 +73,10 @@ module _ {K V : Type 0} where
   pub other_lies : (map of : ℕ) (number : ℕ → ℕ) (s : Standing K) (m v : Moment K V) (known known2 : Known) → of ≢ map → ShowsMap of number s m known → KeepsRoles known known2 → IsElsewhere map m v
       → ((n : ℕ) → s.chart.current n ≡ true → is_in_map map (m.place (number n)) ≡ false) → ShowsSpots s m known → ShowsSpots s v known2
   other_lies map of number s m v known known2 apart shown keeps away out h = record {
-    born = λ n k t i b pair e. subst (λ (x : Table). x.turn ≤ t) (sym (away.born k (within n k pair))) (h.born n k t i b (was n k pair) e);
+    born = λ n k t i b pair e. subst (λ (x : TableId). x.turn ≤ t) (sym (away.born k (within n k pair))) (h.born n k t i b (was n k pair) e);
     whole = h.whole;
     lies = λ n k pair current.
-        subst (λ (x : Table). LiesThere n (v.spot k) x.turn) (sym (away.born k (within n k pair)))
+        subst (λ (x : TableId). LiesThere n (v.spot k) x.turn) (sym (away.born k (within n k pair)))
         (subst (λ (x : Spot). LiesThere n x (m.born k).turn) (sym (away.spot k (within n k pair) (elsewhere n k pair) (subst (λ (x : ℕ). is_in_map map (m.place x) ≡ false) (its n k pair) (out n current))))
         (h.lies n k (was n k pair) current));
     copied = λ e n k pair current. subst (λ (x : Spot). IsCopiedTo s.chart n x) (sym (away.copy k (elsewhere n k pair))) (h.copied e n k (was n k pair) current);
@@ -138,7 +138,7 @@ module _ {K V : Type 0} (same : K → K → Bool) (slot caller map : ℕ) (name 
   -- a pair was stored
   store_leaves : (first : List Effect) (t i : ℕ) (v : Moment K V) → v.spot ≡ put (known.stored + 1) (spot_in t i) m.spot → v.copy ≡ m.copy → v.born ≡ put (known.stored + 1) (table_of map t) m.born → IsElsewhere map m v
   store_leaves first t i v spot_is copy_is born_is = record {
-    born = λ k l. ap (λ (f : ℕ → Table). f k) born_is ∙ put_elsewhere (known.stored + 1) (table_of map t) m.born k (λ e. (let many = shown_blocks.stored in omega (arith, many, e, l)));
+    born = λ k l. ap (λ (f : ℕ → TableId). f k) born_is ∙ put_elsewhere (known.stored + 1) (table_of map t) m.born k (λ e. (let many = shown_blocks.stored in omega (arith, many, e, l)));
     spot = λ k l apart out. ap (λ (f : ℕ → Spot). f k) spot_is ∙ put_elsewhere (known.stored + 1) (spot_in t i) m.spot k (λ e. (let many = shown_blocks.stored in omega (arith, many, e, l)));
     copy = λ k apart. ap (λ (f : ℕ → Spot). f k) copy_is;
     beyond = λ k l. ap (λ (f : ℕ → Spot). f k) copy_is;

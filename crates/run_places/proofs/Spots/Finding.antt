@@ -14,7 +14,7 @@ use Rattle.run_shows.specs.Given.RunsDeclared.effect.Growth.TheVariants.{ABucket
 use Rattle.run_shows.specs.Given.RunsDeclared.effect.Spot.{Spot}
 use Rattle.run_shows.specs.Given.SchedulesLives.{MayCopy}
 use Rattle.run_shows.specs.Given.SchedulesTries.{has_pair_at}
-use Rattle.run_shows.specs.Given.RunsDeclared.effect.Table.{Table}
+use Rattle.run_shows.specs.Given.RunsDeclared.effect.TableId.{TableId}
 use Rattle.run_shows.specs.Given.SchedulesMoment.{Place, GivenBack, Stage, TableThere, Moment}
 use Rattle.run_shows.specs.Given.SchedulesThings.{same_table, same_spot}
 use Rattle.run_shows.specs.Given.SchedulesViews.{is_there, is_linked, is_stage, is_place}
@@ -103,7 +103,7 @@ module _ {K : Type 0} (map : ℕ) (c : Chart K) (stage : ℕ → Stage) (test : 
       by (inl before) rest = rest before
       by (inr here) rest =
           let two = and_both (same_table (table_of map n) (table_of map t)) (test (stage n)) here in
-          let turns = ap (λ (x : Table). x.turn) (table_is (table_of map n) (table_of map t) two.0) in
+          let turns = ap (λ (x : TableId). x.turn) (table_is (table_of map n) (table_of map t) two.0) in
           ap (λ (x : ℕ). test (stage x)) (sym turns) ∙ two.1
 
   pub turn_below : (n : ℕ) → list_any AtStage (tables_to map c stage n) ≡ true → t < n
@@ -114,7 +114,7 @@ module _ {K : Type 0} (map : ℕ) (c : Chart K) (stage : ℕ → Stage) (test : 
       by (inl before) rest = let l = rest before in omega (arith, l)
       by (inr here) rest =
           let two = and_both (same_table (table_of map n) (table_of map t)) (test (stage n)) here in
-          let turns = ap (λ (x : Table). x.turn) (table_is (table_of map n) (table_of map t) two.0) in
+          let turns = ap (λ (x : TableId). x.turn) (table_is (table_of map n) (table_of map t) two.0) in
           omega (arith, turns)
 
 -- a table of a map that stands is among those that the map has had
@@ -123,7 +123,7 @@ pub listed_there : {K V : Type 0} (map : ℕ) (number : ℕ → ℕ) (s : Standi
 listed_there map number s m known shown test t there =
     ap (list_any (AtStage map s.chart shown.tables.stage test t)) (sym shown.tables.listed)
     ∙ any_kept (AtStage map s.chart shown.tables.stage test t) (λ u. u.table.map == map)
-    (λ u e. let two = and_both (same_table u.table (table_of map t)) (test u.stage) e in ap (λ (x : Table). x.map == map) (table_is u.table (table_of map t) two.0) ∙ eq-eqb map map refl) m.tables there
+    (λ u e. let two = and_both (same_table u.table (table_of map t)) (test u.stage) e in ap (λ (x : TableId). x.map == map) (table_is u.table (table_of map t) two.0) ∙ eq-eqb map map refl) m.tables there
 
 module _ {K V : Type 0} (same : K → K → Bool) (slot caller map : ℕ) (name : Option (List ℕ)) (number : ℕ → ℕ) (s : Standing K) (lawful : AreLawful same s.hash)
     (w : World (Node K V)) (sight : Sight) (is_sight : IsSight s.chart s.blocks sight) (is_map : IsMapIn same s.hash (in_slot s.setting slot) w s.chart (seen_by s.blocks sight))

@@ -2,7 +2,7 @@
 use Rattle.std.specs.Prelude.{◌≡◌, ◌≢◌, ℕ, Bool, true, false, ◌&&◌, ◌||◌, List, [], ◌∷◌, map, if◌then◌else◌}
 use Rattle.std.specs.List.{list_any}
 use Rattle.std.proofs.Common.{refl, ap, sym, subst, ◌∙◌}
-use Rattle.run_shows.specs.Given.RunsDeclared.effect.Table.{Table}
+use Rattle.run_shows.specs.Given.RunsDeclared.effect.TableId.{TableId}
 use Rattle.run_shows.specs.Given.SchedulesEffects.{all_at, at_stage}
 use Rattle.run_shows.specs.Given.SchedulesLists.{is_among, put}
 use Rattle.run_shows.specs.Given.SchedulesMoment.{Place, GivenBack, Stage, TableThere, Moment}
@@ -54,11 +54,11 @@ module _ {K V : Type 0} (m v : Moment K V) (known : Known) (b : ℕ) (h : ShowsU
       not_back : (n : ℕ) → is_unreclaimed (v.place n) ≡ true → n ≢ k
       not_back n e z = (let gone : is_unreclaimed (v.place n) ≡ false = ap (λ (f : ℕ → Place). is_unreclaimed (f n)) place ∙ ap is_unreclaimed (put_here k GivenBack m.place n z) in cc (e, gone))
 
-      same_tables : (t : Table) → is_stage is_there t v ≡ is_stage is_there t m
+      same_tables : (t : TableId) → is_stage is_there t v ≡ is_stage is_there t m
       same_tables t = ap (list_any (λ u. same_table u.table t && is_there u.stage)) tables
 
 -- none of the tables that are reclaimed, or have ended, is there
-none_there : (to : Stage) → is_there to ≡ false → (t : Table) (xs : List TableThere) → list_any (Now t t) (map (at_stage t to) xs) ≡ false
+none_there : (to : Stage) → is_there to ≡ false → (t : TableId) (xs : List TableThere) → list_any (Now t t) (map (at_stage t to) xs) ≡ false
 none_there to gone t [] = refl
 none_there to gone t (x ∷ xs) = ap (λ (q : Bool). q || list_any (Now t t) (map (at_stage t to) xs)) (by (same_table x.table t) refl) ∙ none_there to gone t xs
   where
@@ -66,7 +66,7 @@ none_there to gone t (x ∷ xs) = ap (λ (q : Bool). q || list_any (Now t t) (ma
     by true e = ap (λ (z : Bool). z && is_there to) e ∙ gone
     by false e = ap (λ (z : Bool). z && is_there x.stage) e
 
-module _ {K V : Type 0} (m v : Moment K V) (known : Known) (b len : ℕ) (t : Table) (its : known.roles b ≡ role.Table t len) (h : ShowsUnreclaimed m known)
+module _ {K V : Type 0} (m v : Moment K V) (known : Known) (b len : ℕ) (t : TableId) (its : known.roles b ≡ role.Table t len) (h : ShowsUnreclaimed m known)
     (p : Place) (kept : is_unreclaimed p ≡ true) (to : Stage) (gone : is_there to ≡ false) (place : v.place ≡ all_at p (behind t m.deferred) m.place) (tables : v.tables ≡ map (at_stage t to) m.tables)
     (waits : (n : ℕ) → is_among n (behind t m.deferred) ≡ true → is_unreclaimed (m.place n) ≡ true) where
   same_place : (n : ℕ) → is_unreclaimed (v.place n) ≡ is_unreclaimed (m.place n)
@@ -76,7 +76,7 @@ module _ {K V : Type 0} (m v : Moment K V) (known : Known) (b len : ℕ) (t : Ta
       by true e = ap (λ (q : Bool). is_unreclaimed (if q then p else m.place n)) e ∙ kept ∙ sym (waits n e)
       by false e = ap (λ (q : Bool). is_unreclaimed (if q then p else m.place n)) e
 
-  other_tables : (u : Table) → (t ≡ u → ⊥) → is_stage is_there u v ≡ is_stage is_there u m
+  other_tables : (u : TableId) → (t ≡ u → ⊥) → is_stage is_there u v ≡ is_stage is_there u m
   other_tables u ne = ap (list_any (Now t u)) tables ∙ staged_other t to u m.tables ne
 
   -- that of a table
@@ -86,11 +86,11 @@ module _ {K V : Type 0} (m v : Moment K V) (known : Known) (b len : ℕ) (t : Ta
     pairs_there = λ n e. (let was = h.pairs_there n (sym (same_place n) ∙ e) in
         (was.0, others_stay m v known b h was.0 (λ z. (let one : role.Pair n ≡ role.Table t len = sym was.1 ∙ ap known.roles z ∙ its in cc one)) ∙ was.1));
     tables = λ x n u is. (let was = sym (was_role m v known b h x (subst IsOfMap (sym is) tt)) ∙ is in
-        other_tables u (λ e. not_it m v known b h x (subst IsOfMap (sym is) tt) (h.tables_once x b n len t (was ∙ ap (λ (z : Table). role.Table z n) (sym e)) its)) ∙ h.tables x n u was);
+        other_tables u (λ e. not_it m v known b h x (subst IsOfMap (sym is) tt) (h.tables_once x b n len t (was ∙ ap (λ (z : TableId). role.Table z n) (sym e)) its)) ∙ h.tables x n u was);
     tables_there = λ u e. (let ne = apart u e in let was = h.tables_there u (sym (other_tables u ne) ∙ e) in
         (was.0, was.1, others_stay m v known b h was.0 (λ z. ne (let one : role.Table t len ≡ role.Table u was.1 = sym its ∙ ap known.roles (sym z) ∙ was.2 in cc one)) ∙ was.2));
     tables_once = λ x y n l u is is2. h.tables_once x y n l u (sym (was_role m v known b h x (subst IsOfMap (sym is) tt)) ∙ is) (sym (was_role m v known b h y (subst IsOfMap (sym is2) tt)) ∙ is2);
   }
     where
-      apart : (u : Table) → is_stage is_there u v ≡ true → t ≡ u → ⊥
-      apart u e z = (let none : is_stage is_there u v ≡ false = ap (list_any (Now t u)) tables ∙ ap (λ (x : Table). list_any (Now t x) (map (at_stage t to) m.tables)) (sym z) ∙ none_there to gone t m.tables in cc (e, none))
+      apart : (u : TableId) → is_stage is_there u v ≡ true → t ≡ u → ⊥
+      apart u e z = (let none : is_stage is_there u v ≡ false = ap (list_any (Now t u)) tables ∙ ap (λ (x : TableId). list_any (Now t x) (map (at_stage t to) m.tables)) (sym z) ∙ none_there to gone t m.tables in cc (e, none))

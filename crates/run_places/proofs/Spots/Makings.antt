@@ -6,8 +6,8 @@ use Rattle.run_shows.specs.Given.SeizeWordsMem.{word_at}
 use Rattle.run_shows.specs.Given.SeizeWordsWord.{block_in}
 use Rattle.run_shows.specs.Given.SeizeWordsDeclared.at.At.TheVariants.{Root, Used, Slot, Entry, Word}
 use Rattle.run_shows.specs.Given.SeizeWorld.{World}
-use Rattle.run_shows.specs.Given.SeizeDeclared.progress.Progress.{Progress}
-use Rattle.run_shows.specs.Given.SeizeDeclared.progress.Progress.TheVariants as progress
+use Rattle.run_shows.specs.Given.SeizeDeclared.advance.Advance.{Advance}
+use Rattle.run_shows.specs.Given.SeizeDeclared.advance.Advance.TheVariants as progress
 use Rattle.run_shows.specs.Given.TablesDeclared.node.Node.{Node}
 use Rattle.run_shows.specs.Given.TablesDeclared.setting.Setting.{Setting}
 use Rattle.run_shows.specs.Given.TablesDeclared.status.TheConstants.Status.{ABORTED}
@@ -15,7 +15,7 @@ use Rattle.run_shows.specs.Given.ResizeDeclared.new_map.NewMap.{NewMap}
 use Rattle.run_shows.specs.Given.RunsDeclared.effect.Effect.{Effect}
 use Rattle.run_shows.specs.Given.RunsDeclared.effect.Effect.TheVariants.{Asked}
 use Rattle.run_shows.specs.Given.RunsDeclared.effect.Growth.TheVariants.{ABlock}
-use Rattle.run_shows.specs.Given.RunsDeclared.effect.Table.{Table}
+use Rattle.run_shows.specs.Given.RunsDeclared.effect.TableId.{TableId}
 use Rattle.run_shows.specs.Given.SchedulesEffects.{with_effects, AtEachEffect}
 use Rattle.run_shows.specs.Given.SchedulesMoment.{Moment}
 use Rattle.run_shows.specs.Given.EffectsDeclared.changed.Changed.{Changed}
@@ -103,7 +103,7 @@ module _ {K V : Type 0} (map : ℕ) (of : Option ℕ) (m : Moment K V) (known : 
   root_pairs false b r = linked_pairs b r
 
   -- a word of a block that is no table, or that goes on naming what it named
-  word_beside : (field b : ℕ) (r : Role) (q : Bool) (was is : Role) → ((t : Table) (len : ℕ) → r ≡ role.Table t len → q ≡ true)
+  word_beside : (field b : ℕ) (r : Role) (q : Bool) (was is : Role) → ((t : TableId) (len : ℕ) → r ≡ role.Table t len → q ≡ true)
       → IsBeside (in_block its r field known.stored q was is) × WerePairs known (in_block_on its r field q b is known)
   word_beside field b role.Free q was is names = ((tt, tt), same_pairs known known refl)
   word_beside field b (role.OwnPair i) q was is names = ((tt, tt), same_pairs known known refl)
@@ -113,7 +113,7 @@ module _ {K V : Type 0} (map : ℕ) (of : Option ℕ) (m : Moment K V) (known : 
   word_beside field b (role.Table t len) true was is names = ((tt, tt), same_pairs known known refl)
   word_beside field b (role.Table t len) false was is names = absurd (let e = names t len refl in cc e)
 
-  module _ (w w2 : World (Node K V)) (i root : ℕ) (free : known.roles 0 ≡ role.Free) (no_table : (x : ℕ) (q : Bool) → TellsMaking w i root (changed.Wrote (Word x 0) 0 0) → (t : Table) (len : ℕ) → known.roles x ≡ role.Table t len → q ≡ true) where
+  module _ (w w2 : World (Node K V)) (i root : ℕ) (free : known.roles 0 ≡ role.Free) (no_table : (x : ℕ) (q : Bool) → TellsMaking w i root (changed.Wrote (Word x 0) 0 0) → (t : TableId) (len : ℕ) → known.roles x ≡ role.Table t len → q ≡ true) where
     making_beside : (told : Changed) → TellsMaking w i root told → LeavesBy w.memory w2.memory told → IsBeside (effects_of its known told) × WerePairs known (known_after its told known)
     making_beside changed.Nothing so l = ((tt, tt), same_pairs known known refl)
     making_beside (changed.Wrote (Root r) before after) so l = (
@@ -154,7 +154,7 @@ module _ {K V : Type 0} (hash : K → ℕ) (setting : Setting) (places : ℕ) (s
       never n k pair = let l = pair.0 in let none = (has_none new).0 in omega (arith, l, none)
 
 module _ {K V : Type 0} (same : K → K → Bool) (hash : ℕ → K → ℕ) (s : Scene K V) (old new : Held K V) (i : ℕ) (b : Beginning K) (opening : NewMap) (w2 : World (Node K V)) (v : Moment K V) (known2 : Known) where
-  places_then : (told : Progress Setting) (comes : MakingComesTo same hash s old new i b opening w2 told) → ShowsPlaces v known2 s.maps → ShowsPlaces v known2 (making_after same hash s old new i b opening w2 told comes).maps
+  places_then : (told : Advance Setting) (comes : MakingComesTo same hash s old new i b opening w2 told) → ShowsPlaces v known2 s.maps → ShowsPlaces v known2 (making_after same hash s old new i b opening w2 told comes).maps
   places_then progress.Goes comes h = h
   places_then progress.Waits comes h = h
   places_then (progress.Refused fault) comes h = h

@@ -9,7 +9,7 @@ use Rattle.run_shows.specs.Given.TablesDeclared.table_words.TheConstants.{NEXT, 
 use Rattle.run_shows.specs.Given.RunsDeclared.effect.Effect.{Effect}
 use Rattle.run_shows.specs.Given.RunsDeclared.effect.Effect.TheVariants.{Deferred, Retired}
 use Rattle.run_shows.specs.Given.RunsDeclared.effect.Spot.{Spot}
-use Rattle.run_shows.specs.Given.RunsDeclared.effect.Table.{Table}
+use Rattle.run_shows.specs.Given.RunsDeclared.effect.TableId.{TableId}
 use Rattle.run_shows.specs.Given.RunsDeclared.effect.Thing.TheVariants.{APair, ATable}
 use Rattle.run_shows.specs.Given.EffectsEffects.{names_same, followed_by, led_to, carried, placed, spot_at, is_place, in_table, in_block, batched, named, written_by}
 use Rattle.run_shows.specs.Given.EffectsKnown.{Known}
@@ -40,7 +40,7 @@ module _ (known : Known) where
     led_named (role.Table t len) (role.Table u other) = (tt, tt)
     led_named _ _ = tt
 
-  carried_named : (t : Table) (b : ℕ) (r : Role) → known.roles b ≡ r → HaveBlocks (carried t r)
+  carried_named : (t : TableId) (b : ℕ) (r : Role) → known.roles b ≡ r → HaveBlocks (carried t r)
   carried_named t b (role.Pair n) e = ((b, e), tt)
   carried_named t b role.Free e = tt
   carried_named t b (role.OwnPair i) e = tt
@@ -55,7 +55,7 @@ module _ (known : Known) where
   placed_named s stored role.Free (role.Pair n) = (tt, tt)
   placed_named s stored _ _ = tt
 
-  module _ (acting : Acting) (t : Table) (len field stored : ℕ) (was : Role) (b : ℕ) (is : Role) (e : known.roles b ≡ is) where
+  module _ (acting : Acting) (t : TableId) (len field stored : ℕ) (was : Role) (b : ℕ) (is : Role) (e : known.roles b ≡ is) where
     table_named : HaveBlocks (in_table acting t len field stored was is)
     table_named = by (field == NEXT)
       where

@@ -10,7 +10,7 @@ use Rattle.run_shows.specs.Given.TablesDeclared.status.TheConstants.Status.{ABOR
 use Rattle.run_shows.specs.Given.RunsDeclared.effect.Effect.{Effect}
 use Rattle.run_shows.specs.Given.RunsDeclared.effect.Effect.TheVariants.{Copied, Stored, Replaced, Promoted}
 use Rattle.run_shows.specs.Given.RunsDeclared.effect.Spot.{Spot}
-use Rattle.run_shows.specs.Given.RunsDeclared.effect.Table.{Table}
+use Rattle.run_shows.specs.Given.RunsDeclared.effect.TableId.{TableId}
 use Rattle.run_shows.specs.Given.SchedulesEffects.{later, is_chunked, spot_by, with_effects}
 use Rattle.run_shows.specs.Given.SchedulesLists.{put}
 use Rattle.run_shows.specs.Given.SchedulesMoment.{Moment}
@@ -147,7 +147,7 @@ module _ {K V : Type 0} (same : K → K → Bool) (slot caller map : ℕ) (name 
         let aside = aside_all name (Some map) effects m (calm_aside effects calm.calm) in
         shown_all (led effects) known2 calm.keeps (subst (λ (x : Chart K). x.status 0 ≢ ABORTED) (sym is) lying.whole)
         (λ n l seen. record {
-          born = λ t i b e. subst (λ (f : ℕ → Table). (f (number n)).turn ≤ t) (sym aside.born) (was_born n l seen t i b (ap (λ (x : Chart K). named_by (x.place t i)) (sym is) ∙ e));
+          born = λ t i b e. subst (λ (f : ℕ → TableId). (f (number n)).turn ≤ t) (sym aside.born) (was_born n l seen t i b (ap (λ (x : Chart K). named_by (x.place t i)) (sym is) ∙ e));
           lies = λ current. aside_lies (led effects) aside n (subst (λ (x : Chart K). Lies q x n (m.spot (number n)) (m.copy (number n)) (m.born (number n)).turn) (sym is)
               (was_lying n (ap (λ (x : Chart K). x.current n) (sym is) ∙ current)));
         })
@@ -155,7 +155,7 @@ module _ {K V : Type 0} (same : K → K → Bool) (slot caller map : ℕ) (name 
       where
         aside_lies : (v : Moment K V) → AreAside m v → (n : ℕ) → Lies q went.c2 n (m.spot (number n)) (m.copy (number n)) (m.born (number n)).turn → Lies q went.c2 n (v.spot (number n)) (v.copy (number n)) (v.born (number n)).turn
         aside_lies v aside n h =
-            subst (λ (f : ℕ → Table). Lies q went.c2 n (v.spot (number n)) (v.copy (number n)) (f (number n)).turn) (sym aside.born)
+            subst (λ (f : ℕ → TableId). Lies q went.c2 n (v.spot (number n)) (v.copy (number n)) (f (number n)).turn) (sym aside.born)
             (subst (λ (f : ℕ → Spot). Lies q went.c2 n (v.spot (number n)) (f (number n)) (m.born (number n)).turn) (sym aside.copy)
             (subst (λ (f : ℕ → Spot). Lies q went.c2 n (f (number n)) (m.copy (number n)) (m.born (number n)).turn) (sym aside.spot) h))
 
@@ -170,9 +170,9 @@ module _ {K V : Type 0} (same : K → K → Bool) (slot caller map : ℕ) (name 
       shown_then : (v : Moment K V) (n : ℕ) → n < c.stored → s.blocks.pair_known n ≡ true → v.born (number n) ≡ m.born (number n)
           → (d.current n ≡ true → Lies q d n (v.spot (number n)) (v.copy (number n)) (m.born (number n)).turn) → Shown v n (number n)
       shown_then v n l seen born lies = record {
-        born = λ t i b e. subst (λ (x : Table). x.turn ≤ t) (sym born)
+        born = λ t i b e. subst (λ (x : TableId). x.turn ≤ t) (sym born)
             (born_move same (spot_of s.hash) q c rule moments lying.whole n l (m.born (number n)).turn (was_born n l seen) move allowed t i b (ap (λ (x : Chart K). named_by (x.place t i)) (sym is) ∙ e));
-        lies = λ current. subst (λ (x : Table). Lies q went.c2 n (v.spot (number n)) (v.copy (number n)) x.turn) (sym born)
+        lies = λ current. subst (λ (x : TableId). Lies q went.c2 n (v.spot (number n)) (v.copy (number n)) x.turn) (sym born)
             (subst (λ (x : Chart K). Lies q x n (v.spot (number n)) (v.copy (number n)) (m.born (number n)).turn) (sym is) (lies (ap (λ (x : Chart K). x.current n) (sym is) ∙ current)));
       }
 
@@ -191,7 +191,7 @@ module _ {K V : Type 0} (same : K → K → Bool) (slot caller map : ℕ) (name 
       aside_then e k done all keeps as_many spares =
           let aside = aside_all name (Some map) e m all in
           as_done e k done (shown_all (led e) k keeps whole_then
-          (λ n l seen. shown_then (led e) n l seen (ap (λ (f : ℕ → Table). f (number n)) aside.born)
+          (λ n l seen. shown_then (led e) n l seen (ap (λ (f : ℕ → TableId). f (number n)) aside.born)
           (λ now. subst (λ (f : ℕ → Spot). Lies q d n ((led e).spot (number n)) (f (number n)) (m.born (number n)).turn) (sym aside.copy)
           (subst (λ (f : ℕ → Spot). Lies q d n (f (number n)) (m.copy (number n)) (m.born (number n)).turn) (sym aside.spot) (plain_then n l (spares n) now))))
           (no_new as_many (led e) k))
@@ -214,13 +214,13 @@ module _ {K V : Type 0} (same : K → K → Bool) (slot caller map : ℕ) (name 
         older n l e = let many = shown_blocks.stored in let le = (shown.pairs.numbered n l).1 in omega (arith, e, many, le)
 
         old_then : (n : ℕ) → n < c.stored → s.blocks.pair_known n ≡ true → Shown v n (number n)
-        old_then n l seen = shown_then v n l seen (ap (λ (f : ℕ → Table). f (number n)) born_is ∙ put_elsewhere next (table_of map t) m.born (number n) (older n l))
+        old_then n l seen = shown_then v n l seen (ap (λ (f : ℕ → TableId). f (number n)) born_is ∙ put_elsewhere next (table_of map t) m.born (number n) (older n l))
             (λ now. subst (λ (f : ℕ → Spot). Lies q d n (v.spot (number n)) (f (number n)) (m.born (number n)).turn) (sym copy_is)
             (subst (λ (x : Spot). Lies q d n x (m.copy (number n)) (m.born (number n)).turn)
             (sym (ap (λ (f : ℕ → Spot). f (number n)) spot_is ∙ put_elsewhere next (spot_in t i) m.spot (number n) (older n l))) (plain_then n l (spares n) now)))
 
         its_born : (v.born next).turn ≡ t
-        its_born = ap (λ (f : ℕ → Table). (f next).turn) born_is ∙ ap (λ (x : Table). x.turn) (put_here next (table_of map t) m.born next refl)
+        its_born = ap (λ (f : ℕ → TableId). (f next).turn) born_is ∙ ap (λ (x : TableId). x.turn) (put_here next (table_of map t) m.born next refl)
 
         its_lies : Lies q d c.stored (v.spot next) (v.copy next) (v.born next).turn
         its_lies =

@@ -4,7 +4,7 @@ use Rattle.std.proofs.Common.{refl, ap, sym, subst, ◌∙◌, arith}
 use Rattle.run_shows.specs.Given.TablesChunks.{is_incremental}
 use Rattle.run_shows.specs.Given.RunsDeclared.effect.Effect.{Effect}
 use Rattle.run_shows.specs.Given.RunsDeclared.effect.Spot.{Spot}
-use Rattle.run_shows.specs.Given.RunsDeclared.effect.Table.{Table}
+use Rattle.run_shows.specs.Given.RunsDeclared.effect.TableId.{TableId}
 use Rattle.run_shows.specs.Given.SchedulesEffects.{with_effects}
 use Rattle.run_shows.specs.Given.SchedulesMoment.{Moment}
 use Rattle.run_shows.specs.Given.RuleWords.{Blocks}
@@ -24,10 +24,10 @@ module _ {K V : Type 0} (m v : Moment K V) (known known2 : Known) (aside : AreAs
   -- a map of which less may be looked at
   part_lies : (s : Standing K) (blocks : Blocks) (sights : ℕ → Sight) → IsPartOf s.chart blocks s.blocks → ShowsSpots s m known → ShowsSpots (record s { blocks = blocks; sights = sights }) v known2
   part_lies s blocks sights part h = record {
-    born = λ n k t i b pair e. subst (λ (f : ℕ → Table). (f k).turn ≤ t) (sym aside.born) (h.born n k t i b (was n k pair) e);
+    born = λ n k t i b pair e. subst (λ (f : ℕ → TableId). (f k).turn ≤ t) (sym aside.born) (h.born n k t i b (was n k pair) e);
     whole = h.whole;
     lies = λ n k pair current.
-        subst (λ (f : ℕ → Table). LiesAt s.chart (is_incremental s.setting.mode) n (v.spot k) (f k).turn) (sym aside.born)
+        subst (λ (f : ℕ → TableId). LiesAt s.chart (is_incremental s.setting.mode) n (v.spot k) (f k).turn) (sym aside.born)
         (subst (λ (f : ℕ → Spot). LiesAt s.chart (is_incremental s.setting.mode) n (f k) (m.born k).turn) (sym aside.spot) (h.lies n k (was n k pair) current));
     copied = λ e n k pair current. subst (λ (f : ℕ → Spot). IsCopiedTo s.chart n (f k)) (sym aside.copy) (h.copied e n k (was n k pair) current);
   }

@@ -4,7 +4,7 @@ use Rattle.std.specs.List.{list_any}
 use Rattle.std.proofs.Common.{refl, ap, sym, subst, ◌∙◌, arith, inl, inr}
 use Rattle.std.proofs.lemmas.Bool.{eq-eqb, cases_eq}
 use Rattle.run_shows.specs.Given.RunsDeclared.shapes.TableShape.{TableShape}
-use Rattle.run_shows.specs.Given.RunsDeclared.effect.Table.{Table}
+use Rattle.run_shows.specs.Given.RunsDeclared.effect.TableId.{TableId}
 use Rattle.run_shows.specs.Given.SchedulesEffects.{at_stage}
 use Rattle.run_shows.specs.Given.SchedulesLists.{put}
 use Rattle.run_shows.specs.Given.SchedulesMoment.{Place, Stage, IsLinked, IsRetired, TableThere, Moment}
@@ -39,7 +39,7 @@ module _ {K V : Type 0} where
   -- what is not reclaimed is the same
   pub record AsUnreclaimed (m v : Moment K V) : Type 0 where
     pub place : (k : ℕ) → is_unreclaimed (v.place k) ≡ is_unreclaimed (m.place k)
-    pub tables : (t : Table) → is_stage is_there t v ≡ is_stage is_there t m
+    pub tables : (t : TableId) → is_stage is_there t v ≡ is_stage is_there t m
 
   pub unreclaimed_same : (m v : Moment K V) (known known2 : Known) → AsUnreclaimed m v → StayOfMaps known known2 → WereOfMaps known known2 → ShowsUnreclaimed m known → ShowsUnreclaimed v known2
   unreclaimed_same m v known known2 same keeps back h = record {
@@ -84,13 +84,13 @@ module _ {K V : Type 0} where
       next : ℕ
       next = known.stored + 1
 
-      same_tables : (t : Table) → is_stage is_there t v ≡ is_stage is_there t m
+      same_tables : (t : TableId) → is_stage is_there t v ≡ is_stage is_there t m
       same_tables t = ap (list_any (λ u. same_table u.table t && is_there u.stage)) tables
 
       other : (x k : ℕ) → k ≢ next → put b (role.Pair next) known.roles x ≡ role.Pair k → x ≢ b
       other x k ne is z = ne (let one : role.Pair next ≡ role.Pair k = sym (put_here b (role.Pair next) known.roles x z) ∙ is in cc one)
 
-      its_table : (x len : ℕ) (t : Table) → put b (role.Pair next) known.roles x ≡ role.Table t len → known.roles x ≡ role.Table t len
+      its_table : (x len : ℕ) (t : TableId) → put b (role.Pair next) known.roles x ≡ role.Table t len → known.roles x ≡ role.Table t len
       its_table x len t is =
           sym (put_elsewhere b (role.Pair next) known.roles x (λ z. (let one : role.Pair next ≡ role.Table t len = sym (put_here b (role.Pair next) known.roles x z) ∙ is in cc one))) ∙ is
 
@@ -141,7 +141,7 @@ any_either p (y ∷ xs) x e = by (or_end (p y) (list_any p (xs ++ x ∷ [])) e) 
     by (inr b) rest = later (rest b)
 
 -- the same table is this one
-pub table_is : (t u : Table) → same_table t u ≡ true → t ≡ u
+pub table_is : (t u : TableId) → same_table t u ≡ true → t ≡ u
 table_is t u e =
     let two = and_both (t.map == u.map) (t.turn == u.turn) e in
     let maps : t.map ≡ u.map = number_is t.map u.map two.0 in
@@ -151,12 +151,12 @@ table_is t u e =
     number_is : (a b : ℕ) → (a == b) ≡ true → a ≡ b
     number_is a b e = grind (arith, e)
 
-pub same_itself : (t : Table) → same_table t t ≡ true
+pub same_itself : (t : TableId) → same_table t t ≡ true
 same_itself t = ap (λ (q : Bool). q && (t.turn == t.turn)) (eq-eqb t.map t.map refl) ∙ eq-eqb t.turn t.turn refl
 
 module _ {K V : Type 0} where
   -- a table is linked, in a block that was none of a map
-  pub linked_unreclaimed : (m v : Moment K V) (known : Known) (b len : ℕ) (t : Table) (shape : TableShape) → (IsLasting (known.roles b) → ⊥) → ((x n : ℕ) → known.roles x ≡ role.Table t n → ⊥) → v.place ≡ m.place → v.tables ≡ m.tables ++ record { table = t; shape = shape; stage = IsLinked } ∷ []
+  pub linked_unreclaimed : (m v : Moment K V) (known : Known) (b len : ℕ) (t : TableId) (shape : TableShape) → (IsLasting (known.roles b) → ⊥) → ((x n : ℕ) → known.roles x ≡ role.Table t n → ⊥) → v.place ≡ m.place → v.tables ≡ m.tables ++ record { table = t; shape = shape; stage = IsLinked } ∷ []
       → ShowsUnreclaimed m known → ShowsUnreclaimed v (with_role b (role.Table t len) known)
   linked_unreclaimed m v known b len t shape own none place tables h = record {
     pairs = λ x k is. same_place k ∙ h.pairs x k (sym (put_elsewhere b its known.roles x (λ z. (let one : its ≡ role.Pair k = sym (put_here b its known.roles x z) ∙ is in cc one))) ∙ is);
@@ -165,7 +165,7 @@ module _ {K V : Type 0} where
     tables = λ x n u is. elim (cases_eq x b) as (λ _. is_stage is_there u v ≡ true) [
       | inl z ↦ (let one : its ≡ role.Table u n = sym (put_here b its known.roles x z) ∙ is in let u_is : t ≡ u = cc one in
           ap (list_any (λ y. same_table y.table u && is_there y.stage)) tables ∙ any_new (λ y. same_table y.table u && is_there y.stage) m.tables new
-          (ap (λ (y : Table). same_table t y && true) (sym u_is) ∙ ap (λ (q : Bool). q && true) (same_itself t)))
+          (ap (λ (y : TableId). same_table t y && true) (sym u_is) ∙ ap (λ (q : Bool). q && true) (same_itself t)))
       | inr ne ↦ ap (list_any (λ y. same_table y.table u && is_there y.stage)) tables
           ∙ any_before (λ y. same_table y.table u && is_there y.stage) m.tables new (h.tables x n u (sym (put_elsewhere b its known.roles x ne) ∙ is))
     ];
@@ -182,40 +182,40 @@ module _ {K V : Type 0} where
       same_place : (k : ℕ) → is_unreclaimed (v.place k) ≡ is_unreclaimed (m.place k)
       same_place k = ap (λ (f : ℕ → Place). is_unreclaimed (f k)) place
 
-      There : Table → Type 0
+      There : TableId → Type 0
       There u = (x : ℕ) × (n : ℕ) × (put b its known.roles x ≡ role.Table u n)
 
-      there : (u : Table) → (is_stage is_there u m ≡ true) ⊎ ((same_table t u && true) ≡ true) → There u
+      there : (u : TableId) → (is_stage is_there u m ≡ true) ⊎ ((same_table t u && true) ≡ true) → There u
       there u (inl before) =
           let was = h.tables_there u before in (was.0, was.1, put_elsewhere b its known.roles was.0 (λ z. own (subst IsLasting (sym (ap known.roles (sym z) ∙ was.2)) tt)) ∙ was.2)
-      there u (inr now) = (b, len, put_here b its known.roles b refl ∙ ap (λ (x : Table). role.Table x len) (table_is t u (and_both (same_table t u) true now).0))
+      there u (inr now) = (b, len, put_here b its known.roles b refl ∙ ap (λ (x : TableId). role.Table x len) (table_is t u (and_both (same_table t u) true now).0))
 
-      other : (x n : ℕ) (u : Table) → x ≢ b → put b its known.roles x ≡ role.Table u n → known.roles x ≡ role.Table u n
+      other : (x n : ℕ) (u : TableId) → x ≢ b → put b its known.roles x ≡ role.Table u n → known.roles x ≡ role.Table u n
       other x n u ne is = sym (put_elsewhere b its known.roles x ne) ∙ is
 
-      its_table : (x n : ℕ) (u : Table) → x ≡ b → put b its known.roles x ≡ role.Table u n → t ≡ u
+      its_table : (x n : ℕ) (u : TableId) → x ≡ b → put b its known.roles x ≡ role.Table u n → t ≡ u
       its_table x n u e is = let one : its ≡ role.Table u n = sym (put_here b its known.roles x e) ∙ is in cc one
 
-      once : (x y n l : ℕ) (u : Table) → (x ≡ b) ⊎ (x ≢ b) → (y ≡ b) ⊎ (y ≢ b) → put b its known.roles x ≡ role.Table u n → put b its known.roles y ≡ role.Table u l → x ≡ y
+      once : (x y n l : ℕ) (u : TableId) → (x ≡ b) ⊎ (x ≢ b) → (y ≡ b) ⊎ (y ≢ b) → put b its known.roles x ≡ role.Table u n → put b its known.roles y ≡ role.Table u l → x ≡ y
       once x y n l u (inl e) (inl f) is is2 = e ∙ sym f
-      once x y n l u (inl e) (inr f) is is2 = absurd (none y l (other y l u f is2 ∙ ap (λ (z : Table). role.Table z l) (sym (its_table x n u e is))))
-      once x y n l u (inr e) (inl f) is is2 = absurd (none x n (other x n u e is ∙ ap (λ (z : Table). role.Table z n) (sym (its_table y l u f is2))))
+      once x y n l u (inl e) (inr f) is is2 = absurd (none y l (other y l u f is2 ∙ ap (λ (z : TableId). role.Table z l) (sym (its_table x n u e is))))
+      once x y n l u (inr e) (inl f) is is2 = absurd (none x n (other x n u e is ∙ ap (λ (z : TableId). role.Table z n) (sym (its_table y l u f is2))))
       once x y n l u (inr e) (inr f) is is2 = h.tables_once x y n l u (other x n u e is) (other y l u f is2)
 
 -- a table that is there is retired
-module _ (t : Table) where
-  abbrev pub Now : Table → TableThere → Bool
+module _ (t : TableId) where
+  abbrev pub Now : TableId → TableThere → Bool
   Now u x = same_table x.table u && is_there x.stage
 
   -- other tables are as they were
-  staged_one : (to : Stage) (u : Table) (x : TableThere) → (same_table x.table t ≡ true → same_table x.table u ≡ false) → Now u (at_stage t to x) ≡ Now u x
+  staged_one : (to : Stage) (u : TableId) (x : TableThere) → (same_table x.table t ≡ true → same_table x.table u ≡ false) → Now u (at_stage t to x) ≡ Now u x
   staged_one to u x apart = by (same_table x.table t) refl
     where
       by : (q : Bool) → same_table x.table t ≡ q → Now u (if q then record x { stage = to } else x) ≡ Now u x
       by true e = ap (λ (z : Bool). z && is_there to) (apart e) ∙ sym (ap (λ (z : Bool). z && is_there x.stage) (apart e))
       by false e = refl
 
-  pub staged_other : (to : Stage) (u : Table) (xs : List TableThere) → (t ≡ u → ⊥) → list_any (Now u) (map (at_stage t to) xs) ≡ list_any (Now u) xs
+  pub staged_other : (to : Stage) (u : TableId) (xs : List TableThere) → (t ≡ u → ⊥) → list_any (Now u) (map (at_stage t to) xs) ≡ list_any (Now u) xs
   staged_other to u [] ne = refl
   staged_other to u (x ∷ xs) ne =
       ap (λ (q : Bool). q || list_any (Now u) (map (at_stage t to) xs)) (staged_one to u x (λ e. apart (same_table x.table u) refl e)) ∙ ap (λ (q : Bool). Now u x || q) (staged_other to u xs ne)
@@ -238,14 +238,14 @@ module _ (t : Table) where
       by (inr b) rest = or_right (Now t (at_stage t IsRetired x)) (list_any (Now t) (map (at_stage t IsRetired) xs)) (rest b)
 
 module _ {K V : Type 0} where
-  pub retired_unreclaimed : (m v : Moment K V) (t : Table) → v.place ≡ m.place → v.tables ≡ map (at_stage t IsRetired) m.tables → is_stage is_there t m ≡ true → AsUnreclaimed m v
+  pub retired_unreclaimed : (m v : Moment K V) (t : TableId) → v.place ≡ m.place → v.tables ≡ map (at_stage t IsRetired) m.tables → is_stage is_there t m ≡ true → AsUnreclaimed m v
   retired_unreclaimed m v t place tables was = record {
     place = λ k. ap (λ (f : ℕ → Place). is_unreclaimed (f k)) place;
     tables = λ u. ap (list_any (Now t u)) tables ∙ by u (same_table t u) refl;
   }
     where
-      by : (u : Table) (q : Bool) → same_table t u ≡ q → list_any (Now t u) (map (at_stage t IsRetired) m.tables) ≡ list_any (Now t u) m.tables
+      by : (u : TableId) (q : Bool) → same_table t u ≡ q → list_any (Now t u) (map (at_stage t IsRetired) m.tables) ≡ list_any (Now t u) m.tables
       by u true e =
           let u_is : t ≡ u = table_is t u e in
-          subst (λ (x : Table). list_any (Now t x) (map (at_stage t IsRetired) m.tables) ≡ list_any (Now t x) m.tables) u_is (retired_there t m.tables was ∙ sym was)
+          subst (λ (x : TableId). list_any (Now t x) (map (at_stage t IsRetired) m.tables) ≡ list_any (Now t x) m.tables) u_is (retired_there t m.tables was ∙ sym was)
       by u false e = staged_other t IsRetired u m.tables (λ z. (let same : same_table t u ≡ true = ap (same_table t) (sym z) ∙ same_itself t in cc (same, e)))

@@ -5,8 +5,8 @@ use Rattle.run_shows.specs.Given.TablesDeclared.node.Node.TheVariants as node
 use Rattle.run_shows.specs.Given.RunsSame.{is_same}
 use Rattle.run_shows.specs.Given.RawDeclared.machines.asking.Asking.{Asking as AskingAt}
 use Rattle.run_shows.specs.Given.RawDeclared.machines.asking.Asking.TheVariants as asking
-use Rattle.run_shows.specs.Given.RawDeclared.machines.asking.Reply.{Reply as MachineReply}
-use Rattle.run_shows.specs.Given.RawDeclared.machines.asking.Reply.TheVariants as reply
+use Rattle.run_shows.specs.Given.RawDeclared.machines.asking.MachineReply.{MachineReply}
+use Rattle.run_shows.specs.Given.RawDeclared.machines.asking.MachineReply.TheVariants as reply
 use Rattle.run_shows.specs.Given.RawDeclared.machines.call.Calling.{Calling}
 use Rattle.run_shows.specs.Given.RawDeclared.machines.call.Calling.TheVariants as at
 use Rattle.run_shows.specs.Given.RunsDeclared.call.Call.{Call}

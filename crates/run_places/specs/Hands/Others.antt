@@ -1,6 +1,6 @@
 -- Whoever takes a step that is none of a call, the rows within calls reclaim nothing still.
 use Rattle.std.specs.Prelude.{◌≡◌, ℕ, Bool, Option, Some}
-use Rattle.run_shows.specs.Given.SeizeDeclared.progress.Progress.{Progress as Making}
+use Rattle.run_shows.specs.Given.SeizeDeclared.advance.Advance.{Advance as Making}
 use Rattle.run_shows.specs.Given.SeizeDeclared.rows.settle.Settled.{Settled}
 use Rattle.run_shows.specs.Given.TablesDeclared.node.Node.{Node}
 use Rattle.run_shows.specs.Given.TablesDeclared.setting.Setting.{Setting}

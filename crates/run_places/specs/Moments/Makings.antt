@@ -1,7 +1,7 @@
 -- Makings of maps: where one begins, its map comes, and it takes its steps, the moment shows all of the scene then.
 use Rattle.std.specs.Prelude.{◌≡◌, ℕ, Bool, List, [], Option, Some, None}
 use Rattle.run_shows.specs.Given.SeizeWorld.{with_at}
-use Rattle.run_shows.specs.Given.SeizeDeclared.progress.Progress.{Progress}
+use Rattle.run_shows.specs.Given.SeizeDeclared.advance.Advance.{Advance}
 use Rattle.run_shows.specs.Given.TablesDeclared.setting.Setting.{Setting}
 use Rattle.run_shows.specs.Given.SchedulesBeginning.{with_map}
 use Rattle.run_shows.specs.Given.SchedulesEffects.{with_effects}
@@ -38,14 +38,14 @@ module _ (K V : Type 0) (same : K → K → Bool) (hash : ℕ → K → ℕ) whe
   abbrev pub MakingsKeepBlocks : Type 0
   MakingsKeepBlocks =
       (name : ℕ → List ℕ) (m : Moment K V) (known : Known) (s : Scene K V) (old new : Held K V) → IsAt same hash old s → Shows same name m known s → ShowsUnreclaimed m known
-      → (i : ℕ) (told : Progress Setting) → MakingLeads same hash i told s old new → (b : Beginning K) → s.makers i ≡ Some b → (of : Option ℕ) → WasNew b.map told m
+      → (i : ℕ) (told : Advance Setting) → MakingLeads same hash i told s old new → (b : Beginning K) → s.makers i ≡ Some b → (of : Option ℕ) → WasNew b.map told m
       → ShowsUnreclaimed (with_effects None of (effects_of (Making b.map) known new.changed) m) (known_after (Making b.map) new.changed known)
 
   -- And all is shown after each step of a making, whether its map is there or not; after the last one with the map, if that stands, and was there as a new one.
   abbrev pub MakingsKeepWhole : Type 0
   MakingsKeepWhole =
       (name : ℕ → List ℕ) (m : Moment K V) (known : Known) (s : Scene K V) (old new : Held K V) → IsAt same hash old s → ShowsWhole same name m known s
-      → (i : ℕ) (told : Progress Setting) (leads : MakingLeads same hash i told s old new) (b : Beginning K) (here : s.makers i ≡ Some b) (of : Option ℕ) → WasNew b.map told m
+      → (i : ℕ) (told : Advance Setting) (leads : MakingLeads same hash i told s old new) (b : Beginning K) (here : s.makers i ≡ Some b) (of : Option ℕ) → WasNew b.map told m
       → (let to = leads b here in
       ShowsWhole same name (with_effects None of (effects_of (Making b.map) known new.changed) m) (known_after (Making b.map) new.changed known)
       (making_after same hash s old new i b to.0 to.2.step.w2 told to.3))

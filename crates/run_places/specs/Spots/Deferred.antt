@@ -4,7 +4,7 @@ use Rattle.run_shows.specs.Given.RawDeclared.machines.progress.Progress.{Progres
 use Rattle.run_shows.specs.Given.TablesDeclared.node.Node.{Node}
 use Rattle.run_shows.specs.Given.RunsDeclared.effect.Effect.{Effect}
 use Rattle.run_shows.specs.Given.RunsDeclared.effect.Effect.TheVariants.{Stored, Deferred}
-use Rattle.run_shows.specs.Given.RunsDeclared.effect.Table.{Table}
+use Rattle.run_shows.specs.Given.RunsDeclared.effect.TableId.{TableId}
 use Rattle.run_shows.specs.Given.SchedulesEffects.{with_effects, AtEachEffect}
 use Rattle.run_shows.specs.Given.SchedulesLists.{is_among}
 use Rattle.run_shows.specs.Given.SchedulesMoment.{Moment}
@@ -37,7 +37,7 @@ EffectsLeaveOutside K V =
 
 -- So it does behind each table by itself.
 abbrev pub EachWaitsOutside : Type 0 → Type 0 → Type 0
-EachWaitsOutside K V = (m : Moment K V) → WaitOutside m → (t : Table) (n : ℕ) → is_among n (behind t m.deferred) ≡ true → is_in_a_map (m.place n) ≡ false
+EachWaitsOutside K V = (m : Moment K V) → WaitOutside m → (t : TableId) (n : ℕ) → is_among n (behind t m.deferred) ≡ true → is_in_a_map (m.place n) ≡ false
 
 module _ (K V : Type 0) (same : K → K → Bool) (hash : ℕ → K → ℕ) where
   -- The promise of a step of a call.

@@ -1,6 +1,6 @@
 -- Which blocks are not reclaimed at a moment of a run: those of the pairs and the tables that were not given back.
 use Rattle.std.specs.Prelude.{◌≡◌, ℕ, Bool, true, false}
-use Rattle.run_shows.specs.Given.RunsDeclared.effect.Table.{Table}
+use Rattle.run_shows.specs.Given.RunsDeclared.effect.TableId.{TableId}
 use Rattle.run_shows.specs.Given.SchedulesMoment.{Place, Unborn, GivenBack, Moment}
 use Rattle.run_shows.specs.Given.SchedulesViews.{is_there, is_stage}
 use Rattle.run_shows.specs.Given.EffectsKnown.{Known}
@@ -16,6 +16,6 @@ is_unreclaimed _ = true
 pub record ShowsUnreclaimed {K V : Type 0} (m : Moment K V) (known : Known) : Type 0 where
   pub pairs : (b k : ℕ) → known.roles b ≡ role.Pair k → is_unreclaimed (m.place k) ≡ true
   pub pairs_there : (k : ℕ) → is_unreclaimed (m.place k) ≡ true → (b : ℕ) × (known.roles b ≡ role.Pair k)
-  pub tables : (b len : ℕ) (t : Table) → known.roles b ≡ role.Table t len → is_stage is_there t m ≡ true
-  pub tables_there : (t : Table) → is_stage is_there t m ≡ true → (b : ℕ) × (len : ℕ) × (known.roles b ≡ role.Table t len)
-  pub tables_once : (b d len len2 : ℕ) (t : Table) → known.roles b ≡ role.Table t len → known.roles d ≡ role.Table t len2 → b ≡ d
+  pub tables : (b len : ℕ) (t : TableId) → known.roles b ≡ role.Table t len → is_stage is_there t m ≡ true
+  pub tables_there : (t : TableId) → is_stage is_there t m ≡ true → (b : ℕ) × (len : ℕ) × (known.roles b ≡ role.Table t len)
+  pub tables_once : (b d len len2 : ℕ) (t : TableId) → known.roles b ≡ role.Table t len → known.roles d ≡ role.Table t len2 → b ≡ d

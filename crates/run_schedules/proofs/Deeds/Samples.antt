@@ -5,8 +5,8 @@ mod Swept
 use Rattle.std.specs.Prelude.{nat_eq}
 use Rattle.std.proofs.Common.{◌≡◌, ℕ, true, false, List, [], ◌∷◌, ◌⊎◌, inl, inr, refl, Some, None}
 use Rattle.map_tables.specs.declared.resize_mode.ResizeMode.TheVariants.{Incremental}
-use Rattle.run_schedules.specs.declared.call.Answer.{Answer}
-use Rattle.run_schedules.specs.declared.call.Answer.TheVariants as answer
+use Rattle.run_schedules.specs.declared.call.Response.{Response}
+use Rattle.run_schedules.specs.declared.call.Response.TheVariants as answer
 use Rattle.run_schedules.specs.declared.call.Call.{Call}
 use Rattle.run_schedules.specs.declared.call.Call.TheVariants.{On}
 use Rattle.run_schedules.specs.declared.call.OneKey.TheVariants.{Get, Insert, Remove}
@@ -37,7 +37,7 @@ one_none h = cc
 comes_in : (n : ℕ) → ◌≡◌ {A = List Shift} (ComesIn n ∷ []) [] → ⊥
 comes_in n h = cc
 
-owes_none : (a : Answer ℕ) → Some a ≡ None → ⊥
+owes_none : (a : Response ℕ) → Some a ≡ None → ⊥
 owes_none a h = cc
 
 absent_found : (n : ℕ) → ◌≡◌ {A = Meaning ℕ} (Answers answer.Absent Leaves) (Answers (answer.Found n) Leaves) → ⊥
@@ -109,16 +109,16 @@ left_out : IsLinearizable nat_eq alone (entry (Steps 3) (Answered (answer.Found 
 left_out is = either (absent_found 1) (either (absent_found 1) never) is.ends
 
 -- What caller 1 was answered stands there once, and is its own.
-abbrev its : List (Call ℕ ℕ × Answer ℕ)
+abbrev its : List (Call ℕ ℕ × Response ℕ)
 its = (On (Insert 1 10), answer.Absent) ∷ []
 
 its_answers : answers_of 1 removed ≡ its
 its_answers = refl
 
-none_is_one : ◌≡◌ {A = List (Call ℕ ℕ × Answer ℕ)} [] its → ⊥
+none_is_one : ◌≡◌ {A = List (Call ℕ ℕ × Response ℕ)} [] its → ⊥
 none_is_one h = cc
 
-two_are_one : ◌≡◌ {A = List (Call ℕ ℕ × Answer ℕ)} ((On (Insert 1 10), answer.Absent) ∷ its) its → ⊥
+two_are_one : ◌≡◌ {A = List (Call ℕ ℕ × Response ℕ)} ((On (Insert 1 10), answer.Absent) ∷ its) its → ⊥
 two_are_one h = cc
 
 -- Wrong: it stands there not at all, since another one got its answer; or twice.

@@ -2,8 +2,8 @@
 use Rattle.std.specs.Prelude.{◌≡◌, ◌⊎◌, ℕ, ◌+◌, ◌==◌, ◌&&◌, Bool, true, false, not, List, [], ◌∷◌, ◌++◌, filter, length, Option, Some, if◌then◌else◌}
 use Rattle.std.specs.List.{list_all, list_any}
 use Rattle.map_tables.specs.Given.SeizeRegister.{bucket_needed}
-use Rattle.run_schedules.specs.declared.call.Answer.{Answer}
-use Rattle.run_schedules.specs.declared.call.Answer.TheVariants.{Absent}
+use Rattle.run_schedules.specs.declared.call.Response.{Response}
+use Rattle.run_schedules.specs.declared.call.Response.TheVariants.{Absent}
 use Rattle.run_schedules.specs.declared.call.Call.{Call}
 use Rattle.run_schedules.specs.declared.call.Call.TheVariants.{Walk}
 use Rattle.run_schedules.specs.declared.outcome.Outcome.{Outcome}
@@ -11,7 +11,7 @@ use Rattle.run_schedules.specs.declared.outcome.Outcome.TheVariants.{Answered, D
 use Rattle.run_schedules.specs.declared.effect.Effect.{Effect}
 use Rattle.run_schedules.specs.declared.effect.Effect.TheVariants.{Asked, Ended, Taken}
 use Rattle.run_schedules.specs.declared.effect.Growth.TheVariants.{ABucket}
-use Rattle.run_schedules.specs.declared.effect.Table.{Table}
+use Rattle.run_schedules.specs.declared.effect.TableId.{TableId}
 use Rattle.run_schedules.specs.Schedules.After.{moments_by}
 use Rattle.run_schedules.specs.Schedules.Coming.{is_answer, is_walk}
 use Rattle.run_schedules.specs.Schedules.Effects.{AtEachEffect}
@@ -79,7 +79,7 @@ abbrev pub NeedsBucket : ℕ → ℕ → Type 0
 NeedsBucket slot there = ((slot ≡ 0) × (there ≡ 0)) ⊎ (bucket_needed slot ≡ Some there)
 
 -- the table stands first
-abbrev pub is_first_of : Table → List TableThere → Bool
+abbrev pub is_first_of : TableId → List TableThere → Bool
 is_first_of t [] = false
 is_first_of t (u ∷ tables) = same_table u.table t
 
@@ -166,7 +166,7 @@ module _ {K V : Type 0} (terms : Terms) where
 
 module _ {K V : Type 0} where
   -- what a caller was answered, to which call, the newest first
-  abbrev pub answered : Option (UnderWay K V) → Outcome V → List (Call K V × Answer V)
+  abbrev pub answered : Option (UnderWay K V) → Outcome V → List (Call K V × Response V)
   answered (Some c) (Answered a) = (c.call, a) ∷ []
   answered _ outcome = []
 
@@ -174,6 +174,6 @@ module _ {K V : Type 0} where
   is_of i (Steps j) = i == j
   is_of i deed = false
 
-  abbrev pub answers_of : ℕ → List (Entry K V) → List (Call K V × Answer V)
+  abbrev pub answers_of : ℕ → List (Entry K V) → List (Call K V × Response V)
   answers_of i [] = []
   answers_of i (e ∷ log) = if is_of i e.deed then answered (acting (caller_of e.deed) (moment log)) e.outcome ++ answers_of i log else answers_of i log

@@ -10,7 +10,7 @@ use Rattle.run_schedules.specs.declared.outcome.Outcome.{Outcome}
 use Rattle.run_schedules.specs.declared.outcome.Outcome.TheVariants.{Done, Slot, Goes, Asks, Waits, Ready, Shows}
 use Rattle.run_schedules.specs.declared.effect.Effect.{Effect}
 use Rattle.run_schedules.specs.declared.effect.Effect.TheVariants.{Taken}
-use Rattle.run_schedules.specs.declared.effect.Table.{Table}
+use Rattle.run_schedules.specs.declared.effect.TableId.{TableId}
 use Rattle.run_schedules.specs.Schedules.Moment.{Stands, Going, Asking, Told, IsReady, UnderWay, MapThere, Remains, Sheltered, Moment, start}
 use Rattle.run_schedules.specs.Schedules.Views.{map_of, behind}
 use Rattle.run_schedules.specs.Schedules.Entry.{Entry, is_busy, ends_call, caller_of, speaker}
@@ -94,7 +94,7 @@ if_any root [] remains = remains
 if_any root (n ∷ pairs) remains = with_remains (record { root = root; pairs = n ∷ pairs }) remains
 
 -- the tables that ended with their map
-abbrev pub tables_taken : Effect → List Table
+abbrev pub tables_taken : Effect → List TableId
 tables_taken (Taken t) = t ∷ []
 tables_taken _ = []
 

@@ -8,8 +8,8 @@ use Rattle.run_schedules.specs.declared.call.OneKey.{OneKey}
 use Rattle.run_schedules.specs.declared.call.OneKey.TheVariants.{TryInsertWith, GetOrInsertWith, Update, UpdateOrInsert, UpdateOrInsertWith, Compute, RemoveIf}
 use Rattle.run_schedules.specs.declared.call.Reply.{Reply}
 use Rattle.run_schedules.specs.declared.call.Reply.TheVariants.{Gives, Decides}
-use Rattle.run_schedules.specs.declared.call.Answer.{Answer}
-use Rattle.run_schedules.specs.declared.call.Answer.TheVariants as answer
+use Rattle.run_schedules.specs.declared.call.Response.{Response}
+use Rattle.run_schedules.specs.declared.call.Response.TheVariants as answer
 use Rattle.run_schedules.specs.declared.outcome.Outcome.{Outcome}
 use Rattle.run_schedules.specs.declared.outcome.Outcome.TheVariants.{Goes, Asks, Waits, Ready, Answered, Refused}
 use Rattle.run_schedules.specs.Schedules.Lists.{OneOf}
@@ -75,7 +75,7 @@ module _ {K V : Type 0} where
   is_walk _ = false
 
   -- a call's answer is one of its kind; which one it is others say
-  abbrev pub is_answer : Call K V → Answer V → Bool
+  abbrev pub is_answer : Call K V → Response V → Bool
   is_answer (On one) a = true
   is_answer Len (answer.Counted n) = true
   is_answer (Reserve more) answer.Completed = true

@@ -6,7 +6,7 @@ use Rattle.run_schedules.specs.declared.call.Call.TheVariants.{On}
 use Rattle.run_schedules.specs.declared.effect.Effect.{Effect}
 use Rattle.run_schedules.specs.declared.effect.Effect.TheVariants.{Asked, PairMade, PairGivenUp, TableMade, TableGivenUp, Linked, Promoted, Copied, Stored, Replaced, Removed, Counted, Deferred, Retired, Reclaimed, Ended, Taken}
 use Rattle.run_schedules.specs.declared.effect.Spot.{Spot}
-use Rattle.run_schedules.specs.declared.effect.Table.{Table}
+use Rattle.run_schedules.specs.declared.effect.TableId.{TableId}
 use Rattle.run_schedules.specs.declared.effect.Thing.{Thing}
 use Rattle.run_schedules.specs.declared.effect.Thing.TheVariants.{APair, ATable}
 use Rattle.run_schedules.specs.Schedules.Lists.{is_among, without_one, put}
@@ -41,7 +41,7 @@ place_by map deferred (Ended n) place = put n GivenBack place
 place_by map deferred (Taken t) place = all_at Left (behind t deferred) place
 place_by map deferred _ place = place
 
-abbrev pub born_by : Option ℕ → Effect → (ℕ → Table) → ℕ → Table
+abbrev pub born_by : Option ℕ → Effect → (ℕ → TableId) → ℕ → TableId
 born_by (Some map) (Stored n s) born = put n (record { map = map; turn = s.turn }) born
 born_by map _ born = born
 
@@ -74,7 +74,7 @@ pairs_back _ = []
 
 -- of tables
 
-abbrev pub at_stage : Table → Stage → TableThere → TableThere
+abbrev pub at_stage : TableId → Stage → TableThere → TableThere
 at_stage t stage u = if same_table u.table t then record u { stage = stage } else u
 
 abbrev pub tables_by : Effect → List TableThere → List TableThere
@@ -84,7 +84,7 @@ tables_by (Reclaimed (ATable t)) tables = map (at_stage t IsReclaimed) tables
 tables_by (Taken t) tables = map (at_stage t IsTaken) tables
 tables_by _ tables = tables
 
-abbrev pub promoted : Table → MapThere → MapThere
+abbrev pub promoted : TableId → MapThere → MapThere
 promoted t f = if f.number == t.map then record f { first = t.turn } else f
 
 abbrev pub maps_by : Effect → List MapThere → List MapThere

@@ -12,7 +12,7 @@ use Rattle.run_schedules.specs.declared.outcome.Outcome.{Outcome}
 use Rattle.run_schedules.specs.declared.outcome.Outcome.TheVariants.{Done, Ready, Refused}
 use Rattle.run_schedules.specs.Schedules.Things.{is_before}
 use Rattle.run_schedules.specs.Schedules.Terms.{Terms}
-use Rattle.run_schedules.specs.declared.effect.Table.{Table}
+use Rattle.run_schedules.specs.declared.effect.TableId.{TableId}
 use Rattle.run_schedules.specs.Schedules.Moment.{UnderWay, TableThere, Moment}
 use Rattle.run_schedules.specs.Schedules.Views.{number_of, size_of, chain_of, tables_of}
 use Rattle.run_schedules.specs.Schedules.Entry.{Entry, IfCall, caller_of, acting, acted_on, ends_call}
@@ -106,7 +106,7 @@ abbrev pub pairs_ended : Effect → List ℕ
 pairs_ended (Ended n) = n ∷ []
 pairs_ended _ = []
 
-abbrev pub tables_in : List TableThere → List Table
+abbrev pub tables_in : List TableThere → List TableId
 tables_in tables = map (λ t. t.table) tables
 
 module _ {K V : Type 0} where

@@ -6,7 +6,7 @@ use Rattle.run_schedules.specs.Runs.Present.{Present, slot_of_registration, slot
 use Rattle.run_schedules.specs.Runs.Runs.{map_fault, MOST_GUARDS}
 use Rattle.run_schedules.specs.declared.event.Event.{Event}
 use Rattle.run_schedules.specs.declared.event.Event.TheVariants.{Collector, Hash, Choose, Register, Unregister, Enter, Own, Refresh, Flush, DropGuard, Forget, ReclaimAll, Close, MakeMap, EndMap, ShowShape, Begin, Step, Go, Replied, OneCall, Next, Stop}
-use Rattle.run_schedules.specs.declared.call.Answer.TheVariants as answer
+use Rattle.run_schedules.specs.declared.call.Response.TheVariants as answer
 use Rattle.run_schedules.specs.declared.effect.Effect.{Effect}
 use Rattle.run_schedules.specs.declared.effect.Effect.TheVariants.{Asked}
 use Rattle.run_schedules.specs.declared.outcome.Outcome.{Outcome}

@@ -4,7 +4,7 @@ use Rattle.seize_words.specs.declared.fault.Fault.TheVariants.{Busy, RemoveNothi
 use Rattle.run_schedules.specs.declared.call.Call.{Call}
 use Rattle.run_schedules.specs.declared.call.Call.TheVariants.{On, Clear, Retain}
 use Rattle.run_schedules.specs.declared.call.OneKey.{OneKey}
-use Rattle.run_schedules.specs.declared.call.Answer.{Answer}
+use Rattle.run_schedules.specs.declared.call.Response.{Response}
 use Rattle.run_schedules.specs.declared.call.Reply.TheVariants.{Decides}
 use Rattle.run_schedules.specs.declared.effect.Effect.{Effect}
 use Rattle.run_schedules.specs.declared.effect.Effect.TheVariants.{Stored, Replaced, Removed}
@@ -38,7 +38,7 @@ module _ {K V : Type 0} (eq : K → K → Bool) where
   abbrev pub ChangesOnce : OneKey K V → UnderWay K V → Moment K V → List Shift → Type 0
   ChangesOnce one c m done =
       (done ≡ [])
-      ⊎ ((c.due ≡ None) × (a : Answer V) × (d : Deed V) × (meaning_at one c m ≡ Answers a d)
+      ⊎ ((c.due ≡ None) × (a : Response V) × (d : Deed V) × (meaning_at one c m ≡ Answers a d)
       × (done ≡ shifts (there_for one c m) (length m.stored + 1) d))
 
   -- `clear` removes pairs, and `retain` those about which the last reply was no
@@ -56,7 +56,7 @@ module _ {K V : Type 0} (eq : K → K → Bool) where
   Changes call c m done = RemovesOnly call c done
 
   -- It answers what it owes since it changed its map; and if it did not, what it means at a moment of the call, at which it would not change it.
-  abbrev pub AnswersDue : OneKey K V → UnderWay K V → List (Moment K V) → Option (Answer V) → Answer V → Type 0
+  abbrev pub AnswersDue : OneKey K V → UnderWay K V → List (Moment K V) → Option (Response V) → Response V → Type 0
   AnswersDue one c moments None a = OneOf (λ m. meaning_at one c m ≡ Answers a Leaves) moments
   AnswersDue one c moments (Some b) a = a ≡ b
 

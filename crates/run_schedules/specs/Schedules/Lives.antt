@@ -7,7 +7,7 @@ use Rattle.run_schedules.specs.declared.effect.Effect.{Effect}
 use Rattle.run_schedules.specs.declared.effect.Effect.TheVariants.{Asked, PairMade, PairGivenUp, TableMade, TableGivenUp, Linked, Promoted, Copied, Stored, Replaced, Removed, Counted, Deferred, Retired, Reclaimed, Ended, Taken}
 use Rattle.run_schedules.specs.declared.effect.Growth.TheVariants.{ABlock, ABucket}
 use Rattle.run_schedules.specs.declared.effect.Spot.{Spot}
-use Rattle.run_schedules.specs.declared.effect.Table.{Table}
+use Rattle.run_schedules.specs.declared.effect.TableId.{TableId}
 use Rattle.run_schedules.specs.declared.effect.Thing.{Thing}
 use Rattle.run_schedules.specs.declared.effect.Thing.TheVariants.{APair, ATable}
 use Rattle.run_schedules.specs.Schedules.Lists.{is_in, least_free}
@@ -49,7 +49,7 @@ abbrev pub IsPast : ℕ → ℕ → ℕ → Type 0
 IsPast born lies first = MatchBool (nat_lt born lies) (lies ≤ first) (Unit {0})
 
 -- of the tables that are owed this is the first
-abbrev pub is_first_table : Table → List Thing → Bool
+abbrev pub is_first_table : TableId → List Thing → Bool
 is_first_table t [] = false
 is_first_table t (APair n ∷ things) = is_first_table t things
 is_first_table t (ATable u ∷ things) = same_table t u
@@ -57,7 +57,7 @@ is_first_table t (ATable u ∷ things) = same_table t u
 module _ {K V : Type 0} where
   -- A pair is put behind the table just before the one in which it lies, which it was copied past, and which is not reclaimed, in a map that grows in
   -- chunks. A table never has more behind it than it and those before it have places.
-  abbrev pub MayDefer : ℕ → Moment K V → ℕ → Table → Type 0
+  abbrev pub MayDefer : ℕ → Moment K V → ℕ → TableId → Type 0
   MayDefer map m n t =
       (t.map ≡ map) × ((m.spot n).turn ≡ t.turn + 1) × ((m.born n).turn < (m.spot n).turn) × (is_stage is_there t m ≡ true)
       × (grows_in_chunks (map_at map m) ≡ true)
@@ -101,7 +101,7 @@ module _ {K V : Type 0} (terms : Terms) where
   CallFinds moments m _ c = ⊥
 
 -- the first table of a map with a capacity
-abbrev pub IsMapsFirst : Option MapThere → Table → TableShape → Type 0
+abbrev pub IsMapsFirst : Option MapThere → TableId → TableShape → Type 0
 IsMapsFirst None t shape = ⊥
 IsMapsFirst (Some f) t shape = (t.map ≡ f.number) × (t.turn ≡ 0) × IsFirstShape (len_of f.capacity) shape
 

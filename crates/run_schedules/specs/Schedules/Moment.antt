@@ -5,8 +5,8 @@ use Rattle.run_schedules.specs.declared.shapes.TableShape.{TableShape}
 use Rattle.run_schedules.specs.Runs.Present.{Present, nobody}
 use Rattle.run_schedules.specs.declared.call.Call.{Call}
 use Rattle.run_schedules.specs.declared.call.Reply.{Reply}
-use Rattle.run_schedules.specs.declared.call.Answer.{Answer}
-use Rattle.run_schedules.specs.declared.effect.Table.{Table}
+use Rattle.run_schedules.specs.declared.call.Response.{Response}
+use Rattle.run_schedules.specs.declared.effect.TableId.{TableId}
 use Rattle.run_schedules.specs.declared.effect.Spot.{Spot}
 use Rattle.run_schedules.specs.declared.effect.Thing.{Thing}
 
@@ -40,7 +40,7 @@ pub record UnderWay (K V : Type 0) : Type 0 where
   pub steps : ℕ
   -- what it has done
   pub replacing : Option ℕ  -- the pair whose place the one that is stored next takes
-  pub due : Option (Answer V)  -- what it owes as an answer, since it changed its map
+  pub due : Option (Response V)  -- what it owes as an answer, since it changed its map
   pub gained : ℕ  -- how many pairs it has added to its map and not yet counted
   pub lost : ℕ  -- and how many it has taken out
   pub shown : List ℕ  -- what a walk showed
@@ -48,7 +48,7 @@ pub record UnderWay (K V : Type 0) : Type 0 where
   pub owes : List Thing  -- what it took out of the map and has not handed to the collector
   pub has_handed : Bool  -- it has handed something over
   pub has_block : Bool  -- a block for a pair, made and not stored
-  pub table : Option Table  -- a table, made and not linked
+  pub table : Option TableId  -- a table, made and not linked
   pub is_short : Bool  -- it has asked for a growth, and nothing was made since
 
 -- a map that is there
@@ -68,14 +68,14 @@ pub data Stage : Type 0 where
   IsTaken : Stage  -- it ended with its map
 
 pub record TableThere : Type 0 where
-  pub table : Table
+  pub table : TableId
   pub shape : TableShape
   pub stage : Stage
 
 -- this pair waits behind that table
 pub record Deferral : Type 0 where
   pub pair : ℕ
-  pub behind : Table
+  pub behind : TableId
 
 -- what a map that has ended left over; its root is not free before that is reclaimed
 pub record Remains : Type 0 where
@@ -99,7 +99,7 @@ pub record Moment (K V : Type 0) : Type 0 where
   -- pairs, by number: the n-th that is stored has the number n, from 1 on
   pub stored : List (K × V)
   pub place : ℕ → Place
-  pub born : ℕ → Table  -- the table in which a pair was stored
+  pub born : ℕ → TableId  -- the table in which a pair was stored
   pub spot : ℕ → Spot  -- where it lies: in incremental mode since it was last copied, in blocking mode in the root's table
   pub copy : ℕ → Spot  -- where its newest copy lies
   pub deferred : List Deferral  -- the newest first

@@ -7,7 +7,7 @@ use Rattle.run_schedules.specs.declared.event.Event.{Event}
 use Rattle.run_schedules.specs.declared.event.Event.TheVariants.{ReclaimAll, Close}
 use Rattle.run_schedules.specs.declared.outcome.Outcome.{Outcome}
 use Rattle.run_schedules.specs.declared.outcome.Outcome.TheVariants.{Done}
-use Rattle.run_schedules.specs.declared.effect.Table.{Table}
+use Rattle.run_schedules.specs.declared.effect.TableId.{TableId}
 use Rattle.run_schedules.specs.declared.effect.Thing.{Thing}
 use Rattle.run_schedules.specs.Schedules.Lists.{is_in, is_empty, numbers_from}
 use Rattle.run_schedules.specs.Schedules.Things.{same_table, same_thing}
@@ -33,13 +33,13 @@ module _ {K V : Type 0} where
   is_quiescent m = is_empty m.calls && is_empty m.there.guards
 
   -- a table of a living map after which there is another one
-  abbrev pub has_next : Moment K V → Table → Bool
+  abbrev pub has_next : Moment K V → TableId → Bool
   has_next m t =
       list_any (λ f. f.number == t.map) m.maps && list_any (λ u. same_table u.table t) (chain_of t.map m)
       && nat_lt (t.turn + 1) (length (tables_of t.map m))
 
   -- the pair is behind a table that passes the test
-  abbrev pub is_behind : (Table → Bool) → Moment K V → ℕ → Bool
+  abbrev pub is_behind : (TableId → Bool) → Moment K V → ℕ → Bool
   is_behind test m n = list_any (λ d. (d.pair == n) && test d.behind) m.deferred
 
   -- what was retired and not reclaimed

@@ -6,8 +6,8 @@ use Rattle.run_schedules.specs.declared.call.OneKey.{OneKey}
 use Rattle.run_schedules.specs.declared.call.OneKey.TheVariants.{Get, GetKeyValue, ContainsKey, Insert, TryInsert, TryInsertWith, GetOrInsert, GetOrInsertWith, Update, UpdateOrInsert, UpdateOrInsertWith, Compute, Remove, RemoveEntry, RemoveIf}
 use Rattle.run_schedules.specs.declared.call.Reply.{Reply}
 use Rattle.run_schedules.specs.declared.call.Reply.TheVariants.{Gives, Removes, Aborts, Decides}
-use Rattle.run_schedules.specs.declared.call.Answer.{Answer}
-use Rattle.run_schedules.specs.declared.call.Answer.TheVariants as answer
+use Rattle.run_schedules.specs.declared.call.Response.{Response}
+use Rattle.run_schedules.specs.declared.call.Response.TheVariants as answer
 use Rattle.run_schedules.specs.Schedules.Sequential.{Deed, Leaves, Puts, Takes, Meaning, Answers, Refuses, Wants, means, key_of}
 
 module _ {K V : Type 0} where
@@ -36,7 +36,7 @@ reply_in (Aborts w) = calls.Aborts w
 reply_in (Decides b) = calls.Decides b
 
 -- no call on one key answers that a call on the whole map is done, or a count
-abbrev pub answer_in : {V : Type 0} → Answer V → Option (CallAnswer V V)
+abbrev pub answer_in : {V : Type 0} → Response V → Option (CallAnswer V V)
 answer_in answer.Absent = Some calls.Nothing
 answer_in (answer.Found n) = Some (calls.There n)
 answer_in (answer.Stored n) = Some (calls.Fresh n)

@@ -4,8 +4,8 @@ use Rattle.run_schedules.specs.declared.call.OneKey.{OneKey}
 use Rattle.run_schedules.specs.declared.call.OneKey.TheVariants.{Get, GetKeyValue, ContainsKey, Insert, TryInsert, TryInsertWith, GetOrInsert, GetOrInsertWith, Update, UpdateOrInsert, UpdateOrInsertWith, Compute, Remove, RemoveEntry, RemoveIf}
 use Rattle.run_schedules.specs.declared.call.Reply.{Reply}
 use Rattle.run_schedules.specs.declared.call.Reply.TheVariants.{Gives, Removes, Aborts, Decides}
-use Rattle.run_schedules.specs.declared.call.Answer.{Answer}
-use Rattle.run_schedules.specs.declared.call.Answer.TheVariants as answer
+use Rattle.run_schedules.specs.declared.call.Response.{Response}
+use Rattle.run_schedules.specs.declared.call.Response.TheVariants as answer
 
 -- what a call does to its key's class
 pub data Deed (V : Type 0) : Type 0 where
@@ -15,16 +15,16 @@ pub data Deed (V : Type 0) : Type 0 where
 
 -- what a call comes to
 pub data Meaning (V : Type 0) : Type 0 where
-  Answers : Answer V → Deed V → Meaning V
+  Answers : Response V → Deed V → Meaning V
   Refuses : Meaning V  -- as there is nothing to remove
   Wants : Meaning V  -- a reply, for the pair that is there or for none
 
-abbrev pub looked : {V : Type 0} → Option ℕ → Answer V
+abbrev pub looked : {V : Type 0} → Option ℕ → Response V
 looked None = answer.Absent
 looked (Some p) = answer.Found p
 
 -- the value of the reply is stored
-abbrev pub puts_reply : {V : Type 0} → Option (Reply V) → Answer V → Meaning V
+abbrev pub puts_reply : {V : Type 0} → Option (Reply V) → Response V → Meaning V
 puts_reply (Some (Gives v)) a = Answers a (Puts v)
 puts_reply _ a = Wants
 
@@ -133,7 +133,7 @@ shifts None new Takes = []
 shifts (Some p) new Takes = GoesOut p ∷ []
 
 -- the answer that the call owes, and the value that it stores
-abbrev pub answer_due : {V : Type 0} → Meaning V → Option (Answer V)
+abbrev pub answer_due : {V : Type 0} → Meaning V → Option (Response V)
 answer_due (Answers a d) = Some a
 answer_due _ = None
 

@@ -6,7 +6,7 @@ use Rattle.map_tables.specs.Lengths.{len_of}
 use Rattle.run_schedules.specs.Runs.Log.{pair_at, is_key}
 use Rattle.run_schedules.specs.declared.call.Call.{Call}
 use Rattle.run_schedules.specs.declared.call.Call.TheVariants.{Reserve, Clear, Retain, Len, Walk}
-use Rattle.run_schedules.specs.declared.call.Answer.TheVariants.{Absent, Completed, Counted}
+use Rattle.run_schedules.specs.declared.call.Response.TheVariants.{Absent, Completed, Counted}
 use Rattle.run_schedules.specs.declared.call.Reply.{Reply}
 use Rattle.run_schedules.specs.declared.call.Reply.TheVariants.{Decides}
 use Rattle.run_schedules.specs.declared.outcome.Outcome.{Outcome}

@@ -1,11 +1,11 @@
 -- Pairs and tables, as the collector knows them.
 use Rattle.std.specs.Prelude.{ℕ, ◌==◌, ◌&&◌, ◌||◌, nat_lt, Bool, true, false, List, [], ◌∷◌, Option, Some, None}
-use Rattle.run_schedules.specs.declared.effect.Table.{Table}
+use Rattle.run_schedules.specs.declared.effect.TableId.{TableId}
 use Rattle.run_schedules.specs.declared.effect.Spot.{Spot}
 use Rattle.run_schedules.specs.declared.effect.Thing.{Thing}
 use Rattle.run_schedules.specs.declared.effect.Thing.TheVariants.{APair, ATable}
 
-abbrev pub same_table : Table → Table → Bool
+abbrev pub same_table : TableId → TableId → Bool
 same_table t u = (t.map == u.map) && (t.turn == u.turn)
 
 abbrev pub same_thing : Thing → Thing → Bool

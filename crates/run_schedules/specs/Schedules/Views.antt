@@ -6,7 +6,7 @@ use Rattle.run_schedules.specs.Runs.Log.{pair_at, is_key}
 use Rattle.run_schedules.specs.Runs.Same.{is_same}
 use Rattle.run_schedules.specs.declared.call.Reply.{Reply}
 use Rattle.run_schedules.specs.declared.call.Reply.TheVariants.{Gives}
-use Rattle.run_schedules.specs.declared.effect.Table.{Table}
+use Rattle.run_schedules.specs.declared.effect.TableId.{TableId}
 use Rattle.run_schedules.specs.declared.effect.Spot.{Spot}
 use Rattle.run_schedules.specs.Schedules.Things.{same_table, same_question}
 use Rattle.run_schedules.specs.Schedules.Moment.{Place, InMap, Out, Handed, Behind, Left, UnderWay, MapThere, Stage, IsLinked, IsRetired, TableThere, Deferral, Moment}
@@ -115,7 +115,7 @@ module _ {K V : Type 0} where
   chain_of map m = filter (λ t. nat_le (first_of map m) t.table.turn) (tables_of map m)
 
   -- a table that is at such a stage
-  abbrev pub is_stage : (Stage → Bool) → Table → Moment K V → Bool
+  abbrev pub is_stage : (Stage → Bool) → TableId → Moment K V → Bool
   is_stage test t m = list_any (λ u. same_table u.table t && test u.stage) m.tables
 
   -- a place of a table of the map that is at such a stage
@@ -123,7 +123,7 @@ module _ {K V : Type 0} where
   is_place test map s m = list_any (λ u. same_table u.table (record { map = map; turn = s.turn }) && test u.stage && nat_lt s.place u.shape.len) m.tables
 
 -- what waits behind a table, the last one first
-abbrev pub behind : Table → List Deferral → List ℕ
+abbrev pub behind : TableId → List Deferral → List ℕ
 behind t deferred = map (λ d. d.pair) (filter (λ d. same_table d.behind t) deferred)
 
 -- the newest one of these

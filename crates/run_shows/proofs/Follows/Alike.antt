@@ -7,7 +7,7 @@ use Rattle.run_effects.specs.Given.RunsDeclared.shapes.TableShape.{TableShape}
 use Rattle.run_effects.specs.Given.RunsDeclared.effect.Effect.{Effect}
 use Rattle.run_effects.specs.Given.RunsDeclared.effect.Effect.TheVariants.{Asked, PairMade, PairGivenUp, TableMade, TableGivenUp, Linked, Promoted, Copied, Stored, Replaced, Removed, Counted, Deferred, Retired, Reclaimed, Ended, Taken}
 use Rattle.run_effects.specs.Given.RunsDeclared.effect.Spot.{Spot}
-use Rattle.run_effects.specs.Given.RunsDeclared.effect.Table.{Table}
+use Rattle.run_effects.specs.Given.RunsDeclared.effect.TableId.{TableId}
 use Rattle.run_effects.specs.Given.SchedulesEntry.{acting}
 use Rattle.run_effects.specs.Given.SchedulesEffects.{promoted, stored_by, with_effect, with_effects}
 use Rattle.run_effects.specs.Given.SchedulesLists.{put}
@@ -54,7 +54,7 @@ pub put_elsewhere : {X : Type 0} (k : ℕ) (x : X) (f : ℕ → X) (n : ℕ) →
 put_elsewhere k x f n ne = ap (λ q. if q then x else f n) (ne_eqb n k ne)
 
 -- of the maps another one is found as before
-pub others_found : (t : Table) (other : ℕ) → t.map ≢ other → (fs : List MapThere) → find (λ f. f.number == other) (map (promoted t) fs) ≡ find (λ f. f.number == other) fs
+pub others_found : (t : TableId) (other : ℕ) → t.map ≢ other → (fs : List MapThere) → find (λ f. f.number == other) (map (promoted t) fs) ≡ find (λ f. f.number == other) fs
 others_found t other apart [] = refl
 others_found t other apart (f ∷ fs) = by (f.number == t.map) refl (others_found t other apart fs)
   where
@@ -110,7 +110,7 @@ module _ {K V : Type 0} where
     pairs = record {
       place = λ k l. ap (λ (f : ℕ → Place). is_in_map map (f k)) same.place;
       all = λ k is. ap (λ (f : ℕ → Place). f k) (sym same.place) ∙ is;
-      born = λ k l. ap (λ (f : ℕ → Table). (f k).map) same.born;
+      born = λ k l. ap (λ (f : ℕ → TableId). (f k).map) same.born;
       stored = let e = ap length same.stored in omega (arith, e);
     };
     tables = record {
@@ -192,7 +192,7 @@ module _ {K V : Type 0} where
           | inl e ↦ absurd (apart (in_map_is other map (sym at ∙ put_here n (InMap map) m.place k e)))
           | inr ne ↦ sym (put_elsewhere n (InMap map) m.place k ne) ∙ at
         ];
-        born = λ k l. ap (λ (t : Table). t.map) (put_elsewhere n (record { map = map; turn = s.turn }) m.born k (λ e. omega (arith, e, is, l)));
+        born = λ k l. ap (λ (t : TableId). t.map) (put_elsewhere n (record { map = map; turn = s.turn }) m.born k (λ e. omega (arith, e, is, l)));
         stored = more;
       };
       tables = record {

@@ -3,11 +3,11 @@ use Rattle.std.specs.Prelude.{◌≡◌, ℕ, Bool, Option, Some}
 use Rattle.std.proofs.Common.{refl, sym, subst, ◌∙◌, inl, inr}
 use Rattle.seize_words.specs.OneMemory.Mem.{Mem}
 use Rattle.seize.specs.World.{World}
-use Rattle.seize.specs.declared.progress.Progress.{Progress as Counted}
-use Rattle.seize.specs.declared.progress.Progress.TheVariants as counted
+use Rattle.seize.specs.declared.advance.Advance.{Advance as Counted}
+use Rattle.seize.specs.declared.advance.Advance.TheVariants as counted
 use Rattle.run_effects.specs.Given.TablesDeclared.node.Node.{Node}
-use Rattle.run_effects.specs.Given.ResizeDeclared.outcome.Outcome.{Outcome}
-use Rattle.run_effects.specs.Given.ResizeDeclared.outcome.Outcome.TheVariants as outcome
+use Rattle.run_effects.specs.Given.ResizeDeclared.yielding.Yielding.{Yielding}
+use Rattle.run_effects.specs.Given.ResizeDeclared.yielding.Yielding.TheVariants as outcome
 use Rattle.run_effects.specs.Given.ResizeDeclared.sum.Sum.{Sum}
 use Rattle.run_effects.specs.Given.ReservesDeclared.sweep.Swept.{Swept}
 use Rattle.run_effects.specs.Given.ReservesDeclared.sweep.Swept.TheVariants as swept
@@ -40,7 +40,7 @@ module _ {K V : Type 0} where
   key_goes_on u (called.Done answer) x e = absurd (cc e)
   key_goes_on u (called.Refused fault) x e = absurd (cc e)
 
-  pub room_goes_on : (r : CallForRoom) (end : Outcome (Node K V) Unit) (x : UnderWay K V K) → next_for_room r end ≡ Some x → x ≡ ForRoom r
+  pub room_goes_on : (r : CallForRoom) (end : Yielding (Node K V) Unit) (x : UnderWay K V K) → next_for_room r end ≡ Some x → x ≡ ForRoom r
   room_goes_on r outcome.Goes x e = some_is (ForRoom r) x e
   room_goes_on r outcome.Waits x e = some_is (ForRoom r) x e
   room_goes_on r (outcome.Gave value) x e = some_is (ForRoom r) x e
@@ -104,7 +104,7 @@ module _ {K V : Type 0} where
         → (its : Call K V) → IsCalled same (OnKey u) its → IsCalled same x its
     key_on u v keys end next goes x e its is = called_as x (OnKey v) its (key_goes_on v end x (sym goes ∙ e)) (key_called u v keys its is)
 
-    room_on : (r q : CallForRoom) (end : Outcome (Node K V) Unit) (next : Option (UnderWay K V K)) → next ≡ next_for_room q end → (x : UnderWay K V K) → next ≡ Some x
+    room_on : (r q : CallForRoom) (end : Yielding (Node K V) Unit) (next : Option (UnderWay K V K)) → next ≡ next_for_room q end → (x : UnderWay K V K) → next ≡ Some x
         → (its : Call K V) → IsCalled same (ForRoom r) its → IsCalled same x its
     room_on r q end next goes x e its is = called_as x (ForRoom q) its (room_goes_on q end x (sym goes ∙ e)) (room_called r q its is)
 

@@ -4,7 +4,7 @@ use Rattle.std.proofs.Common.{refl, ap, sym, subst, ◌∙◌, arith, inl, inr}
 use Rattle.std.proofs.lemmas.Bool.{eq-eqb, cases_eq}
 use Rattle.seize.specs.World.{with_at}
 use Rattle.run_effects.specs.Given.RunsSame.{is_same}
-use Rattle.run_effects.specs.Given.RawDeclared.machines.asking.Reply.{Reply as MachineReply}
+use Rattle.run_effects.specs.Given.RawDeclared.machines.asking.MachineReply.{MachineReply}
 use Rattle.run_effects.specs.Given.RunsDeclared.call.Call.{Call}
 use Rattle.run_effects.specs.Given.RunsDeclared.call.Reply.{Reply}
 use Rattle.run_effects.specs.Given.RunsDeclared.outcome.Outcome.{Outcome}

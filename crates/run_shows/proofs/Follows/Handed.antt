@@ -4,7 +4,7 @@ use Rattle.std.proofs.Common.{refl, ap, sym, subst, ◌∙◌, arith, inl, inr}
 use Rattle.std.proofs.lemmas.Bool.{cases_eq}
 use Rattle.run_effects.specs.Given.RunsDeclared.effect.Effect.{Effect}
 use Rattle.run_effects.specs.Given.RunsDeclared.effect.Effect.TheVariants.{Deferred, Retired}
-use Rattle.run_effects.specs.Given.RunsDeclared.effect.Table.{Table}
+use Rattle.run_effects.specs.Given.RunsDeclared.effect.TableId.{TableId}
 use Rattle.run_effects.specs.Given.RunsDeclared.effect.Thing.{Thing}
 use Rattle.run_effects.specs.Given.RunsDeclared.effect.Thing.TheVariants.{APair, ATable}
 use Rattle.run_effects.specs.Given.SchedulesEntry.{acting}
@@ -35,7 +35,7 @@ not_in a Left e = refl
 not_in a GivenBack e = refl
 
 -- what is handed over stores no pair
-hands_stored : {K V : Type 0} (o : Option (UnderWay K V)) (n : ℕ) (t : Table) (x : Thing) (stored : List (K × V)) → (stored_by o (Deferred n t) stored ≡ stored) × (stored_by o (Retired x) stored ≡ stored)
+hands_stored : {K V : Type 0} (o : Option (UnderWay K V)) (n : ℕ) (t : TableId) (x : Thing) (stored : List (K × V)) → (stored_by o (Deferred n t) stored ≡ stored) × (stored_by o (Retired x) stored ≡ stored)
 hands_stored None n t x stored = (refl, refl)
 hands_stored (Some c) n t x stored = (refl, refl)
 
@@ -53,7 +53,7 @@ module _ {K V : Type 0} (caller : Option (List ℕ)) (acted : ℕ) (m : Moment K
         | inl e ↦ absurd (not_here (sym (put_here n p m.place k e) ∙ ap (λ (f : ℕ → Place). f k) (sym place) ∙ at))
         | inr ne ↦ sym (put_elsewhere n p m.place k ne) ∙ ap (λ (f : ℕ → Place). f k) (sym place) ∙ at
       ];
-      born = λ k l. ap (λ (f : ℕ → Table). (f k).map) born;
+      born = λ k l. ap (λ (f : ℕ → TableId). (f k).map) born;
       stored = let e = ap length stored in omega (arith, e);
     };
     tables = record {
@@ -62,7 +62,7 @@ module _ {K V : Type 0} (caller : Option (List ℕ)) (acted : ℕ) (m : Moment K
     };
   }
 
-  pub deferred_alike : (of n : ℕ) (t : Table) → is_in_a_map (m.place n) ≡ false → IsAlike of m (with_effect caller (Some acted) (Deferred n t) m)
+  pub deferred_alike : (of n : ℕ) (t : TableId) → is_in_a_map (m.place n) ≡ false → IsAlike of m (with_effect caller (Some acted) (Deferred n t) m)
   deferred_alike of n t out = goes_on of n Behind out refl (λ e. cc e) (with_effect caller (Some acted) (Deferred n t) m) refl refl refl refl (hands_stored (acting caller m) n t (ATable t) m.stored).0
 
   pub retired_alike : (of n : ℕ) → is_in_a_map (m.place n) ≡ false → IsAlike of m (with_effect caller (Some acted) (Retired (APair n)) m)
@@ -70,7 +70,7 @@ module _ {K V : Type 0} (caller : Option (List ℕ)) (acted : ℕ) (m : Moment K
       goes_on of n Handed out refl (λ e. cc e) (with_effect caller (Some acted) (Retired (APair n)) m) refl refl refl refl (hands_stored (acting caller m) n (record { map = 0; turn = 0 }) (APair n) m.stored).1
 
 -- a table is retired
-module _ (t : Table) where
+module _ (t : TableId) where
   abbrev retires : TableThere → TableThere
   retires = at_stage t IsRetired
 
@@ -89,10 +89,10 @@ module _ (t : Table) where
       by : (q : Bool) → (u.table.map == of) ≡ q → filter (λ x. x.table.map == of) (map retires us) ≡ map retires (filter (λ x. x.table.map == of) us)
           → filter (λ x. x.table.map == of) (map retires (u ∷ us)) ≡ map retires (filter (λ x. x.table.map == of) (u ∷ us))
       by true e rest =
-          ap (λ z. if z then retires u ∷ filter (λ x. x.table.map == of) (map retires us) else filter (λ x. x.table.map == of) (map retires us)) (ap (λ (x : Table). x.map == of) (same_place u) ∙ e)
+          ap (λ z. if z then retires u ∷ filter (λ x. x.table.map == of) (map retires us) else filter (λ x. x.table.map == of) (map retires us)) (ap (λ (x : TableId). x.map == of) (same_place u) ∙ e)
           ∙ ap (λ xs. retires u ∷ xs) rest ∙ ap (λ z. map retires (if z then u ∷ filter (λ x. x.table.map == of) us else filter (λ x. x.table.map == of) us)) (sym e)
       by false e rest =
-          ap (λ z. if z then retires u ∷ filter (λ x. x.table.map == of) (map retires us) else filter (λ x. x.table.map == of) (map retires us)) (ap (λ (x : Table). x.map == of) (same_place u) ∙ e)
+          ap (λ z. if z then retires u ∷ filter (λ x. x.table.map == of) (map retires us) else filter (λ x. x.table.map == of) (map retires us)) (ap (λ (x : TableId). x.map == of) (same_place u) ∙ e)
           ∙ rest ∙ ap (λ z. map retires (if z then u ∷ filter (λ x. x.table.map == of) us else filter (λ x. x.table.map == of) us)) (sym e)
 
   module _ {K : Type 0} (of : ℕ) (c : Chart K) (stage : ℕ → Stage) where
@@ -120,7 +120,7 @@ module _ (t : Table) where
         ∙ ap (λ x. tables_to of c stage_then u ++ x ∷ []) (one_retired u)
 
 -- a table of a map that is this one
-same_is : (of u : ℕ) (t : Table) → same_table (table_of of u) t ≡ true → (of ≡ t.map) × (u ≡ t.turn)
+same_is : (of u : ℕ) (t : TableId) → same_table (table_of of u) t ≡ true → (of ≡ t.map) × (u ≡ t.turn)
 same_is of u t e = (grind (arith, e), grind (arith, e))
 
 module _ {K V : Type 0} (caller : List ℕ) (acted of : ℕ) (number : ℕ → ℕ) (s : Standing K) (blocks2 : Blocks) (sights2 : ℕ → Sight) (m : Moment K V) (known : Known)
@@ -135,7 +135,7 @@ module _ {K V : Type 0} (caller : List ℕ) (acted of : ℕ) (number : ℕ → �
   alike_shown v alike = map_on of number s s2 m v known known blocks (λ b lasting. refl) refl (tables_same s.chart) (pairs_same s.chart) alike shown
 
   -- a table that the root has passed
-  module _ (t : Table) (passed : (there : MapThere) → map_at t.map m ≡ Some there → t.turn < there.first) where
+  module _ (t : TableId) (passed : (there : MapThere) → map_at t.map m ≡ Some there → t.turn < there.first) where
     abbrev v : Moment K V
     v = with_effect (Some caller) (Some acted) (Retired (ATable t)) m
 

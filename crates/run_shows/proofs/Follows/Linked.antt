@@ -10,7 +10,7 @@ use Rattle.run_effects.specs.Given.TablesDeclared.node.Node.{Node}
 use Rattle.run_effects.specs.Given.TablesDeclared.node.Node.TheVariants as node
 use Rattle.run_effects.specs.Given.RunsDeclared.effect.Effect.{Effect}
 use Rattle.run_effects.specs.Given.RunsDeclared.effect.Effect.TheVariants.{Linked, Promoted}
-use Rattle.run_effects.specs.Given.RunsDeclared.effect.Table.{Table}
+use Rattle.run_effects.specs.Given.RunsDeclared.effect.TableId.{TableId}
 use Rattle.run_effects.specs.Given.SchedulesEntry.{acting}
 use Rattle.run_effects.specs.Given.SchedulesEffects.{promoted, stored_by, with_effect}
 use Rattle.run_effects.specs.Given.SchedulesLists.{put}
@@ -40,12 +40,12 @@ use Rattle.run_shows.proofs.Follows.Told.{once_put}
 use Rattle.run_shows.proofs.Follows.Writes.{own_table}
 
 -- neither stores a pair
-none_stored : {K V : Type 0} (o : Option (UnderWay K V)) (t : Table) (shape : TableShape) (stored : List (K × V)) → (stored_by o (Linked t shape) stored ≡ stored) × (stored_by o (Promoted t) stored ≡ stored)
+none_stored : {K V : Type 0} (o : Option (UnderWay K V)) (t : TableId) (shape : TableShape) (stored : List (K × V)) → (stored_by o (Linked t shape) stored ≡ stored) × (stored_by o (Promoted t) stored ≡ stored)
 none_stored None t shape stored = (refl, refl)
 none_stored (Some c) t shape stored = (refl, refl)
 
 -- the map whose root has come to a table
-pub own_found : (t : Table) (fs : List MapThere) (f : MapThere) → find (λ g. g.number == t.map) fs ≡ Some f → find (λ g. g.number == t.map) (map (promoted t) fs) ≡ Some (record f { first = t.turn })
+pub own_found : (t : TableId) (fs : List MapThere) (f : MapThere) → find (λ g. g.number == t.map) fs ≡ Some f → find (λ g. g.number == t.map) (map (promoted t) fs) ≡ Some (record f { first = t.turn })
 own_found t [] f is = absurd (cc is)
 own_found t (g ∷ fs) f is = by (g.number == t.map) refl (λ later. own_found t fs f later)
   where

@@ -8,7 +8,7 @@ use Rattle.run_effects.specs.Given.RunsDeclared.effect.Effect.{Effect}
 use Rattle.run_effects.specs.Given.RunsDeclared.effect.Effect.TheVariants as effect
 use Rattle.run_effects.specs.Given.RunsDeclared.effect.Growth.TheVariants.{ABlock, ABucket}
 use Rattle.run_effects.specs.Given.RunsDeclared.effect.Spot.{Spot}
-use Rattle.run_effects.specs.Given.RunsDeclared.effect.Table.{Table}
+use Rattle.run_effects.specs.Given.RunsDeclared.effect.TableId.{TableId}
 use Rattle.run_effects.specs.Given.RunsDeclared.shapes.TableShape.{TableShape}
 use Rattle.run_effects.specs.Given.RunsDeclared.effect.Thing.{Thing}
 use Rattle.run_effects.specs.Given.RunsDeclared.effect.Thing.TheVariants.{APair, ATable}
@@ -28,7 +28,7 @@ use Rattle.run_shows.proofs.Follows.Onward.{IsOfMap}
 pub record OfEach (acting : Acting) (known : Known) (So : List Effect → Type 0) : Type 0 where
   pub nothing : So []
   pub linked : (turn : ℕ) (shape : TableShape) → So (effect.Linked (table_at acting turn) shape ∷ [])
-  pub deferred : (n : ℕ) (t : Table) → So (effect.Deferred n t ∷ [])
+  pub deferred : (n : ℕ) (t : TableId) → So (effect.Deferred n t ∷ [])
   pub stored : (s : Spot) → So (effect.Stored (known.stored + 1) s ∷ [])
   pub replaced : (old : ℕ) (s : Spot) → So (effect.Replaced old ∷ effect.Stored (known.stored + 1) s ∷ [])
   pub removed : (n : ℕ) → So (effect.Removed n ∷ [])
@@ -50,12 +50,12 @@ module _ (acting : Acting) (known : Known) (So : List Effect → Type 0) (each :
   followed_so _ = each.nothing
 
   -- so of the root, where a table may become it
-  pub led_so : ((t : Table) → So (effect.Promoted t ∷ [])) → (was is : Role) → So (led_to acting was is)
+  pub led_so : ((t : TableId) → So (effect.Promoted t ∷ [])) → (was is : Role) → So (led_to acting was is)
   led_so promoted _ (role.OwnTable turn shape) = each.linked turn shape
   led_so promoted (role.Table t len) (role.Table u other) = promoted u
   led_so promoted _ _ = each.nothing
 
-  carried_so : (t : Table) (is : Role) → So (carried t is)
+  carried_so : (t : TableId) (is : Role) → So (carried t is)
   carried_so t (role.Pair n) = each.deferred n t
   carried_so t _ = each.nothing
 
@@ -66,7 +66,7 @@ module _ (acting : Acting) (known : Known) (So : List Effect → Type 0) (each :
   placed_so s role.Free (role.Pair old) = each.copied old s
   placed_so s _ _ = each.nothing
 
-  table_so : (t : Table) (len field : ℕ) (was is : Role) → So (in_table acting t len field known.stored was is)
+  table_so : (t : TableId) (len field : ℕ) (was is : Role) → So (in_table acting t len field known.stored was is)
   table_so t len field was is =
       let at_place = if is_place len field then placed (spot_at t field) known.stored was is else [] in
       if_so (field == NEXT) (followed_by acting is) (if field == DEFERRED then carried t is else at_place) (followed_so is)
@@ -89,7 +89,7 @@ module _ (acting : Acting) (known : Known) (So : List Effect → Type 0) (each :
   made_so kind.Shards = each.asked
 
   -- so of what is taken away, where that may be the map's
-  pub taken_so : ((n : ℕ) → So (pair_taken acting n ∷ [])) → ((t : Table) → So (table_taken acting t ∷ [])) → (r : Role) → IsOfMap r → So (taken_by acting r)
+  pub taken_so : ((n : ℕ) → So (pair_taken acting n ∷ [])) → ((t : TableId) → So (table_taken acting t ∷ [])) → (r : Role) → IsOfMap r → So (taken_by acting r)
   taken_so pair table (role.Pair n) is = pair n
   taken_so pair table (role.Table t len) is = table t
   taken_so pair table role.Free is = absurd is
@@ -123,7 +123,7 @@ module _ (acting : Acting) (known : Known) (So : List Effect → Type 0) (each :
   operation_so (changed.Roomed bucket had) roots counts takes buckets = if_so (had && nat_lt bucket known.buckets) [] (effect.Asked ABucket ∷ []) each.nothing (buckets bucket had refl)
 
   -- so of each where it is so of all
-  pub each_operation_so : ((t : Table) → So (effect.Promoted t ∷ [])) → ((field : ℕ) → So (effect.Counted field ∷ [])) → ((n : ℕ) → So (pair_taken acting n ∷ [])) → ((t : Table) → So (table_taken acting t ∷ []))
+  pub each_operation_so : ((t : TableId) → So (effect.Promoted t ∷ [])) → ((field : ℕ) → So (effect.Counted field ∷ [])) → ((n : ℕ) → So (pair_taken acting n ∷ [])) → ((t : TableId) → So (table_taken acting t ∷ []))
       → So (effect.Asked ABucket ∷ []) → (told : Changed) → So (effects_of acting known told)
   each_operation_so promoted counted pair table bucket told =
       operation_so told (λ r old new e. led_so promoted (named known old) (named known new)) (λ b field old new map e is. counted field) (λ b e is. taken_so pair table (known.roles b) is) (λ n had e. bucket)

@@ -8,7 +8,7 @@ use Rattle.run_effects.specs.Given.TablesDeclared.node.Node.{Node}
 use Rattle.run_effects.specs.Given.TablesDeclared.node.Node.TheVariants as node
 use Rattle.run_effects.specs.Given.RunsDeclared.effect.Effect.TheVariants.{Stored}
 use Rattle.run_effects.specs.Given.RunsDeclared.effect.Spot.{Spot}
-use Rattle.run_effects.specs.Given.RunsDeclared.effect.Table.{Table}
+use Rattle.run_effects.specs.Given.RunsDeclared.effect.TableId.{TableId}
 use Rattle.run_effects.specs.Given.SchedulesEffects.{stored_by}
 use Rattle.run_effects.specs.Given.SchedulesLists.{put}
 use Rattle.run_effects.specs.Given.SchedulesMoment.{Place, InMap, Out, UnderWay, Moment}
@@ -71,7 +71,7 @@ module _ {K V : Type 0} (map : ℕ) (number : ℕ → ℕ) (s s2 : Standing K) (
       roles = λ n l seen. role_on n (before n l) seen;
       numbered = λ n l. let k = shown.numbered n (before n l) in (k.0, let le = k.1 in omega (arith, le, as_many));
       rising = λ n o l lo. shown.rising n o l (before o lo);
-      born = λ n l. ap (λ (f : ℕ → Table). (f (number n)).map) born ∙ shown.born n (before n l);
+      born = λ n l. ap (λ (f : ℕ → TableId). (f (number n)).map) born ∙ shown.born n (before n l);
       here = λ n l. out_here n (before n l);
       all = λ k at. let q = shown.all k (out_all k at) in (q.0, (let l = q.1 in omega (arith, l, stored)), q.2);
     }
@@ -120,10 +120,10 @@ module _ {K V : Type 0} (map : ℕ) (number : ℕ → ℕ) (s s2 : Standing K) (
     ]
 
     in_born : (n : ℕ) → n < s2.chart.stored → (v.born (number_then n)).map ≡ map
-    in_born n l = ap (λ (f : ℕ → Table). (f (number_then n)).map) born ∙ (elim (cases n l) as (λ _. (put new (table_of map turn) m.born (number_then n)).map ≡ map) [
-      | inl e ↦ ap (λ (t : Table). t.map) (put_here new (table_of map turn) m.born (number_then n) (new_number n e))
+    in_born n l = ap (λ (f : ℕ → TableId). (f (number_then n)).map) born ∙ (elim (cases n l) as (λ _. (put new (table_of map turn) m.born (number_then n)).map ≡ map) [
+      | inl e ↦ ap (λ (t : TableId). t.map) (put_here new (table_of map turn) m.born (number_then n) (new_number n e))
       | inr k ↦ (let is = old_number n k.1 in
-          ap (λ (t : Table). t.map) (put_elsewhere new (table_of map turn) m.born (number_then n) (λ e. old_apart n k.0 (sym is ∙ e))) ∙ ap (λ (x : ℕ). (m.born x).map) is ∙ shown.born n k.0)
+          ap (λ (t : TableId). t.map) (put_elsewhere new (table_of map turn) m.born (number_then n) (λ e. old_apart n k.0 (sym is ∙ e))) ∙ ap (λ (x : ℕ). (m.born x).map) is ∙ shown.born n k.0)
     ])
 
     in_here : (n : ℕ) → n < s2.chart.stored → is_in_map map (v.place (number_then n)) ≡ s2.chart.current n

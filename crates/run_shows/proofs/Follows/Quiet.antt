@@ -14,7 +14,7 @@ use Rattle.run_effects.specs.Given.TablesDeclared.setting.Setting.{Setting}
 use Rattle.run_effects.specs.Given.TablesDeclared.table_words.TheConstants.{NEXT, DEFERRED, PLACES}
 use Rattle.run_effects.proofs.Given.TablesLists.{table_list}
 use Rattle.run_effects.specs.Given.RunsDeclared.effect.Effect.{Effect}
-use Rattle.run_effects.specs.Given.RunsDeclared.effect.Table.{Table}
+use Rattle.run_effects.specs.Given.RunsDeclared.effect.TableId.{TableId}
 use Rattle.run_effects.specs.Tells.Tells.{KeepsNames}
 use Rattle.run_effects.specs.Given.RuleChart.{Chart}
 use Rattle.run_effects.specs.Given.RuleWords.{Blocks}
@@ -39,7 +39,7 @@ pub same_name : (old new : ℕ) → new ≡ old → names_same old new ≡ true
 same_name old new e = eq-eqb (block_in old) (block_in new) (ap block_in (sym e))
 
 -- a word that is none of a link, a list or a place says nothing
-in_table_nothing : (acting : Acting) (t : Table) (len field stored : ℕ) (was is : Role) → field ≢ NEXT → field ≢ DEFERRED → is_place len field ≡ false
+in_table_nothing : (acting : Acting) (t : TableId) (len field stored : ℕ) (was is : Role) → field ≢ NEXT → field ≢ DEFERRED → is_place len field ≡ false
     → in_table acting t len field stored was is ≡ []
 in_table_nothing acting t len field stored was is next list none =
     ap (λ q. if q then followed_by acting is else (if field == DEFERRED then carried t is else (if is_place len field then placed (spot_at t field) stored was is else []))) (ne_eqb field NEXT next)
@@ -71,10 +71,10 @@ module _ {K V : Type 0} (same : K → K → Bool) (hash : K → ℕ) (setting : 
   linked_not_made b linked i made = subst WasLinked made linked
 
   -- whether the block is a table that the caller looks at
-  abbrev IsTableSeen : ℕ → Table → Type 0
+  abbrev IsTableSeen : ℕ → TableId → Type 0
   IsTableSeen b t = (t.turn < c.past) × (blocks.table_known t.turn ≡ true) × (b ≡ blocks.table t.turn)
 
-  decide : (b : ℕ) (t : Table) → IsTableSeen b t ⊎ (IsTableSeen b t → ⊥)
+  decide : (b : ℕ) (t : TableId) → IsTableSeen b t ⊎ (IsTableSeen b t → ⊥)
   decide b t = elim (cases_lt t.turn c.past) [
     | inl l ↦ by l (blocks.table_known t.turn) refl
     | inr l ↦ inr (λ k. let m = k.0 in omega (arith, l, m))
@@ -87,11 +87,11 @@ module _ {K V : Type 0} (same : K → K → Bool) (hash : K → ℕ) (setting : 
       ]
       by l false e = inr (λ k. cc (e, k.1))
 
-  turn_is : (t : Table) (len u len2 : ℕ) → role.Table t len ≡ role.Table (table_of map u) len2 → t.turn ≡ u
-  turn_is t len u len2 e = let it : t ≡ table_of map u = cc e in ap (λ (x : Table). x.turn) it
+  turn_is : (t : TableId) (len u len2 : ℕ) → role.Table t len ≡ role.Table (table_of map u) len2 → t.turn ≡ u
+  turn_is t len u len2 e = let it : t ≡ table_of map u = cc e in ap (λ (x : TableId). x.turn) it
 
   -- a table that it doesn't look at it doesn't write
-  other_table : (b field old new : ℕ) (t : Table) (len : ℕ) → known.roles b ≡ role.Table t len → HasRole w stored b (role.Table t len) → (IsTableSeen b t → ⊥)
+  other_table : (b field old new : ℕ) (t : TableId) (len : ℕ) → known.roles b ≡ role.Table t len → HasRole w stored b (role.Table t len) → (IsTableSeen b t → ⊥)
       → word_at w.memory (Word b field) ≡ Some old → word_at m2 (Word b field) ≡ Some new → new ≡ old
   other_table b field old new t len e has other was is = untouched (Word b field) old new was is (by)
     where
@@ -104,7 +104,7 @@ module _ {K V : Type 0} (same : K → K → Bool) (hash : K → ℕ) (setting : 
       by (inr (inr counter)) = (let here : value_at w.memory b ≡ Some node.Shards = ap (value_at w.memory) counter ∙ is_map.counter in let there = has.1 in cc (here, there))
 
   -- the word of a table's list
-  list_same : (b old new : ℕ) (t : Table) → IsTableSeen b t → word_at w.memory (Word b DEFERRED) ≡ Some old → word_at m2 (Word b DEFERRED) ≡ Some new → new ≡ old
+  list_same : (b old new : ℕ) (t : TableId) → IsTableSeen b t → word_at w.memory (Word b DEFERRED) ≡ Some old → word_at m2 (Word b DEFERRED) ≡ Some new → new ≡ old
   list_same b old new t (l, seen, here) was is =
       let shows = is_map.map.shows.tables t.turn l seen in
       let has : HasList deferred_word b DEFERRED w = record {
@@ -122,17 +122,17 @@ module _ {K V : Type 0} (same : K → K → Bool) (hash : K → ℕ) (setting : 
     abbrev Does : Role → Bool → Type 0
     Does r q = DoneStill known (in_block acting r field known.stored q before after) (in_block_on acting r field q (block_in new) after known)
 
-    same_does : (t : Table) (len : ℕ) → names_same old new ≡ true → Does (role.Table t len) (names_same old new)
+    same_does : (t : TableId) (len : ℕ) → names_same old new ≡ true → Does (role.Table t len) (names_same old new)
     same_does t len e = subst (Does (role.Table t len)) (sym e) (tt, refl)
 
-    nothing_does : (t : Table) (len : ℕ) → field ≢ NEXT → field ≢ DEFERRED → is_place len field ≡ false → (q : Bool) → Does (role.Table t len) q
+    nothing_does : (t : TableId) (len : ℕ) → field ≢ NEXT → field ≢ DEFERRED → is_place len field ≡ false → (q : Bool) → Does (role.Table t len) q
     nothing_does t len next list none true = (tt, refl)
     nothing_does t len next list none false = (
       subst AllCalm (sym (in_table_nothing acting t len field known.stored before after next list none)) tt,
       in_table_on_nothing acting len field (block_in new) after known next none,
     )
 
-    seen_does : (t : Table) (len : ℕ) → known.roles b ≡ role.Table t len → IsTableSeen b t → Does (role.Table t len) (names_same old new)
+    seen_does : (t : TableId) (len : ℕ) → known.roles b ≡ role.Table t len → IsTableSeen b t → Does (role.Table t len) (names_same old new)
     seen_does t len e (l, seen, here) = elim (cases_eq field NEXT) as (λ _. Does (role.Table t len) (names_same old new)) [
       | inl next ↦ same_does t len (same_name old new ((quiet t.turn l seen here).0 next))
       | inr no_next ↦ elim (cases_eq field DEFERRED) as (λ _. Does (role.Table t len) (names_same old new)) [

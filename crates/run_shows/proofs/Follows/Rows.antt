@@ -22,7 +22,7 @@ use Rattle.run_effects.specs.Given.TablesDeclared.table_words.TheConstants.{NEXT
 use Rattle.run_effects.proofs.Given.TablesLists.{its_list}
 use Rattle.run_effects.specs.Given.RunsDeclared.effect.Effect.{Effect}
 use Rattle.run_effects.specs.Given.RunsDeclared.effect.Effect.TheVariants as effect
-use Rattle.run_effects.specs.Given.RunsDeclared.effect.Table.{Table}
+use Rattle.run_effects.specs.Given.RunsDeclared.effect.TableId.{TableId}
 use Rattle.run_effects.specs.Given.RunsDeclared.effect.Thing.{Thing}
 use Rattle.run_effects.specs.Given.RunsDeclared.effect.Thing.TheVariants.{APair, ATable}
 use Rattle.run_effects.proofs.Given.RuleWorld.Hands.{at_cases}
@@ -118,7 +118,7 @@ module _ {K V : Type 0} where
 -- what such a step may do: nothing that moves a pair or a table, or it hands one of them over
 pub data HandsOn : List Effect → Type 0 where
   IsStill : (effects : List Effect) → AllCalm effects → HandsOn effects
-  Puts : (n : ℕ) (t : Table) → HandsOn (effect.Deferred n t ∷ [])
+  Puts : (n : ℕ) (t : TableId) → HandsOn (effect.Deferred n t ∷ [])
   Retires : (x : Thing) → HandsOn (effect.Retired x ∷ [])
 
 abbrev pub DoneSo : Known → List Effect → Known → Type 0
@@ -144,11 +144,11 @@ module _ {K V : Type 0} (caller map : ℕ) (stored : List (K × V)) (known : Kno
     nothing : DoneSo known [] known
     nothing = (IsStill [] tt, refl)
 
-    same_does : (t : Table) (len : ℕ) → names_same old new ≡ true → Does (role.Table t len) (names_same old new)
+    same_does : (t : TableId) (len : ℕ) → names_same old new ≡ true → Does (role.Table t len) (names_same old new)
     same_does t len e = subst (Does (role.Table t len)) (sym e) nothing
 
     -- the head of a table's list
-    carried_does : (t : Table) (r : Role) → HandsOn (carried t r)
+    carried_does : (t : TableId) (r : Role) → HandsOn (carried t r)
     carried_does t role.Free = IsStill [] tt
     carried_does t (role.OwnPair i) = IsStill [] tt
     carried_does t (role.OwnTable turn shape) = IsStill [] tt
@@ -156,7 +156,7 @@ module _ {K V : Type 0} (caller map : ℕ) (stored : List (K × V)) (known : Kno
     carried_does t (role.Table u len) = IsStill [] tt
     carried_does t (role.Counter of) = IsStill [] tt
 
-    list_does : (t : Table) (len : ℕ) → field ≡ DEFERRED → (q : Bool) → Does (role.Table t len) q
+    list_does : (t : TableId) (len : ℕ) → field ≡ DEFERRED → (q : Bool) → Does (role.Table t len) q
     list_does t len list true = nothing
     list_does t len list false = (
       subst HandsOn (sym effects_are) (carried_does t after),

@@ -12,7 +12,7 @@ use Rattle.run_effects.specs.Given.RawMachine.{machine_plan}
 use Rattle.run_effects.specs.Given.RawDeclared.machines.machine.Machine.{Machine}
 use Rattle.run_effects.specs.Given.RawDeclared.machines.progress.Progress.{Progress}
 use Rattle.run_effects.specs.Given.RunsDeclared.effect.Effect.{Effect}
-use Rattle.run_effects.specs.Given.RunsDeclared.effect.Table.{Table}
+use Rattle.run_effects.specs.Given.RunsDeclared.effect.TableId.{TableId}
 use Rattle.run_effects.specs.Given.SchedulesEffects.{AtEachEffect, with_effects}
 use Rattle.run_effects.specs.Given.SchedulesMoment.{Moment}
 use Rattle.run_effects.specs.Given.SchedulesViews.{map_at}
@@ -236,9 +236,9 @@ module _ {K V : Type 0} (same : K → K → Bool) (hash : ℕ → K → ℕ) (m 
           becomes b (role.Table t len) new = (
             standing,
             moved_on,
-            ap (λ (x : Table). s.maps x.map) new.0 ∙ there,
-            ap (λ (x : Table). maps2 x.map) new.0 ∙ map_is,
-            ap (λ (x : Table). x.turn) new.0,
+            ap (λ (x : TableId). s.maps x.map) new.0 ∙ there,
+            ap (λ (x : TableId). maps2 x.map) new.0 ∙ map_is,
+            ap (λ (x : TableId). x.turn) new.0,
             new.2,
             new.1 ∙ sym (grown.new_tables standing.chart.past (omega arith)).0,
           )

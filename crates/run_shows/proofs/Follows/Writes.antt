@@ -14,7 +14,7 @@ use Rattle.run_effects.specs.Given.TablesDeclared.node.Node.{Node}
 use Rattle.run_effects.specs.Given.TablesDeclared.node.Node.TheVariants as node
 use Rattle.run_effects.specs.Given.TablesDeclared.table_words.TheConstants.{NEXT, DEFERRED, PLACES}
 use Rattle.run_effects.specs.Given.RunsDeclared.effect.Effect.{Effect}
-use Rattle.run_effects.specs.Given.RunsDeclared.effect.Table.{Table}
+use Rattle.run_effects.specs.Given.RunsDeclared.effect.TableId.{TableId}
 use Rattle.run_effects.specs.Effects.Effects.{names_same, led_to, is_place, placed, spot_at, carried, followed_by, in_table, in_block, written_by, linked_on, stored_on, in_table_on, in_block_on, written_on}
 use Rattle.run_effects.specs.Effects.Known.{Known}
 use Rattle.run_effects.specs.declared.acting.Acting.{Acting}
@@ -27,7 +27,7 @@ place_is : (len i : ℕ) → i < len → is_place len (i + PLACES) ≡ true
 place_is len i l = grind (arith, l)
 
 -- a word of a place of a table
-in_table_place : (acting : Acting) (t : Table) (len i stored : ℕ) (was is : Role) → i < len → in_table acting t len (i + PLACES) stored was is ≡ placed (spot_at t (i + PLACES)) stored was is
+in_table_place : (acting : Acting) (t : TableId) (len i stored : ℕ) (was is : Role) → i < len → in_table acting t len (i + PLACES) stored was is ≡ placed (spot_at t (i + PLACES)) stored was is
 in_table_place acting t len i stored was is l =
     ap (λ q. if q then followed_by acting is else (if (i + PLACES) == DEFERRED then carried t is else (if is_place len (i + PLACES) then placed (spot_at t (i + PLACES)) stored was is else [])))
     (ne_eqb (i + PLACES) NEXT (λ e. omega (arith, e)))
@@ -40,7 +40,7 @@ in_table_on_place acting len i b is known l =
     ∙ ap (λ q. if q then stored_on b is known else known) (place_is len i l)
 
 -- the link of a table
-in_table_next : (acting : Acting) (t : Table) (len stored : ℕ) (was is : Role) → in_table acting t len NEXT stored was is ≡ followed_by acting is
+in_table_next : (acting : Acting) (t : TableId) (len stored : ℕ) (was is : Role) → in_table acting t len NEXT stored was is ≡ followed_by acting is
 in_table_next acting t len stored was is =
     ap (λ q. if q then followed_by acting is else (if NEXT == DEFERRED then carried t is else (if is_place len NEXT then placed (spot_at t NEXT) stored was is else []))) (eq-eqb NEXT NEXT refl)
 
@@ -55,7 +55,7 @@ other_names old new ne = ne_eqb (block_in old) (block_in new) ne
 abbrev pub Says : Acting → Known → At → ℕ → ℕ → List Effect → Known → Type 0
 Says acting known at old new effects after = (written_by acting known at old new ≡ effects) × (written_on acting at old new known ≡ after)
 
-module _ (acting : Acting) (known : Known) (b : ℕ) (t : Table) (len : ℕ) (table : known.roles b ≡ role.Table t len) (old new : ℕ) (apart : block_in old ≢ block_in new)
+module _ (acting : Acting) (known : Known) (b : ℕ) (t : TableId) (len : ℕ) (table : known.roles b ≡ role.Table t len) (old new : ℕ) (apart : block_in old ≢ block_in new)
     (was is : Role) (was_is : known.roles (block_in old) ≡ was) (is_is : known.roles (block_in new) ≡ is) where
   word_says : (field : ℕ) → (written_by acting known (Word b field) old new ≡ in_table acting t len field known.stored was is)
       × (written_on acting (Word b field) old new known ≡ in_table_on acting len field (block_in new) is known)

@@ -16,7 +16,7 @@ use Rattle.run_effects.specs.Given.RawDeclared.machines.end_map.Ending.TheVarian
 use Rattle.run_effects.specs.Given.RunsDeclared.effect.Effect.{Effect}
 use Rattle.run_effects.specs.Given.RunsDeclared.effect.Effect.TheVariants.{Asked, PairGivenUp, TableGivenUp, Ended, Taken}
 use Rattle.run_effects.specs.Given.RunsDeclared.effect.Growth.TheVariants.{ABlock}
-use Rattle.run_effects.specs.Given.RunsDeclared.effect.Table.{Table}
+use Rattle.run_effects.specs.Given.RunsDeclared.effect.TableId.{TableId}
 use Rattle.run_effects.specs.Given.SchedulesEffects.{with_effects, AtEachEffect}
 use Rattle.run_effects.specs.Given.SchedulesMoment.{Left, IsTaken, Moment}
 use Rattle.run_effects.specs.Given.SchedulesThings.{same_table}
@@ -180,7 +180,7 @@ module _ {K V : Type 0} (same : K → K → Bool) (hash : ℕ → K → ℕ) (na
       by (suc n) e = (let gone = did.spares.gone b (omega (arith, e)) in cc (gone, some))
 
   table_words : (b field before after : ℕ) → word_at w.memory (Word b field) ≡ Some before → word_at w2.memory (Word b field) ≡ Some after → ((x : ℕ) → value_at w2.memory x ≡ value_at w.memory x)
-      → (t : Table) (len : ℕ) → known.roles b ≡ role.Table t len → names_same before after ≡ true
+      → (t : TableId) (len : ℕ) → known.roles b ≡ role.Table t len → names_same before after ≡ true
   table_words b field before after was now values t len e =
       let has : HasRole w m.stored b (role.Table t len) = subst (λ (r : Role). HasRole w m.stored b r) e (shown.blocks.roles b) in
       word_stays b field before after _ (values b ∙ has.1) was now
@@ -252,7 +252,7 @@ module _ {K V : Type 0} (same : K → K → Bool) (hash : ℕ → K → ℕ) (na
         none_moved : (effects : List Effect) → AllStill effects → Goal effects free
         none_moved effects none = gone_quiet same name m known s shown w2 s.maps (λ n. same_maps (s.maps n)) (Some map) rest calls stood stand effects none b gone others
 
-        apart : (t : Table) → t.map ≡ map → (n : ℕ) (before : Standing K) → s.maps n ≡ Some before → (u : ℕ) → before.chart.first ≤ u → u < before.chart.past → same_table (table_of n u) t ≡ false
+        apart : (t : TableId) → t.map ≡ map → (n : ℕ) (before : Standing K) → s.maps n ≡ Some before → (u : ℕ) → before.chart.first ≤ u → u < before.chart.past → same_table (table_of n u) t ≡ false
         apart t of n before e u from made = by (same_table (table_of n u) t) refl
           where
             by : (q : Bool) → same_table (table_of n u) t ≡ q → same_table (table_of n u) t ≡ false

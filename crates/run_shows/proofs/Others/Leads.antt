@@ -7,7 +7,7 @@ use Rattle.run_effects.specs.Given.TablesDeclared.node.Node.{Node}
 use Rattle.run_effects.specs.Given.RunsDeclared.effect.Effect.{Effect}
 use Rattle.run_effects.specs.Given.RunsDeclared.effect.Effect.TheVariants.{Asked}
 use Rattle.run_effects.specs.Given.RunsDeclared.effect.Growth.TheVariants.{ABucket}
-use Rattle.run_effects.specs.Given.RunsDeclared.effect.Table.{Table}
+use Rattle.run_effects.specs.Given.RunsDeclared.effect.TableId.{TableId}
 use Rattle.run_effects.specs.Given.SchedulesEffects.{with_effects}
 use Rattle.run_effects.specs.Given.SchedulesMoment.{Moment}
 use Rattle.run_effects.specs.Given.SchedulesThings.{same_table}
@@ -30,7 +30,7 @@ use Rattle.run_shows.proofs.Others.Stays.{StaysBlock}
 use Rattle.run_shows.specs.Scenes.Scene.{Scene}
 
 -- tables that are the same have one map and one turn
-pub same_parts : (t u : Table) → same_table t u ≡ true → (t.map ≡ u.map) × (t.turn ≡ u.turn)
+pub same_parts : (t u : TableId) → same_table t u ≡ true → (t.map ≡ u.map) × (t.turn ≡ u.turn)
 same_parts t u e = (grind (arith, e), grind (arith, e))
 
 -- a bucket may have been asked for
@@ -56,7 +56,7 @@ abbrev pub DoesNothing : Known → List Effect → Known → Type 0
 DoesNothing known effects after = AllCalm effects × (after ≡ known)
 
 -- a word of a block says nothing, if it is none of a table, or goes on naming what it named
-pub word_says : (its : Acting) (known : Known) (field b : ℕ) (r : Role) (q : Bool) (was is : Role) → ((t : Table) (len : ℕ) → r ≡ role.Table t len → q ≡ true)
+pub word_says : (its : Acting) (known : Known) (field b : ℕ) (r : Role) (q : Bool) (was is : Role) → ((t : TableId) (len : ℕ) → r ≡ role.Table t len → q ≡ true)
     → DoesNothing known (in_block its r field known.stored q was is) (in_block_on its r field q b is known)
 word_says its known field b role.Free q was is names = (tt, refl)
 word_says its known field b (role.OwnPair caller) q was is names = (tt, refl)

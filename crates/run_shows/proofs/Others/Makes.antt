@@ -9,8 +9,8 @@ use Rattle.seize_words.specs.declared.fault.Fault.{Fault}
 use Rattle.seize_words.specs.OneMemory.Mem.{Mem, value_at, word_at}
 use Rattle.seize_words.specs.OneMemory.Word.{block_in}
 use Rattle.seize.specs.World.{World, Hand, Making as MadeBy, with_at}
-use Rattle.seize.specs.declared.progress.Progress.{Progress}
-use Rattle.seize.specs.declared.progress.Progress.TheVariants as progress
+use Rattle.seize.specs.declared.advance.Advance.{Advance}
+use Rattle.seize.specs.declared.advance.Advance.TheVariants as progress
 use Rattle.run_effects.specs.Given.TablesChunks.{is_incremental}
 use Rattle.run_effects.specs.Given.TablesNodes.{deferred_word}
 use Rattle.run_effects.specs.Given.TablesDeclared.node.Node.{Node}
@@ -26,7 +26,7 @@ use Rattle.run_effects.specs.Given.RunsDeclared.shapes.TableShape.{TableShape}
 use Rattle.run_effects.specs.Given.RunsDeclared.effect.Effect.{Effect}
 use Rattle.run_effects.specs.Given.RunsDeclared.effect.Effect.TheVariants.{Asked, PairGivenUp, TableGivenUp, Linked}
 use Rattle.run_effects.specs.Given.RunsDeclared.effect.Growth.TheVariants.{ABlock}
-use Rattle.run_effects.specs.Given.RunsDeclared.effect.Table.{Table}
+use Rattle.run_effects.specs.Given.RunsDeclared.effect.TableId.{TableId}
 use Rattle.run_effects.specs.Given.SchedulesEffects.{with_effects}
 use Rattle.run_effects.specs.Given.SchedulesLists.{put}
 use Rattle.run_effects.specs.Given.SchedulesMoment.{IsLinked, TableThere, Moment}
@@ -78,7 +78,7 @@ use Rattle.run_shows.specs.Scenes.Making.{MakingComesTo, MakingStepsFrom}
 use Rattle.run_shows.specs.Scenes.Scene.{Scene, slot_of}
 
 module _ {K V : Type 0} (same : K → K → Bool) (hash : ℕ → K → ℕ) (name : ℕ → List ℕ) (m : Moment K V) (known : Known) (s : Scene K V) (old new : Held K V) (at : IsAt same hash old s)
-    (shown : Shows same name m known s) (i : ℕ) (b : Beginning K) (here : s.makers i ≡ Some b) (end : NewMap) (said : Progress Setting) (steps : MakingStepsFrom b.machine old new end said)
+    (shown : Shows same name m known s) (i : ℕ) (b : Beginning K) (here : s.makers i ≡ Some b) (end : NewMap) (said : Advance Setting) (steps : MakingStepsFrom b.machine old new end said)
     (did : MakingStepsAmong V same same old.batch_size old.roots slot_of s.world s.maps s.calls s.makers s.enders i b new.memory (end, said)) (of : Option ℕ) where
   abbrev w : World (Node K V)
   w = s.world
@@ -123,7 +123,7 @@ module _ {K V : Type 0} (same : K → K → Bool) (hash : ℕ → K → ℕ) (na
   stays x e = record { value = e; linked = λ value is linked. (linked_stays x value is linked).1 }
 
   -- a block that it has made is no table of a map
-  pub no_table_word : (x : ℕ) (q : Bool) → w.hand x ≡ MadeBy i → (t : Table) (len : ℕ) → known.roles x ≡ role.Table t len → q ≡ true
+  pub no_table_word : (x : ℕ) (q : Bool) → w.hand x ≡ MadeBy i → (t : TableId) (len : ℕ) → known.roles x ≡ role.Table t len → q ≡ true
   no_table_word x q made t len e = absurd (let has : HasRole w m.stored x (role.Table t len) = subst (λ (r : Role). HasRole w m.stored x r) e (shown.blocks.roles x) in subst WasLinked made has.2)
 
   -- where it leads beside the map that it makes
@@ -182,8 +182,8 @@ module _ {K V : Type 0} (same : K → K → Bool) (hash : ℕ → K → ℕ) (na
   taken_root u roots n opening.Over k taken = absurd taken
   taken_root u roots n (opening.Refused fault) k taken = absurd taken
 
-  keeps : (t : Progress Setting) → said ≡ t → KeepsIts V same same old.batch_size old.roots slot_of w w2 b.machine (end, t)
-  keeps t e = subst (λ (x : Progress Setting). KeepsIts V same same old.batch_size old.roots slot_of w w2 b.machine (end, x)) e did.step.keeps
+  keeps : (t : Advance Setting) → said ≡ t → KeepsIts V same same old.batch_size old.roots slot_of w w2 b.machine (end, t)
+  keeps t e = subst (λ (x : Advance Setting). KeepsIts V same same old.batch_size old.roots slot_of w w2 b.machine (end, x)) e did.step.keeps
 
   -- its root was written
   module _ (r before after : ℕ) (is : told ≡ changed.Wrote (Root r) before after) where
@@ -229,7 +229,7 @@ module _ {K V : Type 0} (same : K → K → Bool) (hash : ℕ → K → ℕ) (na
 
     done_by : DoneBy w i old.roots b.machine old.memory new.memory told setting told
     done_by = making_done w i old.roots b.machine old.memory new.memory told end setting facts.point
-        (subst (λ (x : Progress Setting). MakingStepsFrom b.machine old new end x) done steps)
+        (subst (λ (x : Advance Setting). MakingStepsFrom b.machine old new end x) done steps)
 
     -- both what is beside it, and the map
     abbrev Both : List Effect → Known → Type 0
@@ -291,7 +291,7 @@ module _ {K V : Type 0} (same : K → K → Bool) (hash : ℕ → K → ℕ) (na
       apart : block_in before ≢ block_in after
       apart e = (let none : role.Free ≡ role.OwnTable it.turn shape = sym role_before ∙ ap known.roles e ∙ role_then in cc none)
 
-      abbrev table : Table
+      abbrev table : TableId
       table = record { map = b.map; turn = it.turn }
 
       abbrev known_then : Known
@@ -351,7 +351,7 @@ module _ {K V : Type 0} (same : K → K → Bool) (hash : ℕ → K → ℕ) (na
       abbrev v : Moment K V
       v = with_effects None of (Linked table shape ∷ []) m
 
-      abbrev entry : Table → TableShape → TableThere
+      abbrev entry : TableId → TableShape → TableThere
       entry t shape = record { table = t; shape = shape; stage = IsLinked }
 
       born_is : (o : Option ℕ) → (with_effects None o (Linked table shape ∷ []) m).born ≡ m.born
@@ -363,7 +363,7 @@ module _ {K V : Type 0} (same : K → K → Bool) (hash : ℕ → K → ℕ) (na
         pairs = record {
           place = λ k l. refl;
           all = λ k at. at;
-          born = λ k l. ap (λ (f : ℕ → Table). (f k).map) (born_is of);
+          born = λ k l. ap (λ (f : ℕ → TableId). (f k).map) (born_is of);
           stored = (let e = ap length (stored_none of (Linked table shape ∷ []) m) in omega (arith, e));
         };
         tables = record {
@@ -458,7 +458,7 @@ module _ {K V : Type 0} (same : K → K → Bool) (hash : ℕ → K → ℕ) (na
           numbers = λ n x e. at_other beside.shows.number b.map (λ n. 0) n (λ same_number. (let none = ap s.maps same_number ∙ not_there in cc (none, e))) ∙ beside.numbers n x e;
         }
 
-  making_shown : (t : Progress Setting) → said ≡ t → (comes : MakingComesTo same hash s old new i b end w2 t) → NotesCounter known b → WasNew b.map t m
+  making_shown : (t : Advance Setting) → said ≡ t → (comes : MakingComesTo same hash s old new i b end w2 t) → NotesCounter known b → WasNew b.map t m
       → ShowsAfter same name m known s shown (with_effects None of (effects_of its known told) m) (known_after its told known) (making_after same hash s old new i b end w2 t comes)
   making_shown progress.Goes e comes notes was_new =
       making_leads (record s { world = w2; makers = with_at s.makers i (Some (record b { machine = end })) }) shown.calls (λ n st is. (comes.together.makings.standing.each n st is).ground.map)

@@ -6,8 +6,8 @@ use Rattle.seize_words.specs.declared.at.At.TheVariants.{Root, Used, Slot, Entry
 use Rattle.seize_words.specs.OneMemory.Mem.{value_at}
 use Rattle.seize_words.specs.OneMemory.Word.{block_in}
 use Rattle.seize.specs.World.{World, with_at}
-use Rattle.seize.specs.declared.progress.Progress.{Progress}
-use Rattle.seize.specs.declared.progress.Progress.TheVariants as progress
+use Rattle.seize.specs.declared.advance.Advance.{Advance}
+use Rattle.seize.specs.declared.advance.Advance.TheVariants as progress
 use Rattle.run_effects.specs.Given.TablesDeclared.node.Node.{Node}
 use Rattle.run_effects.specs.Given.TablesDeclared.setting.Setting.{Setting}
 use Rattle.run_effects.specs.Given.ResizeNewMap.{new_map_plan}
@@ -57,7 +57,7 @@ new_stays map setting m v same new = record {
 }
 
 module _ {K V : Type 0} (same : K → K → Bool) (hash : ℕ → K → ℕ) (name : ℕ → List ℕ) (m : Moment K V) (known : Known) (s : Scene K V) (old new : Held K V) (at : IsAt same hash old s)
-    (shown : Shows same name m known s) (i : ℕ) (b : Beginning K) (here : s.makers i ≡ Some b) (end : NewMap) (said : Progress Setting) (steps : MakingStepsFrom b.machine old new end said)
+    (shown : Shows same name m known s) (i : ℕ) (b : Beginning K) (here : s.makers i ≡ Some b) (end : NewMap) (said : Advance Setting) (steps : MakingStepsFrom b.machine old new end said)
     (did : MakingStepsAmong V same same old.batch_size old.roots slot_of s.world s.maps s.calls s.makers s.enders i b new.memory (end, said)) where
   abbrev w : World (Node K V)
   w = s.world
@@ -129,7 +129,7 @@ module _ {K V : Type 0} (same : K → K → Bool) (hash : ℕ → K → ℕ) (na
       | inr ne ↦ others_noted s2 at2 j d is (sym (makers j ∙ at_other s.makers i next j ne) ∙ is)
     ]
 
-    pub making_noted : (t : Progress Setting) → (comes : MakingComesTo same hash s old new i b end w2 t) → NotesCounters (known_after its told known) (making_after same hash s old new i b end w2 t comes)
+    pub making_noted : (t : Advance Setting) → (comes : MakingComesTo same hash s old new i b end w2 t) → NotesCounters (known_after its told known) (making_after same hash s old new i b end w2 t comes)
     making_noted progress.Goes comes =
         noted_on _ comes (Some (record b { machine = end })) (λ j. refl) (λ d is. subst (λ (x : Beginning K). NotesCounter (known_after its told known) x) (one_of (record b { machine = end }) d is) (own_noted comes))
     making_noted progress.Waits comes = absurd comes

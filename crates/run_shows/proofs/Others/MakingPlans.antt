@@ -13,8 +13,8 @@ use Rattle.seize_words.specs.OneMemory.Word.{block_in}
 use Rattle.seize_words.proofs.OneMemory.OneOwner.AfterWrites.{value_at-with_word, block_of-with_block, block_of-made}
 use Rattle.run_effects.proofs.Given.SeizeMemoryWords.Named.{block_there}
 use Rattle.seize.specs.World.{World, Making as MadeBy}
-use Rattle.seize.specs.declared.progress.Progress.{Progress}
-use Rattle.seize.specs.declared.progress.Progress.TheVariants as progress
+use Rattle.seize.specs.declared.advance.Advance.{Advance}
+use Rattle.seize.specs.declared.advance.Advance.TheVariants as progress
 use Rattle.run_effects.specs.Given.TablesDeclared.node.Node.{Node}
 use Rattle.run_effects.specs.Given.TablesDeclared.node.Node.TheVariants as node
 use Rattle.run_effects.specs.Given.TablesDeclared.setting.Setting.{Setting}
@@ -159,13 +159,13 @@ module _ {K V : Type 0} (w : World (Node K V)) (i roots : ℕ) (n : NewMap) wher
   map_plain (at.Refused fault) facts = tt
 
   module _ (m m2 : Mem (Node K V)) (told : Changed) where
-    abbrev Told : Plan (Node K V) (NewMap × Progress Setting) → NewMap × Progress Setting → Type 0
-    Told plan end = StepsTold K V (NewMap × Progress Setting) m changed.Nothing plan m2 told end
+    abbrev Told : Plan (Node K V) (NewMap × Advance Setting) → NewMap × Advance Setting → Type 0
+    Told plan end = StepsTold K V (NewMap × Advance Setting) m changed.Nothing plan m2 told end
 
-    pub making_tells : (end : NewMap × Progress Setting) → OpeningFacts w roots i n n.stands → Told (new_map.new_map_plan n) end → TellsMaking w i n.setting.root told
+    pub making_tells : (end : NewMap × Advance Setting) → OpeningFacts w roots i n n.stands → Told (new_map.new_map_plan n) end → TellsMaking w i n.setting.root told
     making_tells end facts steps = plan_says w i n.setting.root m m2 told (new_map.new_map_plan n) end steps (map_plain n.stands facts)
 
-    pub making_keeps : (end : NewMap × Progress Setting) → OpeningFacts w roots i n n.stands → May Can Took value_at m (new_map.new_map_plan {K = K} {V = V} n) → Told (new_map.new_map_plan n) end → KeepsValues m m2 told
+    pub making_keeps : (end : NewMap × Advance Setting) → OpeningFacts w roots i n n.stands → May Can Took value_at m (new_map.new_map_plan {K = K} {V = V} n) → Told (new_map.new_map_plan n) end → KeepsValues m m2 told
     making_keeps end facts may steps = plan_keeps w i n.setting.root m m2 told (new_map.new_map_plan n) end steps (map_plain n.stands facts) may
 
     -- it has its root where it writes it
@@ -174,7 +174,7 @@ module _ {K V : Type 0} (w : World (Node K V)) (i roots : ℕ) (n : NewMap) wher
     no_root at expected word (Exchanged (Err found)) r before after other e = cc e
     no_root at expected word _ r before after other e = cc e
 
-    has_root_at : (p : Opening) (end : NewMap × Progress Setting) → OpeningFacts w roots i n p → Told (new_map.plan_at n p) end → (r before after : ℕ) → told ≡ changed.Wrote (Root r) before after → HasTaken p
+    has_root_at : (p : Opening) (end : NewMap × Advance Setting) → OpeningFacts w roots i n p → Told (new_map.plan_at n p) end → (r before after : ℕ) → told ≡ changed.Wrote (Root r) before after → HasTaken p
     has_root_at at.Takes end facts s r before after is = absurd (no_root (Used n.setting.root) 0 1 s.0 r before after (λ e. cc e) (sym s.1.1 ∙ is))
     has_root_at at.Shards end facts s r before after is = tt
     has_root_at (at.Tables making) end facts s r before after is = tt
@@ -183,7 +183,7 @@ module _ {K V : Type 0} (w : World (Node K V)) (i roots : ℕ) (n : NewMap) wher
     has_root_at at.Over end facts s r before after is = absurd facts
     has_root_at (at.Refused fault) end facts s r before after is = absurd facts
 
-    pub has_root : (end : NewMap × Progress Setting) → OpeningFacts w roots i n n.stands → Told (new_map.new_map_plan n) end → (r before after : ℕ) → told ≡ changed.Wrote (Root r) before after → HasTaken n.stands
+    pub has_root : (end : NewMap × Advance Setting) → OpeningFacts w roots i n n.stands → Told (new_map.new_map_plan n) end → (r before after : ℕ) → told ≡ changed.Wrote (Root r) before after → HasTaken n.stands
     has_root end facts steps = has_root_at n.stands end facts steps
 
     -- The map stands once its counter was made, if it is to have no table, and else once its root is written.
@@ -193,13 +193,13 @@ module _ {K V : Type 0} (w : World (Node K V)) (i roots : ℕ) (n : NewMap) wher
     DoneBy setting _ = ⊥
 
     module _ (opening : NewMap) (setting : Setting) where
-      not_goes : (x : NewMap) → ◌≡◌ {A = NewMap × Progress Setting} (opening, progress.Done setting) (x, progress.Goes) → ⊥
-      not_goes x e = (let other : ◌≡◌ {A = Progress Setting} (progress.Done setting) progress.Goes = ap (λ (y : NewMap × Progress Setting). y.1) e in cc other)
+      not_goes : (x : NewMap) → ◌≡◌ {A = NewMap × Advance Setting} (opening, progress.Done setting) (x, progress.Goes) → ⊥
+      not_goes x e = (let other : ◌≡◌ {A = Advance Setting} (progress.Done setting) progress.Goes = ap (λ (y : NewMap × Advance Setting). y.1) e in cc other)
 
-      not_refused : (x : NewMap) (fault : Fault) → ◌≡◌ {A = NewMap × Progress Setting} (opening, progress.Done setting) (x, progress.Refused fault) → ⊥
-      not_refused x fault e = (let other : ◌≡◌ {A = Progress Setting} (progress.Done setting) (progress.Refused fault) = ap (λ (y : NewMap × Progress Setting). y.1) e in cc other)
+      not_refused : (x : NewMap) (fault : Fault) → ◌≡◌ {A = NewMap × Advance Setting} (opening, progress.Done setting) (x, progress.Refused fault) → ⊥
+      not_refused x fault e = (let other : ◌≡◌ {A = Advance Setting} (progress.Done setting) (progress.Refused fault) = ap (λ (y : NewMap × Advance Setting). y.1) e in cc other)
 
-      next_not : (q : Bool) (x y : NewMap) (fault : Fault) → ◌≡◌ {A = NewMap × Progress Setting} (opening, progress.Done setting) (if q then (x, progress.Goes) else (y, progress.Refused fault)) → ⊥
+      next_not : (q : Bool) (x y : NewMap) (fault : Fault) → ◌≡◌ {A = NewMap × Advance Setting} (opening, progress.Done setting) (if q then (x, progress.Goes) else (y, progress.Refused fault)) → ⊥
       next_not true x y fault e = not_goes x e
       next_not false x y fault e = not_refused y fault e
 
@@ -233,10 +233,10 @@ module _ {K V : Type 0} (w : World (Node K V)) (i roots : ℕ) (n : NewMap) wher
           → Ends (value_at m2) (new_map.made n out) (opening, progress.Done setting) → DoneBy setting told
       shards_so (Made (Ok x)) is e = by (n.len == 0) refl e
         where
-          by : (q : Bool) → (n.len == 0) ≡ q → ◌≡◌ {A = NewMap × Progress Setting} (opening, progress.Done setting) (if q then new_map.done (record n { setting = new_map.with_counter n.setting x })
+          by : (q : Bool) → (n.len == 0) ≡ q → ◌≡◌ {A = NewMap × Advance Setting} (opening, progress.Done setting) (if q then new_map.done (record n { setting = new_map.with_counter n.setting x })
               else new_map.goes (record n { setting = new_map.with_counter n.setting x }) (at.Tables (new_table.first_table (new_map.with_counter n.setting x) n.len))) → DoneBy setting told
           by true none f =
-              let done : ◌≡◌ {A = Progress Setting} (progress.Done setting) (progress.Done (new_map.with_counter n.setting x)) = ap (λ (y : NewMap × Progress Setting). y.1) f in
+              let done : ◌≡◌ {A = Advance Setting} (progress.Done setting) (progress.Done (new_map.with_counter n.setting x)) = ap (λ (y : NewMap × Advance Setting). y.1) f in
               let its : setting ≡ new_map.with_counter n.setting x = cc done in
               subst (DoneBy setting) (sym is) (grind (arith, none), refl, ap (λ (y : Setting). y.counter) its)
           by false none f = absurd (not_goes _ f)
@@ -261,22 +261,22 @@ module _ {K V : Type 0} (w : World (Node K V)) (i roots : ℕ) (n : NewMap) wher
     abbrev pub CounterFrom : NewMap → Type 0
     CounterFrom end = (HasMade n.stands × (end.setting ≡ n.setting)) ⊎ (told ≡ changed.Made kind.Shards end.setting.counter)
 
-    opened_setting : (r : NewTable × Progress Table) → (new_map.opened n r).0.setting ≡ n.setting
+    opened_setting : (r : NewTable × Advance Table) → (new_map.opened n r).0.setting ≡ n.setting
     opened_setting (making, progress.Goes) = refl
     opened_setting (making, progress.Waits) = refl
     opened_setting (making, progress.Done table) = refl
     opened_setting (making, progress.Refused fault) = refl
 
-    module _ (end : NewMap) (said : Progress Setting) (has : HasMade end.stands) where
+    module _ (end : NewMap) (said : Advance Setting) (has : HasMade end.stands) where
       -- it has none where it came to
-      none_there : (x : NewMap) (y : Progress Setting) → ◌≡◌ {A = NewMap × Progress Setting} (end, said) (x, y) → (HasMade x.stands → ⊥) → CounterFrom end
-      none_there x y e none = absurd (none (subst (λ (z : NewMap). HasMade z.stands) (ap (λ (z : NewMap × Progress Setting). z.0) e) has))
+      none_there : (x : NewMap) (y : Advance Setting) → ◌≡◌ {A = NewMap × Advance Setting} (end, said) (x, y) → (HasMade x.stands → ⊥) → CounterFrom end
+      none_there x y e none = absurd (none (subst (λ (z : NewMap). HasMade z.stands) (ap (λ (z : NewMap × Advance Setting). z.0) e) has))
 
       takes_none : n.stands ≡ at.Takes → (out : Out (Node K V)) → Ends (value_at m2) (new_map.taken n out) (end, said) → CounterFrom end
       takes_none is (Exchanged (Ok free)) e = none_there _ _ e (λ h. h)
       takes_none is (Exchanged (Err used)) e = by (nat_lt n.setting.root (n.roots - 1)) e
         where
-          by : (q : Bool) → ◌≡◌ {A = NewMap × Progress Setting} (end, said) (if q then (record n { setting = new_map.at_root n.setting (n.setting.root + 1) }, progress.Goes) else new_map.refused n RootsUsedUp) → CounterFrom end
+          by : (q : Bool) → ◌≡◌ {A = NewMap × Advance Setting} (end, said) (if q then (record n { setting = new_map.at_root n.setting (n.setting.root + 1) }, progress.Goes) else new_map.refused n RootsUsedUp) → CounterFrom end
           by true f = none_there _ _ f (λ h. subst HasMade is h)
           by false f = none_there _ _ f (λ h. h)
       takes_none is _ e = none_there _ _ e (λ h. subst HasMade is h)
@@ -285,10 +285,10 @@ module _ {K V : Type 0} (w : World (Node K V)) (i roots : ℕ) (n : NewMap) wher
           → Ends (value_at m2) (new_map.made n out) (end, said) → CounterFrom end
       shards_made is (Made (Ok x)) so e = by (n.len == 0) e
         where
-          by : (q : Bool) → ◌≡◌ {A = NewMap × Progress Setting} (end, said) (if q then new_map.done (record n { setting = new_map.with_counter n.setting x })
+          by : (q : Bool) → ◌≡◌ {A = NewMap × Advance Setting} (end, said) (if q then new_map.done (record n { setting = new_map.with_counter n.setting x })
               else new_map.goes (record n { setting = new_map.with_counter n.setting x }) (at.Tables (new_table.first_table (new_map.with_counter n.setting x) n.len))) → CounterFrom end
           by true f = none_there _ _ f (λ h. h)
-          by false f = inr (so ∙ ap (changed.Made kind.Shards) (sym (ap (λ (z : NewMap × Progress Setting). z.0.setting.counter) f)))
+          by false f = inr (so ∙ ap (changed.Made kind.Shards) (sym (ap (λ (z : NewMap × Advance Setting). z.0.setting.counter) f)))
       shards_made is (Made (Err back)) so e = none_there _ _ e (λ h. h)
       shards_made is _ so e = none_there _ _ e (λ h. subst HasMade is h)
 
@@ -297,7 +297,7 @@ module _ {K V : Type 0} (w : World (Node K V)) (i roots : ℕ) (n : NewMap) wher
       counter_at at.Shards is facts s = shards_made is s.0 s.1.1 s.2
       counter_at (at.Tables making) is facts s =
           let it = told_in m m2 told (new_map.opened n) (new_table.new_table_plan making) (end, said) s in
-          inl (subst HasMade (sym is) tt, ap (λ (z : NewMap × Progress Setting). z.0.setting) it.1 ∙ opened_setting it.0)
+          inl (subst HasMade (sym is) tt, ap (λ (z : NewMap × Advance Setting). z.0.setting) it.1 ∙ opened_setting it.0)
       counter_at (at.Unmakes fault) is facts s = none_there _ _ s.2 (λ h. h)
       counter_at (at.Frees fault) is facts s = none_there _ _ s.2 (λ h. h)
       counter_at at.Over is facts s = absurd facts

@@ -2,7 +2,7 @@
 use Rattle.std.specs.Prelude.{◌≡◌, ℕ, zero, suc, ◌<◌, ◌≤◌, ◌==◌, Bool, true, false, List, [], ◌∷◌, ◌++◌, length, filter, find, map, if◌then◌else◌, ◌⊎◌}
 use Rattle.std.proofs.Common.{refl, ap, sym, ◌∙◌, arith, inl, inr}
 use Rattle.std.proofs.lemmas.Bool.{eq-eqb, cases_eq}
-use Rattle.run_effects.specs.Given.RunsDeclared.effect.Table.{Table}
+use Rattle.run_effects.specs.Given.RunsDeclared.effect.TableId.{TableId}
 use Rattle.run_effects.specs.Given.SchedulesEffects.{all_at, at_stage}
 use Rattle.run_effects.specs.Given.SchedulesLists.{put, is_among}
 use Rattle.run_effects.specs.Given.SchedulesMoment.{Place, InMap, Stage, TableThere, Moment}
@@ -41,7 +41,7 @@ module _ {K V : Type 0} (n : ℕ) (m v : Moment K V) where
       | inl e ↦ sym e ∙ at
       | inr e ↦ absurd (let here : true ≡ false = sym (eq-eqb n n refl) ∙ sym (ap (is_in_map n) at) ∙ e.1 in cc here)
     ];
-    born = λ k l. ap (λ (f : ℕ → Table). (f k).map) born;
+    born = λ k l. ap (λ (f : ℕ → TableId). (f k).map) born;
     stored = let e = ap length stored in omega (arith, e);
   }
 
@@ -53,7 +53,7 @@ module _ {K V : Type 0} (n : ℕ) (m v : Moment K V) where
   ]
 
   -- all that waited behind a table has
-  pub all_outside : (t : Table) (p : Place) → WaitOutside m t → is_in_map n p ≡ false → v.place ≡ all_at p (behind t m.deferred) m.place → (k : ℕ) → StaysOut k
+  pub all_outside : (t : TableId) (p : Place) → WaitOutside m t → is_in_map n p ≡ false → v.place ≡ all_at p (behind t m.deferred) m.place → (k : ℕ) → StaysOut k
   all_outside t p out is place k = by (is_among k (behind t m.deferred)) refl
     where
       now : v.place k ≡ all_at p (behind t m.deferred) m.place k
@@ -64,7 +64,7 @@ module _ {K V : Type 0} (n : ℕ) (m v : Moment K V) where
       by false e = inl (now ∙ ap (λ q. if q then p else m.place k) e)
 
 -- a table comes to another stage
-module _ (to : Stage) (t : Table) where
+module _ (to : Stage) (t : TableId) where
   abbrev staged : TableThere → TableThere
   staged = at_stage t to
 
@@ -82,10 +82,10 @@ module _ (to : Stage) (t : Table) where
       by : (q : Bool) → (u.table.map == n) ≡ q → filter (λ x. x.table.map == n) (map staged us) ≡ map staged (filter (λ x. x.table.map == n) us)
           → filter (λ x. x.table.map == n) (map staged (u ∷ us)) ≡ map staged (filter (λ x. x.table.map == n) (u ∷ us))
       by true e rest =
-          ap (λ z. if z then staged u ∷ filter (λ x. x.table.map == n) (map staged us) else filter (λ x. x.table.map == n) (map staged us)) (ap (λ (x : Table). x.map == n) (same_one u) ∙ e)
+          ap (λ z. if z then staged u ∷ filter (λ x. x.table.map == n) (map staged us) else filter (λ x. x.table.map == n) (map staged us)) (ap (λ (x : TableId). x.map == n) (same_one u) ∙ e)
           ∙ ap (λ xs. staged u ∷ xs) rest ∙ ap (λ z. map staged (if z then u ∷ filter (λ x. x.table.map == n) us else filter (λ x. x.table.map == n) us)) (sym e)
       by false e rest =
-          ap (λ z. if z then staged u ∷ filter (λ x. x.table.map == n) (map staged us) else filter (λ x. x.table.map == n) (map staged us)) (ap (λ (x : Table). x.map == n) (same_one u) ∙ e)
+          ap (λ z. if z then staged u ∷ filter (λ x. x.table.map == n) (map staged us) else filter (λ x. x.table.map == n) (map staged us)) (ap (λ (x : TableId). x.map == n) (same_one u) ∙ e)
           ∙ rest ∙ ap (λ z. map staged (if z then u ∷ filter (λ x. x.table.map == n) us else filter (λ x. x.table.map == n) us)) (sym e)
 
   module _ {K : Type 0} (n : ℕ) (c : Chart K) (stage : ℕ → Stage) where
@@ -114,7 +114,7 @@ module _ (to : Stage) (t : Table) where
         ∙ ap (λ x. tables_to n c stage_then u ++ x ∷ []) (one_staged u)
 
 -- the map is shown where a table comes to another stage that is none of those from its root on
-module _ {K V : Type 0} (n : ℕ) (number : ℕ → ℕ) (s : Standing K) (m v : Moment K V) (known : Known) (to : Stage) (t : Table)
+module _ {K V : Type 0} (n : ℕ) (number : ℕ → ℕ) (s : Standing K) (m v : Moment K V) (known : Known) (to : Stage) (t : TableId)
     (pairs : AlikePairs n m v) (maps : v.maps ≡ m.maps) (tables : v.tables ≡ map (at_stage t to) m.tables)
     (passed : (u : ℕ) → s.chart.first ≤ u → u < s.chart.past → same_table (table_of n u) t ≡ false) where
   pub table_staged : ShowsMap n number s m known → ShowsMap n number s v known

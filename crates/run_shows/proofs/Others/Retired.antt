@@ -3,7 +3,7 @@ use Rattle.std.specs.Prelude.{◌≡◌, ℕ, zero, suc, ◌<◌, ◌≤◌, ◌
 use Rattle.std.specs.List.{list_any}
 use Rattle.std.proofs.Common.{refl, ap, sym, ◌∙◌, arith, inl, inr}
 use Rattle.std.proofs.lemmas.Bool.{eq-eqb}
-use Rattle.run_effects.specs.Given.RunsDeclared.effect.Table.{Table}
+use Rattle.run_effects.specs.Given.RunsDeclared.effect.TableId.{TableId}
 use Rattle.run_effects.specs.Given.SchedulesMoment.{Stage, IsLinked, TableThere, Moment}
 use Rattle.run_effects.specs.Given.SchedulesThings.{same_table}
 use Rattle.run_effects.specs.Given.SchedulesViews.{is_retired, is_stage}
@@ -68,7 +68,7 @@ module _ {K : Type 0} (n : ℕ) (c : Chart K) (stage : ℕ → Stage) (p : Table
         | inr none ↦ absurd (cc none)
       ]
 
-module _ {K V : Type 0} (n : ℕ) (number : ℕ → ℕ) (s : Standing K) (m : Moment K V) (known : Known) (shown : ShowsMap n number s m known) (t : Table) (retired : is_stage is_retired t m ≡ true) where
+module _ {K V : Type 0} (n : ℕ) (number : ℕ → ℕ) (s : Standing K) (m : Moment K V) (known : Known) (shown : ShowsMap n number s m known) (t : TableId) (retired : is_stage is_retired t m ≡ true) where
   abbrev is_it : TableThere → Bool
   is_it x = same_table x.table t && is_retired x.stage
 

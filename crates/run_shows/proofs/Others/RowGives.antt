@@ -12,8 +12,8 @@ use Rattle.seize.specs.Register as register
 use Rattle.seize.specs.Sequence.{taken_in}
 use Rattle.seize.specs.Settle as settle
 use Rattle.seize.specs.World.{settle_effects}
-use Rattle.seize.specs.declared.progress.Progress.{Progress}
-use Rattle.seize.specs.declared.progress.Progress.TheVariants as progress
+use Rattle.seize.specs.declared.advance.Advance.{Advance}
+use Rattle.seize.specs.declared.advance.Advance.TheVariants as progress
 use Rattle.seize.specs.declared.rows.leave.Leave.{Leave}
 use Rattle.seize.specs.declared.rows.leave.Leaving.{Leaving}
 use Rattle.seize.specs.declared.rows.leave.Leaving.TheVariants as leaving
@@ -152,13 +152,13 @@ module _ {K V : Type 0} (m m2 : Mem (Node K V)) (told : Changed) where
   by_settling (settled.Gave value) g = g
   by_settling settled.Done g = g
 
-  by_registering : (p : Progress ℕ) → TakesNone told → GivesWhatItTook m told (of_registering p)
+  by_registering : (p : Advance ℕ) → TakesNone told → GivesWhatItTook m told (of_registering p)
   by_registering progress.Goes none = none
   by_registering progress.Waits none = none
   by_registering (progress.Done slot) none = none
   by_registering (progress.Refused fault) none = none
 
-  by_storing : (p : Progress Unit) → TakesNone told → GivesWhatItTook m told (of_storing p)
+  by_storing : (p : Advance Unit) → TakesNone told → GivesWhatItTook m told (of_storing p)
   by_storing progress.Goes none = none
   by_storing progress.Waits none = none
   by_storing (progress.Done u) none = none

@@ -4,7 +4,7 @@ use Rattle.std.proofs.Common.{refl, ap, sym, subst, ◌∙◌}
 use Rattle.seize_words.specs.OneMemory.Mem.{value_at}
 use Rattle.seize.specs.World.{World}
 use Rattle.run_effects.specs.Given.TablesDeclared.node.Node.{Node}
-use Rattle.run_effects.specs.Given.RunsDeclared.effect.Table.{Table}
+use Rattle.run_effects.specs.Given.RunsDeclared.effect.TableId.{TableId}
 use Rattle.run_effects.specs.Given.SchedulesEffects.{all_at, at_stage}
 use Rattle.run_effects.specs.Given.SchedulesLists.{put}
 use Rattle.run_effects.specs.Given.SchedulesMoment.{Place, GivenBack, Stage, Moment}
@@ -169,7 +169,7 @@ module _ {K V : Type 0} (same : K → K → Bool) (name : ℕ → List ℕ) (m :
           }) (shown.maps n before e))
 
     -- a table that it was is none from the root of such a map on
-    pub table_gone : (to : Stage) (t : Table) (p : Place) → ((n : ℕ) (before : Standing K) → s.maps n ≡ Some before → (u : ℕ) → before.chart.first ≤ u → u < before.chart.past → same_table (table_of n u) t ≡ false)
+    pub table_gone : (to : Stage) (t : TableId) (p : Place) → ((n : ℕ) (before : Standing K) → s.maps n ≡ Some before → (u : ℕ) → before.chart.first ≤ u → u < before.chart.past → same_table (table_of n u) t ≡ false)
         → WaitOutside m t → ((n : ℕ) → is_in_map n p ≡ false) → v.place ≡ all_at p (behind t m.deferred) m.place → v.born ≡ m.born → v.maps ≡ m.maps → v.tables ≡ map (at_stage t to) m.tables → Goal
     table_gone to t p passed out outside place born maps tables = gone_so (λ n before blocks sights e part here.
         table_staged n (shown.number n) before m v known to t (pairs_outside n m v (all_outside n m v t p out (outside n) place) born stored) maps tables (passed n before e) (shown.maps n before e))

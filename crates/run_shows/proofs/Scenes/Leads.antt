@@ -1,8 +1,8 @@
 -- What has led to a scene of one kind has led to one of another kind, where each of the first kind is of the second.
 use Rattle.std.specs.Prelude.{ℕ, Bool, List}
 use Rattle.seize.specs.World.{World, Event, Begin}
-use Rattle.seize.specs.declared.progress.Progress.{Progress as Making}
-use Rattle.seize.specs.declared.progress.Progress.TheVariants as making
+use Rattle.seize.specs.declared.advance.Advance.{Advance as Making}
+use Rattle.seize.specs.declared.advance.Advance.TheVariants as making
 use Rattle.seize.specs.declared.rows.reclaim_all.ReclaimAll.{ReclaimAll}
 use Rattle.seize.specs.declared.rows.settle.Settled.{Settled}
 use Rattle.seize.specs.declared.rows.settle.Settled.TheVariants as settled

@@ -1,7 +1,7 @@
 -- What a map that stands shows at a moment of a run: its pairs, by their numbers, and its tables.
 use Rattle.std.specs.Prelude.{◌≡◌, ℕ, zero, suc, ◌<◌, ◌≤◌, true, List, [], ◌∷◌, ◌++◌, length, Some}
 use Rattle.run_effects.specs.Given.RunsDeclared.shapes.TableShape.{TableShape}
-use Rattle.run_effects.specs.Given.RunsDeclared.effect.Table.{Table}
+use Rattle.run_effects.specs.Given.RunsDeclared.effect.TableId.{TableId}
 use Rattle.run_effects.specs.Given.SchedulesMoment.{InMap, MapThere, Stage, IsLinked, TableThere, Moment}
 use Rattle.run_effects.specs.Given.SchedulesViews.{is_in_map, map_at, tables_of}
 use Rattle.run_effects.specs.Given.RuleChart.{Chart}
@@ -10,7 +10,7 @@ use Rattle.run_effects.specs.Effects.Known.{Known}
 use Rattle.run_effects.specs.declared.role.Role.TheVariants as role
 
 -- the table of a map with this turn
-abbrev pub table_of : ℕ → ℕ → Table
+abbrev pub table_of : ℕ → ℕ → TableId
 table_of map turn = record { map = map; turn = turn }
 
 module _ {K : Type 0} (map : ℕ) (c : Chart K) where

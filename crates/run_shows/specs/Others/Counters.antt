@@ -1,7 +1,7 @@
 -- The counter of a map that is being made is noted as that of its map, whoever takes a step.
 use Rattle.std.specs.Prelude.{◌≡◌, ℕ, Bool, List, Some}
 use Rattle.seize.specs.World.{with_at}
-use Rattle.seize.specs.declared.progress.Progress.{Progress as Making}
+use Rattle.seize.specs.declared.advance.Advance.{Advance as Making}
 use Rattle.seize.specs.declared.rows.settle.Settled.{Settled}
 use Rattle.run_effects.specs.Given.TablesDeclared.node.Node.{Node}
 use Rattle.run_effects.specs.Given.TablesDeclared.setting.Setting.{Setting}

@@ -2,7 +2,7 @@
 use Rattle.std.specs.Prelude.{◌≡◌, ℕ, true, false}
 use Rattle.run_effects.specs.Given.RunsDeclared.effect.Effect.{Effect}
 use Rattle.run_effects.specs.Given.RunsDeclared.effect.Effect.TheVariants.{Reclaimed, Taken}
-use Rattle.run_effects.specs.Given.RunsDeclared.effect.Table.{Table}
+use Rattle.run_effects.specs.Given.RunsDeclared.effect.TableId.{TableId}
 use Rattle.run_effects.specs.Given.RunsDeclared.effect.Thing.TheVariants.{ATable}
 use Rattle.run_effects.specs.Given.SchedulesLists.{is_among}
 use Rattle.run_effects.specs.Given.SchedulesMoment.{Moment}
@@ -10,7 +10,7 @@ use Rattle.run_effects.specs.Given.SchedulesViews.{is_in_a_map, is_retired, is_s
 
 module _ {K V : Type 0} (m : Moment K V) where
   -- what waits behind the table is in no map
-  abbrev pub WaitOutside : Table → Type 0
+  abbrev pub WaitOutside : TableId → Type 0
   WaitOutside t = (n : ℕ) → is_among n (behind t m.deferred) ≡ true → is_in_a_map (m.place n) ≡ false
 
   -- a table that is reclaimed was retired

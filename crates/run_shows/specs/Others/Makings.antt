@@ -1,8 +1,8 @@
 -- Makings of maps: where one begins and takes its steps, the moment shows the scene then, and the map, once it stands.
 use Rattle.std.specs.Prelude.{◌≡◌, ℕ, Bool, List, [], Option, Some, None}
 use Rattle.seize.specs.World.{World, with_at}
-use Rattle.seize.specs.declared.progress.Progress.{Progress}
-use Rattle.seize.specs.declared.progress.Progress.TheVariants as progress
+use Rattle.seize.specs.declared.advance.Advance.{Advance}
+use Rattle.seize.specs.declared.advance.Advance.TheVariants as progress
 use Rattle.run_effects.specs.Given.TablesDeclared.node.Node.{Node}
 use Rattle.run_effects.specs.Given.TablesDeclared.setting.Setting.{Setting}
 use Rattle.run_effects.specs.Given.ResizeDeclared.new_map.NewMap.{NewMap}
@@ -32,7 +32,7 @@ pub record IsNew {K V : Type 0} (map : ℕ) (setting : Setting) (m : Moment K V)
   pub no_tables : tables_of map m ≡ []
 
 -- if the map stands after a step that says this, it was there as a new one
-abbrev pub WasNew : {K V : Type 0} → ℕ → Progress Setting → Moment K V → Type 0
+abbrev pub WasNew : {K V : Type 0} → ℕ → Advance Setting → Moment K V → Type 0
 WasNew map (progress.Done setting) m = IsNew map setting m
 WasNew map _ m = Unit {0}
 
@@ -42,7 +42,7 @@ NotesCounter known b = HasMade b.machine.stands → known.roles b.machine.settin
 
 module _ {K V : Type 0} (same : K → K → Bool) (hash : ℕ → K → ℕ) (s : Scene K V) (old new : Held K V) (i : ℕ) (b : Beginning K) (opening : NewMap) (w2 : World (Node K V)) where
   -- the scene to which a step of the making has come
-  abbrev pub making_after : (told : Progress Setting) → MakingComesTo same hash s old new i b opening w2 told → Scene K V
+  abbrev pub making_after : (told : Advance Setting) → MakingComesTo same hash s old new i b opening w2 told → Scene K V
   making_after progress.Goes comes = record s { world = w2; makers = with_at s.makers i (Some (record b { machine = opening })) }
   making_after progress.Waits comes = s
   making_after (progress.Done setting) comes = record s { world = w2; maps = with_at s.maps b.map (Some comes.0); makers = with_at s.makers i None }
@@ -67,7 +67,7 @@ module _ (K V : Type 0) (same : K → K → Bool) (hash : ℕ → K → ℕ) whe
   abbrev pub MakingsAreShown : Type 0
   MakingsAreShown =
       (name : ℕ → List ℕ) (m : Moment K V) (known : Known) (s : Scene K V) (old new : Held K V) → IsAt same hash old s → (shown : Shows same name m known s)
-      → (i : ℕ) (told : Progress Setting) (leads : MakingLeads same hash i told s old new) (b : Beginning K) (here : s.makers i ≡ Some b) (of : Option ℕ)
+      → (i : ℕ) (told : Advance Setting) (leads : MakingLeads same hash i told s old new) (b : Beginning K) (here : s.makers i ≡ Some b) (of : Option ℕ)
       → NotesCounter known b → WasNew b.map told m
       → (let to = leads b here in
       ShowsAfter same name m known s shown (with_effects None of (effects_of (Making b.map) known new.changed) m) (known_after (Making b.map) new.changed known)

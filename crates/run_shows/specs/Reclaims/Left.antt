@@ -1,8 +1,8 @@
 -- What ended maps have left behind roots, while others have calls on maps that stand, and while maps are made and end: it stays there.
 use Rattle.std.specs.Prelude.{◌≡◌, ◌≢◌, ℕ, ◌<◌, ◌≤◌, ◌⊎◌, Bool, List, [], ◌++◌, Option, Some, None}
 use Rattle.seize_words.specs.OneMemory.Mem.{Mem}
-use Rattle.seize.specs.declared.progress.Progress.{Progress as Counted}
-use Rattle.seize.specs.declared.progress.Progress.TheVariants as counted
+use Rattle.seize.specs.declared.advance.Advance.{Advance as Counted}
+use Rattle.seize.specs.declared.advance.Advance.TheVariants as counted
 use Rattle.seize.specs.declared.rows.settle.Settled.{Settled}
 use Rattle.seize.specs.World.{World, LeftTo, Request, Begin, Step, Ends, Happens, times, with_at}
 use Rattle.seize_acts.specs.Reclaims.Roots.{all_lists}

@@ -1,8 +1,8 @@
 -- What it leads to that a caller begins to make a map, and that it takes a step of that.
 use Rattle.std.specs.Prelude.{◌≡◌, ℕ, Bool, Some, None}
 use Rattle.seize.specs.World.{World, with_at}
-use Rattle.seize.specs.declared.progress.Progress.{Progress}
-use Rattle.seize.specs.declared.progress.Progress.TheVariants as progress
+use Rattle.seize.specs.declared.advance.Advance.{Advance}
+use Rattle.seize.specs.declared.advance.Advance.TheVariants as progress
 use Rattle.run_effects.specs.Given.TablesDeclared.node.Node.{Node}
 use Rattle.run_effects.specs.Given.TablesDeclared.setting.Setting.{Setting}
 use Rattle.run_effects.specs.Given.ResizeNewMap.{opening, new_map_plan}
@@ -25,14 +25,14 @@ scene_making i b s = record s { makers = with_at s.makers i (Some b) }
 
 module _ {K V : Type 0} where
   -- it was a step of this making, and what its one operation has changed is told
-  abbrev pub MakingStepsFrom : NewMap → Held K V → Held K V → NewMap → Progress Setting → Type 0
-  MakingStepsFrom before old new opening told = StepsTold K V (NewMap × Progress Setting) old.memory Nothing (new_map_plan before) new.memory new.changed (opening, told)
+  abbrev pub MakingStepsFrom : NewMap → Held K V → Held K V → NewMap → Advance Setting → Type 0
+  MakingStepsFrom before old new opening told = StepsTold K V (NewMap × Advance Setting) old.memory Nothing (new_map_plan before) new.memory new.changed (opening, told)
 
 module _ {K V : Type 0} (same : K → K → Bool) where
   module _ (IsThere : Scene K V → Type 0) where
     module _ (s : Scene K V) (old : Held K V) (i : ℕ) (b : Beginning K) (opening : NewMap) (w2 : World (Node K V)) where
       -- by what it says: the making goes on, or its map stands, or it was refused
-      abbrev pub MakingComesToThere : Progress Setting → Type 0
+      abbrev pub MakingComesToThere : Advance Setting → Type 0
       MakingComesToThere progress.Goes = IsThere (record s { world = w2; makers = with_at s.makers i (Some (record b { machine = opening })) })
       MakingComesToThere progress.Waits = ⊥
       MakingComesToThere (progress.Done setting) =
@@ -41,7 +41,7 @@ module _ {K V : Type 0} (same : K → K → Bool) where
       MakingComesToThere (progress.Refused fault) = IsThere (record s { world = w2; makers = with_at s.makers i None })
 
     -- The step of a caller's making of a map.
-    abbrev pub MakingLeadsTo : ℕ → Progress Setting → Scene K V → Held K V → Held K V → Type 0
+    abbrev pub MakingLeadsTo : ℕ → Advance Setting → Scene K V → Held K V → Held K V → Type 0
     MakingLeadsTo i told s old new =
         (b : Beginning K) → s.makers i ≡ Some b
         → (opening : NewMap) × MakingStepsFrom b.machine old new opening told
@@ -50,8 +50,8 @@ module _ {K V : Type 0} (same : K → K → Bool) where
 
   -- the same, to the scene of what is held then
   module _ (hash : ℕ → K → ℕ) where
-    abbrev pub MakingComesTo : (s : Scene K V) (old new : Held K V) (i : ℕ) (b : Beginning K) (opening : NewMap) (w2 : World (Node K V)) → Progress Setting → Type 0
+    abbrev pub MakingComesTo : (s : Scene K V) (old new : Held K V) (i : ℕ) (b : Beginning K) (opening : NewMap) (w2 : World (Node K V)) → Advance Setting → Type 0
     MakingComesTo s old new i b opening w2 told = MakingComesToThere (IsAt same hash new) s old i b opening w2 told
 
-    abbrev pub MakingLeads : ℕ → Progress Setting → Scene K V → Held K V → Held K V → Type 0
+    abbrev pub MakingLeads : ℕ → Advance Setting → Scene K V → Held K V → Held K V → Type 0
     MakingLeads i told s old new = MakingLeadsTo (IsAt same hash new) i told s old new

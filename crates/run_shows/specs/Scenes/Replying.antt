@@ -1,7 +1,7 @@
 -- What a reply to the call of a caller leads to, and what it leads to that it is asked for a pair.
 use Rattle.std.specs.Prelude.{◌≡◌, ℕ, Bool, true, false, Option, Some, None, Result}
 use Rattle.run_effects.specs.Given.RawMachine.{machine_replied, machine_asked}
-use Rattle.run_effects.specs.Given.RawDeclared.machines.asking.Reply.{Reply}
+use Rattle.run_effects.specs.Given.RawDeclared.machines.asking.MachineReply.{MachineReply}
 use Rattle.many_maps.specs.Given.CallersTogether.{UnderWay}
 use Rattle.many_maps.specs.Machines.{machine_of, ToldOfKind}
 use Rattle.many_maps.specs.Maps.{Standing, with_call}
@@ -20,7 +20,7 @@ scene_with m i next s = record s { calls = with_call s.calls m i (Some next) }
 module _ {K V : Type 0} (same : K → K → Bool) where
   module _ (IsThere : Scene K V → Type 0) where
     -- The call goes on by the reply, if it takes it, and nothing else has changed: it has led to a scene of this kind.
-    abbrev pub ReplyLeadsTo : ℕ → Reply V → Result Unit (Reply V) → Scene K V → Held K V → Held K V → Type 0
+    abbrev pub ReplyLeadsTo : ℕ → MachineReply V → Result Unit (MachineReply V) → Scene K V → Held K V → Held K V → Type 0
     ReplyLeadsTo i told result s old new =
         (m : ℕ) (u : UnderWay K V K) → s.calls m i ≡ Some u
         → (standing : Standing K) × (next : UnderWay K V K) × (s.maps m ≡ Some standing)
@@ -41,7 +41,7 @@ module _ {K V : Type 0} (same : K → K → Bool) where
 
   -- each to the scene of what is held then
   module _ (hash : ℕ → K → ℕ) where
-    abbrev pub ReplyLeads : ℕ → Reply V → Result Unit (Reply V) → Scene K V → Held K V → Held K V → Type 0
+    abbrev pub ReplyLeads : ℕ → MachineReply V → Result Unit (MachineReply V) → Scene K V → Held K V → Held K V → Type 0
     ReplyLeads i told result s old new = ReplyLeadsTo (IsAt same hash new) i told result s old new
 
     abbrev pub AskLeads : ℕ → Bool → Scene K V → Held K V → Held K V → Type 0

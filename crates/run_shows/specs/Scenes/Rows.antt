@@ -1,8 +1,8 @@
 -- Rows on slots: the row that begins as a caller does something with its slot, what its steps tell, and how slots are used then.
 use Rattle.std.specs.Prelude.{ℕ, true, false, ◌==◌, List, slice_set, if◌then◌else◌}
 use Rattle.seize.specs.declared.states.TheConstants.{IDLE, ACTIVE}
-use Rattle.seize.specs.declared.progress.Progress.{Progress}
-use Rattle.seize.specs.declared.progress.Progress.TheVariants as progress
+use Rattle.seize.specs.declared.advance.Advance.{Advance}
+use Rattle.seize.specs.declared.advance.Advance.TheVariants as progress
 use Rattle.seize.specs.declared.rows.leave.Leave.{Leave}
 use Rattle.seize.specs.declared.rows.leave.Leaving.{Leaving}
 use Rattle.seize.specs.declared.rows.leave.Leaving.TheVariants as leaves
@@ -52,13 +52,13 @@ uses_begun slot _ slots = slice_set slots slot used.Changing
 
 -- what registering, a row of one store, and a settling tell
 module _ {T : Type 0} where
-  abbrev pub of_registering : Progress ℕ → RowTold T
+  abbrev pub of_registering : Advance ℕ → RowTold T
   of_registering progress.Goes = told.Goes
   of_registering progress.Waits = told.Waits
   of_registering (progress.Done slot) = told.Registered slot
   of_registering (progress.Refused fault) = told.Refused fault
 
-  abbrev pub of_storing : Progress Unit → RowTold T
+  abbrev pub of_storing : Advance Unit → RowTold T
   of_storing progress.Goes = told.Goes
   of_storing progress.Waits = told.Waits
   of_storing (progress.Done u) = told.Done

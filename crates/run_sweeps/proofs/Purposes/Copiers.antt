@@ -4,8 +4,8 @@ use Rattle.std.proofs.Common.{refl, inl, inr}
 use Rattle.run_finds.specs.Given.SeizeWordsWord.{block_in}
 use Rattle.run_finds.specs.Given.SeizeWordsOp.{Out, Found, Stored, Exchanged, Made, Taken, Roomed}
 use Rattle.run_finds.specs.Given.SeizeWordsDeclared.fault.Fault.{Fault}
-use Rattle.run_finds.specs.Given.SeizeDeclared.progress.Progress.{Progress as Counted}
-use Rattle.run_finds.specs.Given.SeizeDeclared.progress.Progress.TheVariants as counted
+use Rattle.run_finds.specs.Given.SeizeDeclared.advance.Advance.{Advance as Counted}
+use Rattle.run_finds.specs.Given.SeizeDeclared.advance.Advance.TheVariants as counted
 use Rattle.run_finds.specs.Given.SeizeDeclared.rows.settle.Settle.{Settle}
 use Rattle.run_finds.specs.Given.SeizeDeclared.rows.settle.Settled.{Settled}
 use Rattle.run_finds.specs.Given.SeizeDeclared.rows.settle.Settled.TheVariants as settled
@@ -29,8 +29,8 @@ use Rattle.run_finds.specs.Given.ResizeDeclared.copier.Copier.{Copier}
 use Rattle.run_finds.specs.Given.ResizeDeclared.copier.Copying.{Copying}
 use Rattle.run_finds.specs.Given.ResizeDeclared.copier.Copying.TheVariants as at
 use Rattle.run_finds.specs.Given.ResizeDeclared.new_table.NewTable.{NewTable}
-use Rattle.run_finds.specs.Given.ResizeDeclared.outcome.Outcome.{Outcome}
-use Rattle.run_finds.specs.Given.ResizeDeclared.outcome.Outcome.TheVariants as outcome
+use Rattle.run_finds.specs.Given.ResizeDeclared.yielding.Yielding.{Yielding}
+use Rattle.run_finds.specs.Given.ResizeDeclared.yielding.Yielding.TheVariants as outcome
 use Rattle.run_finds.proofs.Given.RuleKeys.Always.{Always, AlwaysOf, always_if, always_plan_as}
 
 -- it is to copy a whole table, and knows which
@@ -98,7 +98,7 @@ retired_same p rest = by (rest == 0)
 
 module _ (K V : Type 0) (p : Copier) where
   -- where it goes on, and with which table it ends
-  abbrev pub Keeps : Copier × Outcome (Node K V) Table → Type 0
+  abbrev pub Keeps : Copier × Yielding (Node K V) Table → Type 0
   Keeps (q, outcome.Done table) = table ≡ p.target
   Keeps (q, _) = (q.source ≡ p.source) × ((q.target ≡ p.target) ⊎ (q.stands ≡ at.Asks))
 

@@ -4,8 +4,8 @@ use Rattle.std.proofs.Common.{ap, sym, subst, ◌∙◌}
 use Rattle.run_finds.specs.Given.SeizeWordsMem.{Mem, word_at}
 use Rattle.run_finds.specs.Given.SeizeWordsDeclared.at.At.TheVariants.{Word}
 use Rattle.run_finds.proofs.Given.SeizeRuleRows.Leaving.{steps_back}
-use Rattle.run_finds.specs.Given.SeizeDeclared.progress.Progress.{Progress as Counted}
-use Rattle.run_finds.specs.Given.SeizeDeclared.progress.Progress.TheVariants as counting
+use Rattle.run_finds.specs.Given.SeizeDeclared.advance.Advance.{Advance as Counted}
+use Rattle.run_finds.specs.Given.SeizeDeclared.advance.Advance.TheVariants as counting
 use Rattle.run_finds.specs.Given.TablesDeclared.node.Node.{Node}
 use Rattle.run_finds.specs.Given.TablesDeclared.setting.Setting.{Setting}
 use Rattle.run_finds.specs.Given.ResizeSum.{sum_plan}

@@ -5,13 +5,13 @@ use Rattle.std.proofs.lemmas.Bool.{cases_eq}
 use Rattle.run_finds.specs.Given.SeizeWorld.{IsInside}
 use Rattle.run_finds.specs.Given.TablesLengths.{len_of}
 use Rattle.run_finds.specs.Given.TablesDeclared.node.Node.{Node}
-use Rattle.run_finds.specs.Given.ResizeDeclared.outcome.Outcome.{Outcome}
-use Rattle.run_finds.specs.Given.ResizeDeclared.outcome.Outcome.TheVariants as outcome
+use Rattle.run_finds.specs.Given.ResizeDeclared.yielding.Yielding.{Yielding}
+use Rattle.run_finds.specs.Given.ResizeDeclared.yielding.Yielding.TheVariants as outcome
 use Rattle.run_finds.specs.Given.RawProgress.{of_outcome}
 use Rattle.run_finds.specs.Given.RawDeclared.machines.progress.Answer.TheVariants as answers
 use Rattle.run_finds.specs.Given.RawDeclared.machines.progress.Progress.{Progress}
 use Rattle.run_finds.specs.Given.RawDeclared.machines.progress.Progress.TheVariants as progress
-use Rattle.run_finds.specs.Given.RunsDeclared.call.Answer.TheVariants.{Completed}
+use Rattle.run_finds.specs.Given.RunsDeclared.call.Response.TheVariants.{Completed}
 use Rattle.run_finds.specs.Given.RunsDeclared.call.Call.{Call}
 use Rattle.run_finds.specs.Given.RunsDeclared.call.Call.TheVariants as call
 use Rattle.run_finds.specs.Given.RunsDeclared.outcome.Outcome.TheVariants.{Answered}
@@ -200,7 +200,7 @@ module _ {K V : Type 0} (same : K → K → Bool) (hash : ℕ → K → ℕ) (na
   room_found terms mask more (OverAll o) y_is is reads steps done did = absurd is
 
 -- no reservation ends as a sweep
-none_swept : {T : Type 0} (end : Outcome T Unit) → of_outcome end ≡ progress.Done answers.Swept → ⊥
+none_swept : {T : Type 0} (end : Yielding T Unit) → of_outcome end ≡ progress.Done answers.Swept → ⊥
 none_swept outcome.Goes e = cc e
 none_swept outcome.Waits e = cc e
 none_swept (outcome.Gave value) e = cc e

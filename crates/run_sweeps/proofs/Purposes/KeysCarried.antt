@@ -15,8 +15,8 @@ use Rattle.run_finds.specs.Given.TablesDeclared.status.TheConstants.Status.{ABOR
 use Rattle.run_finds.specs.Given.TablesDeclared.table.Table.{Table}
 use Rattle.run_finds.specs.Given.ResizeCopier.{copier_plan}
 use Rattle.run_finds.specs.Given.ResizeDeclared.copier.Copier.{Copier}
-use Rattle.run_finds.specs.Given.ResizeDeclared.outcome.Outcome.{Outcome}
-use Rattle.run_finds.specs.Given.ResizeDeclared.outcome.Outcome.TheVariants as outcome
+use Rattle.run_finds.specs.Given.ResizeDeclared.yielding.Yielding.{Yielding}
+use Rattle.run_finds.specs.Given.ResizeDeclared.yielding.Yielding.TheVariants as outcome
 use Rattle.run_finds.specs.Given.SweepsSweep.{copied, plan_at, sweep_plan}
 use Rattle.run_finds.specs.Given.SweepsSweepPoints.{entering, told}
 use Rattle.run_finds.specs.Given.ReservesDeclared.sweep.Purpose.TheVariants.{Walks}
@@ -150,10 +150,10 @@ told_over (at.Asks word) e = absurd (cc e)
 told_over (at.Refused fault) e = absurd (cc e)
 told_over _ e = absurd (cc e)
 
-copied_over : {K V : Type 0} (p : Sweep) (b : Copier × Outcome (Node K V) Table) (end : Sweep × Swept (Node K V)) → end ≡ copied p b → end.1 ≡ swept.Done → end.0.stands ≡ at.Over
+copied_over : {K V : Type 0} (p : Sweep) (b : Copier × Yielding (Node K V) Table) (end : Sweep × Swept (Node K V)) → end ≡ copied p b → end.1 ≡ swept.Done → end.0.stands ≡ at.Over
 copied_over {K} {V} p b end is done = subst (λ (x : Sweep × Swept (Node K V)). x.1 ≡ swept.Done → x.0.stands ≡ at.Over) (sym is) (by b) done
   where
-    by : (b : Copier × Outcome (Node K V) Table) → (copied p b).1 ≡ swept.Done → (copied p b).0.stands ≡ at.Over
+    by : (b : Copier × Yielding (Node K V) Table) → (copied p b).1 ≡ swept.Done → (copied p b).0.stands ≡ at.Over
     by (next, outcome.Goes) e = absurd (cc e)
     by (next, outcome.Waits) e = absurd (cc e)
     by (next, outcome.Gave value) e = absurd (cc e)

@@ -12,8 +12,8 @@ use Rattle.run_finds.specs.Given.TablesDeclared.setting.Setting.{Setting}
 use Rattle.run_finds.specs.Given.TablesDeclared.status.TheConstants.Status.{ABORTED}
 use Rattle.run_finds.specs.Given.TablesDeclared.table.Table.{Table}
 use Rattle.run_finds.specs.Given.ResizeDeclared.copier.Copier.{Copier}
-use Rattle.run_finds.specs.Given.ResizeDeclared.outcome.Outcome.{Outcome}
-use Rattle.run_finds.specs.Given.ResizeDeclared.outcome.Outcome.TheVariants as outcome
+use Rattle.run_finds.specs.Given.ResizeDeclared.yielding.Yielding.{Yielding}
+use Rattle.run_finds.specs.Given.ResizeDeclared.yielding.Yielding.TheVariants as outcome
 use Rattle.run_finds.specs.Given.SweepsSweep.{copied}
 use Rattle.run_finds.specs.Given.SweepsSweepPoints.{removes, standing, past, beginning, entering, tableless, further, telling, at_pair, seen}
 use Rattle.run_finds.specs.Given.ReservesDeclared.sweep.Purpose.{Purpose}
@@ -61,14 +61,14 @@ module _ {K V : Type 0} (same : K → K → Bool) (hash : K → ℕ) (are : AreL
   same_mode = ap (λ (s : Setting). is_incremental s.mode) setting_is
 
   -- it copies pairs on
-  pub copies_lead : is_incremental setting.mode ≡ true → (end : Sweep × Swept (Node K V)) → (b : Copier × Outcome (Node K V) Table) → end ≡ copied p b → Leads end
+  pub copies_lead : is_incremental setting.mode ≡ true → (end : Sweep × Swept (Node K V)) → (b : Copier × Yielding (Node K V) Table) → end ≡ copied p b → Leads end
   copies_lead bits end b is = subst Leads (sym is) (by b)
     where
       enters : (root : Table) (q : Bool) → q ≡ true → Leads (telling (if q then record p { table = root; stands = at.Follows } else beginning (record p { table = root })))
       enters root true e = (λ none. (bits, tt), λ word e. absurd (cc e))
       enters root false e = absurd (cc e)
 
-      by : (b : Copier × Outcome (Node K V) Table) → Leads (copied p b)
+      by : (b : Copier × Yielding (Node K V) Table) → Leads (copied p b)
       by (next, outcome.Goes) = (λ none. (bits, tt), λ word e. absurd (cc e))
       by (next, outcome.Waits) = (λ none. (bits, tt), λ word e. absurd (cc e))
       by (next, outcome.Gave value) = (λ none. (bits, tt), λ word e. absurd (cc e))

@@ -6,8 +6,8 @@ use Rattle.run_finds.specs.Given.SeizeWordsMem.{Mem}
 use Rattle.run_finds.specs.Given.SeizeWordsOp.{Out, Found}
 use Rattle.run_finds.specs.Given.SeizeWordsDeclared.fault.Fault.{Fault}
 use Rattle.run_finds.specs.Given.SeizeWordsDeclared.fault.Fault.TheVariants.{Capacity}
-use Rattle.run_finds.specs.Given.SeizeDeclared.progress.Progress.{Progress}
-use Rattle.run_finds.specs.Given.SeizeDeclared.progress.Progress.TheVariants as progress
+use Rattle.run_finds.specs.Given.SeizeDeclared.advance.Advance.{Advance}
+use Rattle.run_finds.specs.Given.SeizeDeclared.advance.Advance.TheVariants as progress
 use Rattle.run_finds.specs.Given.TablesLengths.{len_of, next_limit, next_turn, places_for}
 use Rattle.run_finds.specs.Given.TablesPowers.{next_power}
 use Rattle.run_finds.specs.Given.TablesProbes.{limit_of}
@@ -21,8 +21,8 @@ use Rattle.run_finds.specs.Given.ResizeDeclared.copier.Copier.{Copier}
 use Rattle.run_finds.specs.Given.ResizeDeclared.new_table.Making.{Making}
 use Rattle.run_finds.specs.Given.ResizeDeclared.new_table.Making.TheVariants as makes
 use Rattle.run_finds.specs.Given.ResizeDeclared.new_table.NewTable.{NewTable}
-use Rattle.run_finds.specs.Given.ResizeDeclared.outcome.Outcome.{Outcome}
-use Rattle.run_finds.specs.Given.ResizeDeclared.outcome.Outcome.TheVariants as outcome
+use Rattle.run_finds.specs.Given.ResizeDeclared.yielding.Yielding.{Yielding}
+use Rattle.run_finds.specs.Given.ResizeDeclared.yielding.Yielding.TheVariants as outcome
 use Rattle.run_finds.specs.Given.ResizeDeclared.sum.Sum.{Sum}
 use Rattle.run_finds.specs.Given.ReservesReserve as reserves
 use Rattle.run_finds.specs.Given.ReservesDeclared.reserve.Reserve.{Reserve}
@@ -119,7 +119,7 @@ next_of before turn e = by (nat_lt before (2 ^ 63)) e
 
 -- By what a step comes to.
 module _ {K V : Type 0} (of : ℕ) (moments : List (Moment K V)) (p : Reserve) where
-  abbrev So : Reserve × Outcome (Node K V) Unit → Type 0
+  abbrev So : Reserve × Yielding (Node K V) Unit → Type 0
   So e = NeedsAt of moments e.0 e.0.stands
 
   -- a later one, behind the root
@@ -146,19 +146,19 @@ module _ {K V : Type 0} (of : ℕ) (moments : List (Moment K V)) (p : Reserve) w
       by false e true = (count, counts, had_so (len_of (count + p.additional)) e)
       by false e false = tt
 
-  made_so : (n : NewTable) (e : NewTable × Progress Table) → (e.0.setting ≡ n.setting) × ShapedAt (λ before reason. ⊥) (IsFirstFor p) e.0.stands → So (reserves.made p e)
+  made_so : (n : NewTable) (e : NewTable × Advance Table) → (e.0.setting ≡ n.setting) × ShapedAt (λ before reason. ⊥) (IsFirstFor p) e.0.stands → So (reserves.made p e)
   made_so n (making, progress.Goes) is = is.1
   made_so n (making, progress.Waits) is = is.1
   made_so n (making, progress.Done table) is = tt
   made_so n (making, progress.Refused fault) is = tt
 
-  grown_so : (table : Table) (n : NewTable) (e : NewTable × Progress Table) → (e.0.setting ≡ n.setting) × ShapedAt (λ before reason. ⊥) (IsLaterFor of moments p table) e.0.stands → So (reserves.grown p table e)
+  grown_so : (table : Table) (n : NewTable) (e : NewTable × Advance Table) → (e.0.setting ≡ n.setting) × ShapedAt (λ before reason. ⊥) (IsLaterFor of moments p table) e.0.stands → So (reserves.grown p table e)
   grown_so table n (making, progress.Goes) is = is.1
   grown_so table n (making, progress.Waits) is = is.1
   grown_so table n (making, progress.Done next) is = tt
   grown_so table n (making, progress.Refused fault) is = tt
 
-  copied_so : (e : Copier × Outcome (Node K V) Table) → So (reserves.copied p e)
+  copied_so : (e : Copier × Yielding (Node K V) Table) → So (reserves.copied p e)
   copied_so (copier, outcome.Goes) = tt
   copied_so (copier, outcome.Waits) = tt
   copied_so (copier, outcome.Gave value) = tt
@@ -174,25 +174,25 @@ module _ {K V : Type 0} (of : ℕ) (moments : List (Moment K V)) (p : Reserve) w
     next_so table need needs (Found link) = always_if So (link == 0) _ _ (later_needs table need needs) (λ value. tt)
     next_so table need needs _ = stays
 
-    module _ (hash : K → ℕ) (m m2 : Mem (Node K V)) (told : Changed) (end : Reserve × Outcome (Node K V) Unit) (sums : SumTells of moments p m m2 told) where
+    module _ (hash : K → ℕ) (m m2 : Mem (Node K V)) (told : Changed) (end : Reserve × Yielding (Node K V) Unit) (sums : SumTells of moments p m m2 told) where
       abbrev StepAt : Reserving → Type 0
-      StepAt q = StepsTold K V (Reserve × Outcome (Node K V) Unit) m changed.Nothing (reserves.plan_at hash p q) m2 told end
+      StepAt q = StepsTold K V (Reserve × Yielding (Node K V) Unit) m changed.Nothing (reserves.plan_at hash p q) m2 told end
 
       always : (q : Reserving) → AlwaysOf So (reserves.plan_at hash p q) → StepAt q → So end
       always q all s = always_steps So m m2 (reserves.plan_at hash p q) end all (as_step m changed.Nothing (reserves.plan_at hash p q) m2 told end s)
 
       makes_so : (making : NewTable) → ShapedAt (λ before reason. ⊥) (IsFirstFor p) making.stands → AlwaysOf So (reserves.plan_at hash p (at.Makes making))
       makes_so making is =
-          always_plan_more (λ (e : NewTable × Progress Table). (e.0.setting ≡ making.setting) × ShapedAt (λ before reason. ⊥) (IsFirstFor p) e.0.stands) So (reserves.made p) (made_so making)
+          always_plan_more (λ (e : NewTable × Advance Table). (e.0.setting ≡ making.setting) × ShapedAt (λ before reason. ⊥) (IsFirstFor p) e.0.stands) So (reserves.made p) (made_so making)
           (new_table_plan making) (goes_shaped (λ before reason. ⊥) (IsFirstFor p) (λ t b it. it) making (λ before reason count none. absurd none) K V is)
 
       grows_so : (table : Table) (making : NewTable) → ShapedAt (λ before reason. ⊥) (IsLaterFor of moments p table) making.stands → AlwaysOf So (reserves.plan_at hash p (at.Grows table making))
       grows_so table making is =
-          always_plan_more (λ (e : NewTable × Progress Table). (e.0.setting ≡ making.setting) × ShapedAt (λ before reason. ⊥) (IsLaterFor of moments p table) e.0.stands) So (reserves.grown p table)
+          always_plan_more (λ (e : NewTable × Advance Table). (e.0.setting ≡ making.setting) × ShapedAt (λ before reason. ⊥) (IsLaterFor of moments p table) e.0.stands) So (reserves.grown p table)
           (grown_so table making) (new_table_plan making)
           (goes_shaped (λ before reason. ⊥) (IsLaterFor of moments p table) (λ t b it. it) making (λ before reason count none. absurd none) K V is)
 
-      summed_so : (table : Table) (sum : Sum) → p.stands ≡ at.Sums table sum → (e : Sum × Progress ℕ) → StepsTold K V (Sum × Progress ℕ) m changed.Nothing (sum_plan sum) m2 told e → So (reserves.summed p table e)
+      summed_so : (table : Table) (sum : Sum) → p.stands ≡ at.Sums table sum → (e : Sum × Advance ℕ) → StepsTold K V (Sum × Advance ℕ) m changed.Nothing (sum_plan sum) m2 told e → So (reserves.summed p table e)
       summed_so table sum is (sum2, progress.Goes) s = tt
       summed_so table sum is (sum2, progress.Waits) s = tt
       summed_so table sum is (sum2, progress.Done count) s = enough_so table count (sums table sum sum2 count is s)
@@ -211,7 +211,7 @@ module _ {K V : Type 0} (of : ℕ) (moments : List (Moment K V)) (p : Reserve) w
       by_point (at.Refused fault) is so s = always (at.Refused fault) stays s
 
 -- After a step of a reservation, if one that is done with counting has counted so many.
-pub rooms_keep_needs : {K V : Type 0} (hash : K → ℕ) (of : ℕ) (moments : List (Moment K V)) (p : Reserve) (m m2 : Mem (Node K V)) (told : Changed) (end : Reserve × Outcome (Node K V) Unit)
-    → NeedsAt of moments p p.stands → SumTells of moments p m m2 told → StepsTold K V (Reserve × Outcome (Node K V) Unit) m changed.Nothing (reserves.reserve_plan hash p) m2 told end
+pub rooms_keep_needs : {K V : Type 0} (hash : K → ℕ) (of : ℕ) (moments : List (Moment K V)) (p : Reserve) (m m2 : Mem (Node K V)) (told : Changed) (end : Reserve × Yielding (Node K V) Unit)
+    → NeedsAt of moments p p.stands → SumTells of moments p m m2 told → StepsTold K V (Reserve × Yielding (Node K V) Unit) m changed.Nothing (reserves.reserve_plan hash p) m2 told end
     → NeedsAt of moments end.0 end.0.stands
 rooms_keep_needs hash of moments p m m2 told end so sums s = by_point of moments p so hash m m2 told end sums p.stands refl so s

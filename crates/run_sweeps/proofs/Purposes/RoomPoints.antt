@@ -9,8 +9,8 @@ use Rattle.run_finds.specs.Given.SeizeWordsDeclared.fault.Fault.TheVariants.{Cap
 use Rattle.run_finds.proofs.Given.SeizeWordsOneOwner.Operations.{loaded}
 use Rattle.run_finds.proofs.Given.SeizeRuleRows.Leaving.{steps_back}
 use Rattle.run_finds.specs.Given.SeizeWorld.{World}
-use Rattle.run_finds.specs.Given.SeizeDeclared.progress.Progress.{Progress}
-use Rattle.run_finds.specs.Given.SeizeDeclared.progress.Progress.TheVariants as progress
+use Rattle.run_finds.specs.Given.SeizeDeclared.advance.Advance.{Advance}
+use Rattle.run_finds.specs.Given.SeizeDeclared.advance.Advance.TheVariants as progress
 use Rattle.run_finds.specs.Given.TablesDeclared.node.Node.{Node}
 use Rattle.run_finds.specs.Given.TablesDeclared.setting.Setting.{Setting}
 use Rattle.run_finds.specs.Given.TablesDeclared.table.Table.{Table}
@@ -23,8 +23,8 @@ use Rattle.run_finds.specs.Given.ResizeDeclared.copier.Copier.{Copier}
 use Rattle.run_finds.specs.Given.ResizeDeclared.copier.Copying.{Copying}
 use Rattle.run_finds.specs.Given.ResizeDeclared.copier.Copying.TheVariants as copies
 use Rattle.run_finds.specs.Given.ResizeDeclared.new_table.NewTable.{NewTable}
-use Rattle.run_finds.specs.Given.ResizeDeclared.outcome.Outcome.{Outcome}
-use Rattle.run_finds.specs.Given.ResizeDeclared.outcome.Outcome.TheVariants as outcome
+use Rattle.run_finds.specs.Given.ResizeDeclared.yielding.Yielding.{Yielding}
+use Rattle.run_finds.specs.Given.ResizeDeclared.yielding.Yielding.TheVariants as outcome
 use Rattle.run_finds.specs.Given.ResizeDeclared.sum.Sum.{Sum}
 use Rattle.run_finds.specs.Given.ResizeDeclared.sum.Summing.TheVariants as sums
 use Rattle.run_finds.specs.Given.ReservesReserve.{needed, standing, counting, refusing, enough, summed, made, grown, copied, root_read, next_read, plan_at}
@@ -60,7 +60,7 @@ module _ {K V : Type 0} (of : ℕ) (moments : List (Moment K V)) (low : ℕ) (En
   IsBare = (low ≡ 0) × ((shards : ℕ) → Counts shards of moments 0)
 
   -- where it goes on, and what is so at its end
-  abbrev pub Led : Reserve × Outcome (Node K V) Unit → Type 0
+  abbrev pub Led : Reserve × Yielding (Node K V) Unit → Type 0
   Led (q, outcome.Done end) = Ends
   Led (q, outcome.Refused fault) = Unit {0}
   Led (q, _) = LedAt q.stands
@@ -82,13 +82,13 @@ module _ {K V : Type 0} (of : ℕ) (moments : List (Moment K V)) (low : ℕ) (En
         by true = (l, inr (inr refl))
         by false = (l, inr (inl refl))
 
-    made_leads : IsBare → (end : NewTable × Progress Table) → Led (made p end)
+    made_leads : IsBare → (end : NewTable × Advance Table) → Led (made p end)
     made_leads bare (making, progress.Goes) = bare
     made_leads bare (making, progress.Waits) = bare
     made_leads bare (making, progress.Done table) = counts_in table (let none = bare.0 in omega (arith, none))
     made_leads bare (making, progress.Refused fault) = tt
 
-    grown_leads : (table : Table) → low ≤ table.turn → (end : NewTable × Progress Table) → Led (grown p table end)
+    grown_leads : (table : Table) → low ≤ table.turn → (end : NewTable × Advance Table) → Led (grown p table end)
     grown_leads table l (making, progress.Goes) = l
     grown_leads table l (making, progress.Waits) = l
     grown_leads table l (making, progress.Done next) = begins p.setting table next l
@@ -107,7 +107,7 @@ module _ {K V : Type 0} (of : ℕ) (moments : List (Moment K V)) (low : ℕ) (En
       kept q (source, inl target) = (subst (λ (x : Table). low ≤ x.turn) (sym source) s, inl (subst (λ (x : Table). low ≤ x.turn) (sym target) t))
       kept q (source, inr asks) = (subst (λ (x : Table). low ≤ x.turn) (sym source) s, inr (inl asks))
 
-      copied_leads : (end : Copier × Outcome (Node K V) Table) → Keeps K V copier end → Led (copied p end)
+      copied_leads : (end : Copier × Yielding (Node K V) Table) → Keeps K V copier end → Led (copied p end)
       copied_leads (q, outcome.Goes) k = kept q k
       copied_leads (q, outcome.Waits) k = kept q k
       copied_leads (q, outcome.Gave value) k = kept q k
@@ -129,21 +129,21 @@ module _ {K V : Type 0} (of : ℕ) (moments : List (Moment K V)) (low : ℕ) (En
     module _ (table : Table) (sum : Sum) (l : low ≤ table.turn) (reads : (shard : ℕ) → shard ≤ sum.setting.mask → word_at w.memory (Word sum.setting.counter shard) ≡ Some (now.shards of shard))
         (few : CountsShards sum.setting sum.stands) (has : HasAdded of moments sum.setting.mask sum.stands)
         (ends : (count : ℕ) → Counts (suc sum.setting.mask) of moments count → nat_lt (2 ^ 48) (needed p.additional count) ≡ false → nat_lt table.len (needed p.additional count) ≡ false → Ends) where
-      abbrev Came : Sum × Progress ℕ → Type 0
+      abbrev Came : Sum × Advance ℕ → Type 0
       Came end = After of moments w.memory sum now last reads end
 
-      summed_leads : (end : Sum × Progress ℕ) → Came end → Led (summed p table end)
+      summed_leads : (end : Sum × Advance ℕ) → Came end → Led (summed p table end)
       summed_leads (sum2, progress.Goes) came = (l, subst (λ (x : Setting). HasAdded of moments x.mask sum2.stands) (sym came.0) came.1)
       summed_leads (sum2, progress.Waits) came = absurd came
       summed_leads (sum2, progress.Done count) came = enough_leads p table (needed p.additional count) l (ends count came)
       summed_leads (sum2, progress.Refused fault) came = absurd came
 
-      pub sums_lead : (m2 : Mem (Node K V)) (end : Reserve × Outcome (Node K V) Unit) → Steps Took value_at w.memory (plan_at hash p (at.Sums table sum)) m2 end → Led end
+      pub sums_lead : (m2 : Mem (Node K V)) (end : Reserve × Yielding (Node K V) Unit) → Steps Took value_at w.memory (plan_at hash p (at.Sums table sum)) m2 end → Led end
       sums_lead m2 end s =
           let b = steps_back (summed p table) w.memory m2 (sum_plan sum) end s in
           subst Led (sym b.2) (summed_leads b.0 (counting_on of moments w.memory sum now last reads few has m2 b.0 b.1))
 
-    pub reads_lead : (c.past ≡ 0 → (shards : ℕ) → Counts shards of moments 0) → (m2 : Mem (Node K V)) (end : Reserve × Outcome (Node K V) Unit) → Steps Took value_at w.memory (plan_at hash p at.Reads) m2 end → Led end
+    pub reads_lead : (c.past ≡ 0 → (shards : ℕ) → Counts shards of moments 0) → (m2 : Mem (Node K V)) (end : Reserve × Yielding (Node K V) Unit) → Steps Took value_at w.memory (plan_at hash p at.Reads) m2 end → Led end
     reads_lead counted m2 end s =
         let d = loaded w.memory (root_read p) (Root p.setting.root) m2 end s in
         link_ends hash w.memory c blocks setting.root map.map.shows d.0 c.first
@@ -159,20 +159,20 @@ module _ {K V : Type 0} (of : ℕ) (moments : List (Moment K V)) (low : ℕ) (En
             by (suc n) e = absurd (let l = map.map.rule.common.rooted (omega (arith, e)) in omega (arith, l, past))
 
   module _ (hash : K → ℕ) (p : Reserve) where
-    pub makes_lead : (making : NewTable) → IsBare → (m m2 : Mem (Node K V)) (end : Reserve × Outcome (Node K V) Unit) → Steps Took value_at m (plan_at hash p (at.Makes making)) m2 end → Led end
+    pub makes_lead : (making : NewTable) → IsBare → (m m2 : Mem (Node K V)) (end : Reserve × Yielding (Node K V) Unit) → Steps Took value_at m (plan_at hash p (at.Makes making)) m2 end → Led end
     makes_lead making bare m m2 end s =
         always_steps Led m m2 (plan_at hash p (at.Makes making)) end (always_plan_as Led (made p) (made_leads p bare) (new_table_plan making)) s
 
-    pub grows_lead : (table : Table) (making : NewTable) → low ≤ table.turn → (m m2 : Mem (Node K V)) (end : Reserve × Outcome (Node K V) Unit)
+    pub grows_lead : (table : Table) (making : NewTable) → low ≤ table.turn → (m m2 : Mem (Node K V)) (end : Reserve × Yielding (Node K V) Unit)
         → Steps Took value_at m (plan_at hash p (at.Grows table making)) m2 end → Led end
     grows_lead table making l m m2 end s =
         always_steps Led m m2 (plan_at hash p (at.Grows table making)) end (always_plan_as Led (grown p table) (grown_leads p table l) (new_table_plan making)) s
 
-    pub follows_lead : (table : Table) (need : ℕ) → low ≤ table.turn → LedAt p.stands → (m m2 : Mem (Node K V)) (end : Reserve × Outcome (Node K V) Unit)
+    pub follows_lead : (table : Table) (need : ℕ) → low ≤ table.turn → LedAt p.stands → (m m2 : Mem (Node K V)) (end : Reserve × Yielding (Node K V) Unit)
         → Steps Took value_at m (plan_at hash p (at.Follows table need)) m2 end → Led end
     follows_lead table need l here m m2 end s = always_steps Led m m2 (plan_at hash p (at.Follows table need)) end (next_leads p table need l here) s
 
-    pub copies_lead : (copier : Copier) → KnowsTables copier.stands → low ≤ copier.source.turn → low ≤ copier.target.turn → (m m2 : Mem (Node K V)) (end : Reserve × Outcome (Node K V) Unit)
+    pub copies_lead : (copier : Copier) → KnowsTables copier.stands → low ≤ copier.source.turn → low ≤ copier.target.turn → (m m2 : Mem (Node K V)) (end : Reserve × Yielding (Node K V) Unit)
         → Steps Took value_at m (plan_at hash p (at.Copies copier)) m2 end → Led end
     copies_lead copier knows s t m m2 end steps =
         always_steps Led m m2 (plan_at hash p (at.Copies copier)) end

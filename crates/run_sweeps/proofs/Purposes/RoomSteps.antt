@@ -6,13 +6,13 @@ use Rattle.run_finds.specs.Given.SeizeWordsPlan.{Steps}
 use Rattle.run_finds.specs.Given.SeizeWordsDeclared.at.At.TheVariants.{Word}
 use Rattle.run_finds.specs.Given.SeizeWordsDeclared.fault.Fault.{Fault}
 use Rattle.run_finds.proofs.Given.SeizeRuleRows.Leaving.{steps_back}
-use Rattle.run_finds.specs.Given.SeizeDeclared.progress.Progress.TheVariants as counting
+use Rattle.run_finds.specs.Given.SeizeDeclared.advance.Advance.TheVariants as counting
 use Rattle.run_finds.specs.Given.TablesLengths.{len_of}
 use Rattle.run_finds.specs.Given.TablesDeclared.node.Node.{Node}
 use Rattle.run_finds.specs.Given.TablesDeclared.setting.Setting.{Setting}
 use Rattle.run_finds.specs.Given.TablesDeclared.table.Table.{Table}
-use Rattle.run_finds.specs.Given.ResizeDeclared.outcome.Outcome.{Outcome}
-use Rattle.run_finds.specs.Given.ResizeDeclared.outcome.Outcome.TheVariants as outcome
+use Rattle.run_finds.specs.Given.ResizeDeclared.yielding.Yielding.{Yielding}
+use Rattle.run_finds.specs.Given.ResizeDeclared.yielding.Yielding.TheVariants as outcome
 use Rattle.run_finds.specs.Given.ResizeSum.{sum_plan}
 use Rattle.run_finds.specs.Given.ResizeDeclared.sum.Sum.{Sum}
 use Rattle.run_finds.specs.Given.ReservesReserve.{or_too_long, needed, plan_at, reserve_plan}
@@ -155,18 +155,18 @@ module _ {K V : Type 0} (same : K → K → Bool) (hash : ℕ → K → ℕ) (lo
           last (λ x. (rest : ℕ) × AddsUp of moments shard rest × (0 ≡ rest + x.shards of shard))
           (0, adds_none shard, (let none = (shards tt).2 st there past shard in omega (arith, none)))
 
-  abbrev Step : Reserving → Reserve × Outcome (Node K V) Unit → Type 0
+  abbrev Step : Reserving → Reserve × Yielding (Node K V) Unit → Type 0
   Step x end = Steps Took value_at mem (plan_at st.hash p x) new.memory end
 
   -- the step, and what the machine says of it
-  its_step : (end : Reserve × Outcome (Node K V) Unit) × Step p.stands end × ((machine, said) ≡ reserved end)
+  its_step : (end : Reserve × Yielding (Node K V) Unit) × Step p.stands end × ((machine, said) ≡ reserved end)
   its_step =
       let b = steps_back reserved old.memory new.memory (reserve_plan st.hash p) (machine, said)
       (as_step old.memory Nothing (machine_plan same same st.hash (kinds.Reserve p)) new.memory new.changed (machine, said) steps) in
       (b.0, subst (λ (x : Mem (Node K V)). Steps Took value_at x (reserve_plan st.hash p) new.memory b.0) (sym at.memory) b.1, b.2)
 
   -- where it leads
-  led : (end : Reserve × Outcome (Node K V) Unit) → Step p.stands end → Led of moments has.low EndsSo end
+  led : (end : Reserve × Yielding (Node K V) Unit) → Step p.stands end → Led of moments has.low EndsSo end
   led end step = by p.stands refl has.point step
     where
       by : (x : Reserving) → p.stands ≡ x → RoomAt of moments has.low x → Step x end → Led of moments has.low EndsSo end
@@ -197,7 +197,7 @@ module _ {K V : Type 0} (same : K → K → Bool) (hash : ℕ → K → ℕ) (lo
       same_one : (q : Reserve) → machine ≡ kinds.Reserve q → q ≡ p2
       same_one q is = cc (is, machine_is)
 
-      by : (end : Reserve × Outcome (Node K V) Unit) → (machine, said) ≡ reserved end → Led of moments has.low EndsSo end → LedAt of moments has.low EndsSo p2.stands
+      by : (end : Reserve × Yielding (Node K V) Unit) → (machine, said) ≡ reserved end → Led of moments has.low EndsSo end → LedAt of moments has.low EndsSo p2.stands
       by (q, outcome.Goes) is so = subst (λ (y : Reserve). LedAt of moments has.low EndsSo y.stands) (same_one q (ap (λ z. z.0) is)) so
       by (q, outcome.Waits) is so = subst (λ (y : Reserve). LedAt of moments has.low EndsSo y.stands) (same_one q (ap (λ z. z.0) is)) so
       by (q, outcome.Gave value) is so = subst (λ (y : Reserve). LedAt of moments has.low EndsSo y.stands) (same_one q (ap (λ z. z.0) is)) so
@@ -214,14 +214,14 @@ module _ {K V : Type 0} (same : K → K → Bool) (hash : ℕ → K → ℕ) (lo
         subst (λ (y : Reserve). NeedsAt of moments y y.stands) one (rooms_keep_needs st.hash of moments p old.memory new.memory new.changed it.0 has.needs tells it.2),
       )
     where
-      its_one : (end : Reserve × Outcome (Node K V) Unit) → (machine, said) ≡ reserved end → end.0 ≡ p2
+      its_one : (end : Reserve × Yielding (Node K V) Unit) → (machine, said) ≡ reserved end → end.0 ≡ p2
       its_one (q, o) is = (let its : machine ≡ kinds.Reserve q = ap (λ z. z.0) is in cc (its, machine_is))
 
   -- where it ends
   pub room_ends : said ≡ progress.Done answers.Reserved → EndsSo
   room_ends done = by its_step.0 its_step.2 (led its_step.0 its_step.1)
     where
-      by : (end : Reserve × Outcome (Node K V) Unit) → (machine, said) ≡ reserved end → Led of moments has.low EndsSo end → EndsSo
+      by : (end : Reserve × Yielding (Node K V) Unit) → (machine, said) ≡ reserved end → Led of moments has.low EndsSo end → EndsSo
       by (q, outcome.Goes) is so = absurd (let told = ap (λ z. z.1) is in cc (told, done))
       by (q, outcome.Waits) is so = absurd (let told = ap (λ z. z.1) is in cc (told, done))
       by (q, outcome.Gave value) is so = absurd (let told = ap (λ z. z.1) is in cc (told, done))

@@ -4,8 +4,8 @@ use Rattle.std.proofs.Common.{refl}
 use Rattle.run_finds.specs.Given.SeizeWordsOp.{Out, Found, Stored, Exchanged, Made, Taken, Roomed}
 use Rattle.run_finds.specs.Given.SeizeWordsPlan.{plan_as}
 use Rattle.run_finds.specs.Given.SeizeWordsDeclared.fault.Fault.TheVariants.{Capacity}
-use Rattle.run_finds.specs.Given.SeizeDeclared.progress.Progress.{Progress as Counted}
-use Rattle.run_finds.specs.Given.SeizeDeclared.progress.Progress.TheVariants as counted
+use Rattle.run_finds.specs.Given.SeizeDeclared.advance.Advance.{Advance as Counted}
+use Rattle.run_finds.specs.Given.SeizeDeclared.advance.Advance.TheVariants as counted
 use Rattle.run_finds.specs.Given.TablesDeclared.node.Node.{Node}
 use Rattle.run_finds.specs.Given.TablesDeclared.table.Table.{Table}
 use Rattle.run_finds.specs.Given.ResizeCopier.{copier_plan}
@@ -13,8 +13,8 @@ use Rattle.run_finds.specs.Given.ResizeNewTable.{new_table_plan}
 use Rattle.run_finds.specs.Given.ResizeSum.{sum_plan}
 use Rattle.run_finds.specs.Given.ResizeDeclared.copier.Copier.{Copier}
 use Rattle.run_finds.specs.Given.ResizeDeclared.new_table.NewTable.{NewTable}
-use Rattle.run_finds.specs.Given.ResizeDeclared.outcome.Outcome.{Outcome}
-use Rattle.run_finds.specs.Given.ResizeDeclared.outcome.Outcome.TheVariants as outcome
+use Rattle.run_finds.specs.Given.ResizeDeclared.yielding.Yielding.{Yielding}
+use Rattle.run_finds.specs.Given.ResizeDeclared.yielding.Yielding.TheVariants as outcome
 use Rattle.run_finds.specs.Given.ResizeDeclared.sum.Sum.{Sum}
 use Rattle.run_finds.specs.Given.ReservesReserve.{standing, refusing, enough, needed, summed, made, grown, copied, root_read, next_read, plan_at}
 use Rattle.run_finds.specs.Given.ReservesDeclared.reserve.Reserve.{Reserve}
@@ -31,7 +31,7 @@ use Rattle.run_finds.specs.Given.ScenesHeld.{Held}
 use Rattle.run_finds.specs.Given.ScenesStepping.{StepsFrom}
 
 module _ (K V : Type 0) (p : Reserve) where
-  abbrev Keeps : Reserve × Outcome (Node K V) Unit → Type 0
+  abbrev Keeps : Reserve × Yielding (Node K V) Unit → Type 0
   Keeps (q, end) = q.additional ≡ p.additional
 
   enough_keeps : (table : Table) (need : ℕ) → Keeps (enough p table need)
@@ -60,7 +60,7 @@ module _ (K V : Type 0) (p : Reserve) where
   grown_keeps table (making, counted.Done next) = refl
   grown_keeps table (making, counted.Refused fault) = refl
 
-  copied_keeps : (end : Copier × Outcome (Node K V) Table) → Keeps (copied p end)
+  copied_keeps : (end : Copier × Yielding (Node K V) Table) → Keeps (copied p end)
   copied_keeps (c, outcome.Goes) = refl
   copied_keeps (c, outcome.Waits) = refl
   copied_keeps (c, outcome.Gave value) = refl

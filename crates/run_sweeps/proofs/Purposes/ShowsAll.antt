@@ -14,7 +14,7 @@ use Rattle.run_finds.specs.Given.RawDeclared.machines.progress.Answer.TheVariant
 use Rattle.run_finds.specs.Given.RawDeclared.machines.progress.Progress.{Progress}
 use Rattle.run_finds.specs.Given.RawDeclared.machines.progress.Progress.TheVariants as progress
 use Rattle.run_finds.specs.Given.RunsLog.{pair_at, is_key}
-use Rattle.run_finds.specs.Given.RunsDeclared.call.Answer.TheVariants.{Absent}
+use Rattle.run_finds.specs.Given.RunsDeclared.call.Response.TheVariants.{Absent}
 use Rattle.run_finds.specs.Given.RunsDeclared.call.Call.{Call}
 use Rattle.run_finds.specs.Given.RunsDeclared.call.Call.TheVariants as call
 use Rattle.run_finds.specs.Given.RunsDeclared.outcome.Outcome.TheVariants.{Answered}

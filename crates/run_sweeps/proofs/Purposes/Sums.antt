@@ -6,8 +6,8 @@ use Rattle.run_finds.specs.Given.SeizeWordsPlan.{Now, Steps}
 use Rattle.run_finds.specs.Given.SeizeWordsDeclared.at.At.TheVariants.{Word}
 use Rattle.run_finds.proofs.Given.SeizeWordsOneOwner.Operations.{loaded}
 use Rattle.run_finds.proofs.Given.SeizeWordsPlans.{ends_if}
-use Rattle.run_finds.specs.Given.SeizeDeclared.progress.Progress.{Progress}
-use Rattle.run_finds.specs.Given.SeizeDeclared.progress.Progress.TheVariants as progress
+use Rattle.run_finds.specs.Given.SeizeDeclared.advance.Advance.{Advance}
+use Rattle.run_finds.specs.Given.SeizeDeclared.advance.Advance.TheVariants as progress
 use Rattle.run_finds.specs.Given.TablesCounts.{count_in}
 use Rattle.run_finds.specs.Given.TablesDeclared.node.Node.{Node}
 use Rattle.run_finds.specs.Given.ResizeSum.{sum_plan, plan_at, added, summed, standing}
@@ -25,7 +25,7 @@ module _ {K V : Type 0} (of : ℕ) (moments : List (Moment K V)) (mem : Mem (Nod
     (last : (P : Moment K V → Type 0) → P now → OneOf P moments)
     (reads : (shard : ℕ) → shard ≤ c.setting.mask → word_at mem (Word c.setting.counter shard) ≡ Some (now.shards of shard)) where
   -- it has one shard more, or the count of all
-  abbrev pub After : Sum × Progress ℕ → Type 0
+  abbrev pub After : Sum × Advance ℕ → Type 0
   After (c2, progress.Goes) = (c2.setting ≡ c.setting) × HasAdded of moments c.setting.mask c2.stands
   After (c2, progress.Done count) = Counts (suc c.setting.mask) of moments count
   After (c2, _) = ⊥
@@ -55,22 +55,22 @@ module _ {K V : Type 0} (of : ℕ) (moments : List (Moment K V)) (mem : Mem (Nod
         let last_is : shard ≡ c.setting.mask = omega (arith, l, few) in
         (sum + word, subst (λ (x : ℕ). AddsUp of moments (suc x) (sum + word)) last_is more, ap count_in total_is)
 
-  adds : (shard total : ℕ) → shard ≤ c.setting.mask → HasAdded of moments c.setting.mask (sums.Adds shard total) → (mem2 : Mem (Node K V)) (end : Sum × Progress ℕ)
+  adds : (shard total : ℕ) → shard ≤ c.setting.mask → HasAdded of moments c.setting.mask (sums.Adds shard total) → (mem2 : Mem (Node K V)) (end : Sum × Advance ℕ)
       → Steps Took value_at mem (plan_at c (sums.Adds shard total)) mem2 end → After end
   adds shard total few (sum, up, is) mem2 end s =
       let d = loaded mem (added c shard total) (Word c.setting.counter shard) mem2 end s in
       let word_is = same_word d.0 (now.shards of shard) (sym d.1 ∙ reads shard few) in
       elim (ends_if (value_at mem) (nat_lt shard c.setting.mask) (Now (standing c (sums.Adds (shard + 1) ((total + d.0) % 2 ^ 64)), progress.Goes))
       (Now (summed c (count_in ((total + d.0) % 2 ^ 64)))) end d.3) as (λ _. After end) [
-        | inl h ↦ subst (λ (x : Sum × Progress ℕ). After x) (sym h.1) (refl, goes shard total sum few up is d.0 word_is)
-        | inr h ↦ subst (λ (x : Sum × Progress ℕ). After x) (sym h.1) (counts shard total sum few up is d.0 word_is h.0)
+        | inl h ↦ subst (λ (x : Sum × Advance ℕ). After x) (sym h.1) (refl, goes shard total sum few up is d.0 word_is)
+        | inr h ↦ subst (λ (x : Sum × Advance ℕ). After x) (sym h.1) (counts shard total sum few up is d.0 word_is h.0)
       ]
 
-  at_point : (p : Summing) → CountsShards c.setting p → HasAdded of moments c.setting.mask p → (mem2 : Mem (Node K V)) (end : Sum × Progress ℕ) → Steps Took value_at mem (plan_at c p) mem2 end → After end
+  at_point : (p : Summing) → CountsShards c.setting p → HasAdded of moments c.setting.mask p → (mem2 : Mem (Node K V)) (end : Sum × Advance ℕ) → Steps Took value_at mem (plan_at c p) mem2 end → After end
   at_point (sums.Adds shard total) few has mem2 end s = adds shard total few has mem2 end s
-  at_point (sums.Over count) few has mem2 end s = subst (λ (x : Sum × Progress ℕ). After x) (sym s.1) has
+  at_point (sums.Over count) few has mem2 end s = subst (λ (x : Sum × Advance ℕ). After x) (sym s.1) has
 
-  pub counting_on : CountsShards c.setting c.stands → HasAdded of moments c.setting.mask c.stands → (mem2 : Mem (Node K V)) (end : Sum × Progress ℕ)
+  pub counting_on : CountsShards c.setting c.stands → HasAdded of moments c.setting.mask c.stands → (mem2 : Mem (Node K V)) (end : Sum × Advance ℕ)
       → Steps Took value_at mem (sum_plan c) mem2 end → After end
   counting_on few has mem2 end s = at_point c.stands few has mem2 end s
 

@@ -13,7 +13,7 @@ use Rattle.run_finds.specs.Given.RawProgress.{of_swept}
 use Rattle.run_finds.specs.Given.RawDeclared.machines.progress.Answer.TheVariants as answers
 use Rattle.run_finds.specs.Given.RawDeclared.machines.progress.Progress.{Progress}
 use Rattle.run_finds.specs.Given.RawDeclared.machines.progress.Progress.TheVariants as progress
-use Rattle.run_finds.specs.Given.RunsDeclared.call.Answer.TheVariants.{Completed, Counted}
+use Rattle.run_finds.specs.Given.RunsDeclared.call.Response.TheVariants.{Completed, Counted}
 use Rattle.run_finds.specs.Given.RunsDeclared.call.Call.{Call}
 use Rattle.run_finds.specs.Given.RunsDeclared.call.Call.TheVariants as call
 use Rattle.run_finds.specs.Given.RunsDeclared.outcome.Outcome.{Outcome}

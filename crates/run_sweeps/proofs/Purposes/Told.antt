@@ -9,8 +9,8 @@ use Rattle.run_finds.specs.Given.ReservesDeclared.sweep.Sweep.{Sweep}
 use Rattle.run_finds.specs.Given.ReservesDeclared.sweep.Sweeping.{Sweeping}
 use Rattle.run_finds.specs.Given.ReservesDeclared.sweep.Sweeping.TheVariants as sweeping
 use Rattle.run_finds.specs.Given.RawMachine.{machine_replied, sweep_told}
-use Rattle.run_finds.specs.Given.RawDeclared.machines.asking.Reply.{Reply as MachineReply}
-use Rattle.run_finds.specs.Given.RawDeclared.machines.asking.Reply.TheVariants as reply
+use Rattle.run_finds.specs.Given.RawDeclared.machines.asking.MachineReply.{MachineReply}
+use Rattle.run_finds.specs.Given.RawDeclared.machines.asking.MachineReply.TheVariants as reply
 use Rattle.run_finds.specs.Given.RunsSame.{is_same}
 use Rattle.run_finds.specs.Given.RunsDeclared.call.Call.{Call}
 use Rattle.run_finds.specs.Given.RunsDeclared.call.Call.TheVariants as call

@@ -3,13 +3,13 @@ use Rattle.std.specs.Prelude.{◌≡◌, ℕ, ◌<◌, ◌≤◌, Bool, true, fa
 use Rattle.std.specs.List.{AllByRecursion}
 use Rattle.std.proofs.Common.{refl, ap, sym, subst, ◌∙◌, inl, inr}
 use Rattle.run_finds.specs.Given.SeizeWorld.{World}
-use Rattle.run_finds.specs.Given.SeizeDeclared.progress.Progress.{Progress as Counted}
-use Rattle.run_finds.specs.Given.SeizeDeclared.progress.Progress.TheVariants as counting
+use Rattle.run_finds.specs.Given.SeizeDeclared.advance.Advance.{Advance as Counted}
+use Rattle.run_finds.specs.Given.SeizeDeclared.advance.Advance.TheVariants as counting
 use Rattle.run_finds.specs.Given.TablesChunks.{is_incremental}
 use Rattle.run_finds.specs.Given.TablesDeclared.node.Node.{Node}
 use Rattle.run_finds.specs.Given.TablesDeclared.setting.Setting.{Setting}
-use Rattle.run_finds.specs.Given.ResizeDeclared.outcome.Outcome.{Outcome}
-use Rattle.run_finds.specs.Given.ResizeDeclared.outcome.Outcome.TheVariants as outcome
+use Rattle.run_finds.specs.Given.ResizeDeclared.yielding.Yielding.{Yielding}
+use Rattle.run_finds.specs.Given.ResizeDeclared.yielding.Yielding.TheVariants as outcome
 use Rattle.run_finds.specs.Given.ReservesDeclared.sweep.Purpose.TheVariants.{Walks}
 use Rattle.run_finds.specs.Given.ReservesDeclared.sweep.Sweep.{Sweep}
 use Rattle.run_finds.specs.Given.ReservesDeclared.sweep.Sweeping.{Sweeping}
@@ -90,7 +90,7 @@ none_counted T word (counting.Done count) e = cc e
 none_counted T word (counting.Refused fault) e = cc e
 
 -- nor does a reservation
-none_room : {T : Type 0} (word : ℕ) (end : Outcome T Unit) → of_outcome end ≡ progress.Pair word → ⊥
+none_room : {T : Type 0} (word : ℕ) (end : Yielding T Unit) → of_outcome end ≡ progress.Pair word → ⊥
 none_room word outcome.Goes e = cc e
 none_room word outcome.Waits e = cc e
 none_room word (outcome.Gave value) e = cc e

@@ -7,7 +7,7 @@ use Rattle.std.proofs.Math.Nat.{mod-lt}
 use Rattle.run_finds.specs.Given.TablesCounts.{count_in}
 use Rattle.run_finds.specs.Given.RunsPresent.{slot_of_guard}
 use Rattle.run_finds.specs.Given.RunsSame.{is_same}
-use Rattle.run_finds.specs.Given.RunsDeclared.call.Answer.TheVariants as answer
+use Rattle.run_finds.specs.Given.RunsDeclared.call.Response.TheVariants as answer
 use Rattle.run_finds.specs.Given.RunsDeclared.call.Call.{Call}
 use Rattle.run_finds.specs.Given.RunsDeclared.call.Call.TheVariants as call
 use Rattle.run_finds.specs.Given.RunsDeclared.effect.Effect.{Effect}

@@ -5,7 +5,7 @@ use Rattle.std.proofs.lemmas.Bool.{cases_eq, eq-eqb}
 use Rattle.run_finds.specs.Given.RunsDeclared.effect.Effect.{Effect}
 use Rattle.run_finds.specs.Given.RunsDeclared.effect.Effect.TheVariants as effect
 use Rattle.run_finds.specs.Given.RunsDeclared.effect.Spot.{Spot}
-use Rattle.run_finds.specs.Given.RunsDeclared.effect.Table.{Table}
+use Rattle.run_finds.specs.Given.RunsDeclared.effect.TableId.{TableId}
 use Rattle.run_finds.specs.Given.RunsDeclared.effect.Thing.TheVariants.{APair, ATable}
 use Rattle.run_finds.specs.Given.SchedulesEffects.{all_at, in_map, place_by, with_effect}
 use Rattle.run_finds.specs.Given.SchedulesEntry.{ByCall, acting}
@@ -86,7 +86,7 @@ module _ {K V : Type 0} (k : ℕ) (caller : Option (List ℕ)) (acted : Option �
     | inr ne ↦ put_elsewhere n to m.place j ne ∙ is
   ]
 
-  all_stay : (t : Table) (to : Place) (j : ℕ) → m.place j ≡ InMap k → all_at to (behind t m.deferred) m.place j ≡ InMap k
+  all_stay : (t : TableId) (to : Place) (j : ℕ) → m.place j ≡ InMap k → all_at to (behind t m.deferred) m.place j ≡ InMap k
   all_stay t to j is = by (is_among j (behind t m.deferred)) refl
     where
       by : (q : Bool) → is_among j (behind t m.deferred) ≡ q → (if is_among j (behind t m.deferred) then to else m.place j) ≡ InMap k

@@ -5,7 +5,7 @@ use Rattle.run_finds.specs.Given.RunsDeclared.ended.Pair.{Pair}
 use Rattle.run_finds.specs.Given.RunsLifeCycle.{times}
 use Rattle.run_finds.specs.Given.RunsPairs.{numbers}
 use Rattle.run_finds.specs.Given.TablesDeclared.resize_mode.ResizeMode.TheVariants.{Blocking}
-use Rattle.run_finds.specs.Given.RunsDeclared.call.Answer.TheVariants.{Absent}
+use Rattle.run_finds.specs.Given.RunsDeclared.call.Response.TheVariants.{Absent}
 use Rattle.run_finds.specs.Given.RunsDeclared.call.Call.TheVariants.{On}
 use Rattle.run_finds.specs.Given.RunsDeclared.call.OneKey.TheVariants.{Insert}
 use Rattle.run_finds.specs.Given.RunsDeclared.effect.Effect.{Effect}

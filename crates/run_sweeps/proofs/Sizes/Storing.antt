@@ -8,7 +8,7 @@ use Rattle.run_finds.specs.Given.RunsSame.{is_same}
 use Rattle.run_finds.specs.Given.RunsDeclared.call.Call.{Call}
 use Rattle.run_finds.specs.Given.RunsDeclared.call.Call.TheVariants as call
 use Rattle.run_finds.specs.Given.RunsDeclared.call.OneKey.{OneKey}
-use Rattle.run_finds.specs.Given.RunsDeclared.call.Answer.{Answer}
+use Rattle.run_finds.specs.Given.RunsDeclared.call.Response.{Response}
 use Rattle.run_finds.specs.Given.RunsDeclared.call.Reply.{Reply}
 use Rattle.run_finds.specs.Given.RunsDeclared.effect.Effect.{Effect}
 use Rattle.run_finds.specs.Given.RunsDeclared.effect.Effect.TheVariants as effect
@@ -48,7 +48,7 @@ module _ {K V : Type 0} where
   Awaits its replies _ old = ⊥
 
   -- it is so by what the call means
-  shifts_await : (one : OneKey K V) (replies : List (Option ℕ × Reply V)) (a : Answer V) (old : Option ℕ) (n : ℕ) (d : Deed V) → means one (reply_to old replies) old n ≡ Answers a d
+  shifts_await : (one : OneKey K V) (replies : List (Option ℕ × Reply V)) (a : Response V) (old : Option ℕ) (n : ℕ) (d : Deed V) → means one (reply_to old replies) old n ≡ Answers a d
       → Awaits (call.On one) replies (shifts old n d) None
   shifts_await one replies a None n Leaves is = refl
   shifts_await one replies a (Some p) n Leaves is = refl

@@ -4,7 +4,7 @@ use Rattle.std.specs.List.{AllByRecursion}
 use Rattle.std.proofs.Common.{refl, ap, sym, subst, ◌∙◌, arith}
 use Rattle.std.proofs.lemmas.Bool.{eq-eqb, lt-ltb, ne_eqb}
 use Rattle.run_finds.specs.Given.TablesCounts.{count_in}
-use Rattle.run_finds.specs.Given.RunsDeclared.call.Answer.TheVariants.{Counted}
+use Rattle.run_finds.specs.Given.RunsDeclared.call.Response.TheVariants.{Counted}
 use Rattle.run_finds.specs.Given.RunsDeclared.call.Call.TheVariants.{Len}
 use Rattle.run_finds.specs.Given.RunsDeclared.effect.Effect.{Effect}
 use Rattle.run_finds.specs.Given.RunsDeclared.event.Event.TheVariants.{OneCall}

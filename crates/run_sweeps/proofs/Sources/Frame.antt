@@ -2,7 +2,7 @@
 use Rattle.std.specs.Prelude.{◌≡◌, ℕ, ◌+◌, ◌<◌, ◌≤◌, length}
 use Rattle.std.proofs.Common.{ap, sym, subst, ◌∙◌, arith, inl, inr}
 use Rattle.std.proofs.lemmas.Bool.{cases_lt}
-use Rattle.run_finds.specs.Given.RunsDeclared.effect.Table.{Table}
+use Rattle.run_finds.specs.Given.RunsDeclared.effect.TableId.{TableId}
 use Rattle.run_finds.specs.Given.SchedulesMoment.{Moment}
 use Rattle.run_finds.specs.Given.EffectsKnown.{Known}
 use Rattle.run_finds.specs.Given.FinishesMaps.{Standing}
@@ -20,7 +20,7 @@ module _ {K V : Type 0} (map : ℕ) (number number2 : ℕ → ℕ) (st st2 : Sta
     | inr not_less ↦ absurd
         (let there = shown2.pairs.numbered n l in
         let old : number2 n ≤ length m.stored = omega (arith, not_less) in
-        let it = numbered (number2 n) there.0 old (ap (λ (t : Table). t.map) (sym (born (number2 n) old)) ∙ shown2.pairs.born n l) in
+        let it = numbered (number2 n) there.0 old (ap (λ (t : TableId). t.map) (sym (born (number2 n) old)) ∙ shown2.pairs.born n l) in
         let is : number2 it.0 ≡ number2 n = same_numbers it.0 it.1 ∙ it.2 in
         let its = it.1 in
         let up = shown2.pairs.rising it.0 n (omega (arith, its, late)) l in
@@ -38,7 +38,7 @@ module _ {K V : Type 0} (map : ℕ) (number number2 : ℕ → ℕ) (st st2 : Sta
         (st.chart.stored, it.1, one.2 ∙ sym it.2)
     | inr not_less ↦
         let old : k ≤ length m.stored = omega (arith, not_less) in
-        let it = numbered k some old (ap (λ (t : Table). t.map) (sym (born k old)) ∙ is) in
+        let it = numbered k some old (ap (λ (t : TableId). t.map) (sym (born k old)) ∙ is) in
         (it.0, (let l = it.1 in omega (arith, l, more)), same_numbers it.0 it.1 ∙ it.2)
   ]
 

@@ -8,7 +8,7 @@ use Rattle.run_finds.specs.Given.TablesDeclared.node.Node.{Node}
 use Rattle.run_finds.specs.Given.RunsDeclared.effect.Effect.{Effect}
 use Rattle.run_finds.specs.Given.RunsDeclared.effect.Effect.TheVariants.{Copied as CopiedTo, Stored, Replaced, Removed, Linked, Promoted}
 use Rattle.run_finds.specs.Given.RunsDeclared.effect.Spot.{Spot}
-use Rattle.run_finds.specs.Given.RunsDeclared.effect.Table.{Table}
+use Rattle.run_finds.specs.Given.RunsDeclared.effect.TableId.{TableId}
 use Rattle.run_finds.specs.Given.SchedulesEffects.{is_chunked, spot_by, with_effects}
 use Rattle.run_finds.specs.Given.SchedulesLists.{put}
 use Rattle.run_finds.specs.Given.SchedulesMoment.{Moment}
@@ -133,7 +133,7 @@ module _ {K V : Type 0} (same : K → K → Bool) (slot caller map : ℕ) (name 
 
   aside_left : (d : Chart K) (v : Moment K V) → ((t i : ℕ) (mark : Bool) → d.place t i ≡ Tombstone mark → IsTombstone (c.place t i)) → AreAside m v → Old d v
   aside_left d v back aside =
-      same_left d v back (λ t i mark is k some most born at. (ap (λ (f : ℕ → Table). (f k).map) aside.born ∙ born, ap (λ (f : ℕ → Spot). f k) aside.spot ∙ at))
+      same_left d v back (λ t i mark is k some most born at. (ap (λ (f : ℕ → TableId). (f k).map) aside.born ∙ born, ap (λ (f : ℕ → Spot). f k) aside.spot ∙ at))
 
   -- a pair was stored, which is none of the old ones
   store_left : (d : Chart K) (v : Moment K V) (t i : ℕ) → ((x j : ℕ) (mark : Bool) → d.place x j ≡ Tombstone mark → IsTombstone (c.place x j)) → v.spot ≡ put (known.stored + 1) (spot_in t i) m.spot
@@ -141,7 +141,7 @@ module _ {K V : Type 0} (same : K → K → Bool) (slot caller map : ℕ) (name 
   store_left d v t i back spot_is born_is =
       same_left d v back (λ x j mark is k some most born at.
       let older : k ≢ known.stored + 1 = (λ e. (let many = shown_blocks.stored in omega (arith, e, many, most))) in (
-        ap (λ (f : ℕ → Table). (f k).map) born_is ∙ ap (λ (y : Table). y.map) (put_elsewhere (known.stored + 1) (table_of map t) m.born k older) ∙ born,
+        ap (λ (f : ℕ → TableId). (f k).map) born_is ∙ ap (λ (y : TableId). y.map) (put_elsewhere (known.stored + 1) (table_of map t) m.born k older) ∙ born,
         ap (λ (f : ℕ → Spot). f k) spot_is ∙ put_elsewhere (known.stored + 1) (spot_in t i) m.spot k older ∙ at,
       ))
 

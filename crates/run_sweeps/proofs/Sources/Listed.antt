@@ -4,7 +4,7 @@ use Rattle.std.specs.List.{AllByRecursion}
 use Rattle.std.proofs.Common.{refl, ap, sym, ◌∙◌, arith, length-append, inl, inr}
 use Rattle.std.proofs.lemmas.Bool.{cases_eq, ne_eqb}
 use Rattle.run_finds.specs.Given.RunsLifeCycle.{times}
-use Rattle.run_finds.specs.Given.RunsDeclared.effect.Table.{Table}
+use Rattle.run_finds.specs.Given.RunsDeclared.effect.TableId.{TableId}
 use Rattle.run_finds.specs.Given.SchedulesMoment.{Place, Unborn, InMap, Out, Handed, Behind, Left, GivenBack, UnderWay, Deferral, Stage, Moment}
 use Rattle.run_finds.specs.Given.SchedulesThings.{same_table}
 use Rattle.run_finds.specs.Given.SchedulesViews.{call_of, behind}
@@ -21,7 +21,7 @@ many_tables map c stage (suc n) =
     let more = length-append (tables_to map c stage n) (record { table = table_of map n; shape = shape_at map c n; stage = stage n } ∷ []) in
     omega (arith, rest, more)
 
-module _ (t : Table) (j : ℕ) where
+module _ (t : TableId) (j : ℕ) where
   -- as often as behind any at most
   pub no_more_behind : (ds : List Deferral) → times j (behind t ds) ≤ put_in j ds
   no_more_behind [] = omega arith

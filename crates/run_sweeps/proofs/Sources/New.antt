@@ -8,7 +8,7 @@ use Rattle.run_finds.specs.Given.TablesDeclared.node.Node.{Node}
 use Rattle.run_finds.specs.Given.RunsDeclared.effect.Effect.{Effect}
 use Rattle.run_finds.specs.Given.RunsDeclared.effect.Effect.TheVariants as effect
 use Rattle.run_finds.specs.Given.RunsDeclared.effect.Spot.{Spot}
-use Rattle.run_finds.specs.Given.RunsDeclared.effect.Table.{Table}
+use Rattle.run_finds.specs.Given.RunsDeclared.effect.TableId.{TableId}
 use Rattle.run_finds.specs.Given.SchedulesEffects.{stored_by, with_effect, with_effects}
 use Rattle.run_finds.specs.Given.SchedulesEntry.{acting}
 use Rattle.run_finds.specs.Given.SchedulesLists.{put}
@@ -52,7 +52,7 @@ module _ {K V : Type 0} (who : Option (List ℕ)) (acted : Option ℕ) where
       by None = refl
       by (Some c) = refl
 
-  promoted_stores_none : (t : Table) (m : Moment K V) → (with_effect who acted (effect.Promoted t) m).stored ≡ m.stored
+  promoted_stores_none : (t : TableId) (m : Moment K V) → (with_effect who acted (effect.Promoted t) m).stored ≡ m.stored
   promoted_stores_none t m = by (acting who m)
     where
       by : (o : Option (UnderWay K V)) → stored_by o (effect.Promoted t) m.stored ≡ m.stored
@@ -106,8 +106,8 @@ module _ {K V : Type 0} (same : K → K → Bool) (slot caller map : ℕ) (name 
   stored_one e are b notes t i spot_is born_is one_more k more most =
       let is : k ≡ known.stored + 1 = (let many = shown_blocks.stored in let then_many = ap (λ (x : Known). x.stored) notes in omega (arith, more, most, many, as_many, then_many)) in
       let lies : (led effects).spot k ≡ spot_in t i = ap (λ (x : List Effect). (led x).spot k) are ∙ ap (λ (f : ℕ → Spot). f k) spot_is ∙ put_here (known.stored + 1) (spot_in t i) m.spot k is in
-      let born : (led effects).born k ≡ table_of map t = ap (λ (x : List Effect). (led x).born k) are ∙ ap (λ (f : ℕ → Table). f k) born_is ∙ put_here (known.stored + 1) (table_of map t) m.born k is in
-      (ap (λ (x : Table). x.map) born, ap (λ (x : Table). x.turn) born ∙ sym (ap (λ (x : Spot). x.turn) lies), omega (arith, one_more), (let many = shown_blocks.stored in omega (arith, is, many)))
+      let born : (led effects).born k ≡ table_of map t = ap (λ (x : List Effect). (led x).born k) are ∙ ap (λ (f : ℕ → TableId). f k) born_is ∙ put_here (known.stored + 1) (table_of map t) m.born k is in
+      (ap (λ (x : TableId). x.map) born, ap (λ (x : TableId). x.turn) born ∙ sym (ap (λ (x : Spot). x.turn) lies), omega (arith, one_more), (let many = shown_blocks.stored in omega (arith, is, many)))
 
   by_move : (q : Bool) (move : Move K) → went.c2 ≡ after (spot_of s.hash) q move c → By move → NewAreThere
   by_move q (Links len limit) is (b, own, done) = aside_done _ done.0 (refl, tt)

@@ -9,7 +9,7 @@ use Rattle.run_finds.specs.Given.TablesDeclared.node.Node.{Node}
 use Rattle.run_finds.specs.Given.RunsDeclared.effect.Effect.{Effect}
 use Rattle.run_finds.specs.Given.RunsDeclared.effect.Effect.TheVariants.{Copied as CopiedTo, Stored, Replaced, Removed, Linked, Promoted}
 use Rattle.run_finds.specs.Given.RunsDeclared.effect.Spot.{Spot}
-use Rattle.run_finds.specs.Given.RunsDeclared.effect.Table.{Table}
+use Rattle.run_finds.specs.Given.RunsDeclared.effect.TableId.{TableId}
 use Rattle.run_finds.specs.Given.SchedulesEffects.{later, is_chunked, spot_by, with_effects}
 use Rattle.run_finds.specs.Given.SchedulesLists.{put}
 use Rattle.run_finds.specs.Given.SchedulesMoment.{Moment}
@@ -123,10 +123,10 @@ module _ {K V : Type 0} (same : K → K → Bool) (slot caller map : ℕ) (name 
         → HasSource d n (v.spot (number n)).turn
     same_came v n old born spot ahead =
         subst (λ (x : Spot). HasSource d n x.turn) (sym spot)
-        (source_stays n (m.spot (number n)).turn (omega arith) (came n old (subst (λ (x : Table). x.turn < (m.spot (number n)).turn) born (subst (λ (x : Spot). (v.born (number n)).turn < x.turn) spot ahead))))
+        (source_stays n (m.spot (number n)).turn (omega arith) (came n old (subst (λ (x : TableId). x.turn < (m.spot (number n)).turn) born (subst (λ (x : Spot). (v.born (number n)).turn < x.turn) spot ahead))))
 
     aside_came : (v : Moment K V) → AreAside m v → OldCame d v
-    aside_came v aside n old ahead = same_came v n old (ap (λ (f : ℕ → Table). f (number n)) aside.born) (ap (λ (f : ℕ → Spot). f (number n)) aside.spot) ahead
+    aside_came v aside n old ahead = same_came v n old (ap (λ (f : ℕ → TableId). f (number n)) aside.born) (ap (λ (f : ℕ → Spot). f (number n)) aside.spot) ahead
 
   chunked : is_chunked (Some map) m ≡ true
   chunked = chunks_are map number s m known shown ∙ chunks
@@ -180,7 +180,7 @@ module _ {K V : Type 0} (same : K → K → Bool) (slot caller map : ℕ) (name 
       → OldCame (after (spot_of s.hash) true move c) v
   store_came move allowed v t i spot_is born_is n old ahead =
       let older : number n ≢ known.stored + 1 = (λ e. (let many = shown_blocks.stored in let le = (shown.pairs.numbered n old).1 in omega (arith, e, many, le))) in
-      same_came move allowed v n old (ap (λ (f : ℕ → Table). f (number n)) born_is ∙ put_elsewhere (known.stored + 1) (table_of map t) m.born (number n) older)
+      same_came move allowed v n old (ap (λ (f : ℕ → TableId). f (number n)) born_is ∙ put_elsewhere (known.stored + 1) (table_of map t) m.born (number n) older)
       (ap (λ (f : ℕ → Spot). f (number n)) spot_is ∙ put_elsewhere (known.stored + 1) (spot_in t i) m.spot (number n) older) ahead
 
   promote_came : (t : ℕ) (allowed : Allowed same (spot_of s.hash) true (Promotes t) c) → OldCame (after (spot_of s.hash) true (Promotes t) c) (led (Promoted (table_of map t) ∷ []))
@@ -218,11 +218,11 @@ module _ {K V : Type 0} (same : K → K → Bool) (slot caller map : ℕ) (name 
   stays_calm : went.c2 ≡ c → AllAside effects → Goal
   stays_calm is all n old ahead =
       let aside = aside_all name (Some map) effects m all in
-      let born = ap (λ (f : ℕ → Table). f (number n)) aside.born in
+      let born = ap (λ (f : ℕ → TableId). f (number n)) aside.born in
       let spot = ap (λ (f : ℕ → Spot). f (number n)) aside.spot in
       subst (λ (x : Chart K). HasSource x n ((led effects).spot (number n)).turn) (sym is)
       (subst (λ (x : Spot). HasSource c n x.turn) (sym spot)
-      (came n old (subst (λ (x : Table). x.turn < (m.spot (number n)).turn) born (subst (λ (x : Spot). ((led effects).born (number n)).turn < x.turn) spot ahead))))
+      (came n old (subst (λ (x : TableId). x.turn < (m.spot (number n)).turn) born (subst (λ (x : Spot). ((led effects).born (number n)).turn < x.turn) spot ahead))))
 
   pub own_came : DidMoved same slot caller map name number s lawful w sight is_sight is_map m2 Told went blocks2 grown sights2 m known shown shown_blocks told left went.moved → Goal
   own_came did = by went.moved did

@@ -12,7 +12,7 @@ use Rattle.run_finds.specs.Given.RunsLifeCycle.{times}
 use Rattle.run_finds.specs.Given.RunsSame.{is_same}
 use Rattle.run_finds.specs.Given.RunsDeclared.effect.Effect.{Effect}
 use Rattle.run_finds.specs.Given.RunsDeclared.effect.Effect.TheVariants as effect
-use Rattle.run_finds.specs.Given.RunsDeclared.effect.Table.{Table}
+use Rattle.run_finds.specs.Given.RunsDeclared.effect.TableId.{TableId}
 use Rattle.run_finds.specs.Given.RunsDeclared.effect.Thing.{Thing}
 use Rattle.run_finds.specs.Given.RunsDeclared.effect.Thing.TheVariants.{APair, ATable}
 use Rattle.run_finds.specs.Given.SchedulesEffects.{call_by, with_effect}
@@ -89,7 +89,7 @@ module _ {K V : Type 0} (same : K → K → Bool) (hash : ℕ → K → ℕ) (na
       let source = sources.came map to.0 to.2 chunks it.0 it.1 (subst (λ (k : ℕ). (m.born k).turn < (m.spot k).turn) (sym it.2) ahead) in
       (it.0, it.2, subst (HasSource st.chart it.0) (ap (λ (k : ℕ). (m.spot k).turn) it.2 ∙ lies) source)
 
-  module _ (n : ℕ) (t : Table) (owed : 1 ≤ owed_in n c.owes) (past : FindsPast m (effect.Deferred n t) c) (behind_it : FindsBehind m (effect.Deferred n t) c) where
+  module _ (n : ℕ) (t : TableId) (owed : 1 ≤ owed_in n c.owes) (past : FindsPast m (effect.Deferred n t) c) (behind_it : FindsBehind m (effect.Deferred n t) c) where
     chunks : is_incremental st.setting.mode ≡ true
     chunks = sym (chunks_are map number st m known shown) ∙ ap (λ (k : ℕ). grows_in_chunks (map_at k m)) (sym its.2) ∙ past.2
 
@@ -165,7 +165,7 @@ module _ {K V : Type 0} (same : K → K → Bool) (hash : ℕ → K → ℕ) (na
       let e = ap (owed_in n) owed in
       omega (arith, e, one)
 
-  deferred : (word : ℕ) (place : At) (t : Table) → due_in_row (machine_of u) ≡ Some (ToPut word place) → (r : Role) → known.roles (block_in word) ≡ r → Finds (carried t r)
+  deferred : (word : ℕ) (place : At) (t : TableId) → due_in_row (machine_of u) ≡ Some (ToPut word place) → (r : Role) → known.roles (block_in word) ≡ r → Finds (carried t r)
   deferred word place t due (role.Pair n) is past behind_it = (
     subst (ByCall (FindsSpace m (effect.Deferred n t))) (sym its.1)
         (room n t (due_owed word place n due is) (subst (ByCall (FindsPast m (effect.Deferred n t))) its.1 past.0) (subst (ByCall (FindsBehind m (effect.Deferred n t))) its.1 behind_it.0)),

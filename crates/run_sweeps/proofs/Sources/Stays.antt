@@ -3,7 +3,7 @@ use Rattle.std.specs.Prelude.{◌≡◌, ℕ, suc, ◌-◌, ◌<◌, ◌≤◌, 
 use Rattle.std.proofs.Common.{ap, sym, subst, ◌∙◌, arith, inl, inr}
 use Rattle.run_finds.specs.Given.TablesChunks.{is_incremental}
 use Rattle.run_finds.specs.Given.RunsDeclared.effect.Spot.{Spot}
-use Rattle.run_finds.specs.Given.RunsDeclared.effect.Table.{Table}
+use Rattle.run_finds.specs.Given.RunsDeclared.effect.TableId.{TableId}
 use Rattle.run_finds.specs.Given.SchedulesMoment.{Moment}
 use Rattle.run_finds.specs.Given.EffectsKnown.{Known}
 use Rattle.run_finds.specs.Given.FinishesMaps.{Standing}
@@ -28,12 +28,12 @@ module _ {K V : Type 0} (map : ℕ) (number number2 : ℕ → ℕ) (st st2 : Sta
           let here : n < st2.chart.stored = omega (arith, l, as_many) in
           let there = shown2.pairs.numbered n here in
           let old : number2 n ≤ length m.stored = (let most = there.1 in let more = pairs.stored in omega (arith, most, more)) in
-          numbered (number2 n) there.0 old (ap (λ (t : Table). t.map) (sym (pairs.born (number2 n) old)) ∙ shown2.pairs.born n here)
+          numbered (number2 n) there.0 old (ap (λ (t : TableId). t.map) (sym (pairs.born (number2 n) old)) ∙ shown2.pairs.born n here)
 
   numbered_still : AreNumbered map number2 st2 v
   numbered_still k some most is =
       let old : k ≤ length m.stored = (let more = pairs.stored in omega (arith, most, more)) in
-      let it = numbered k some old (ap (λ (t : Table). t.map) (sym (pairs.born k old)) ∙ is) in
+      let it = numbered k some old (ap (λ (t : TableId). t.map) (sym (pairs.born k old)) ∙ is) in
       (it.0, (let l = it.1 in omega (arith, l, as_many)), numbers_stay it.0 it.1 ∙ it.2)
 
   came_still : CameFromPlaces st.chart number m → CameFromPlaces st2.chart number2 v
@@ -45,13 +45,13 @@ module _ {K V : Type 0} (map : ℕ) (number number2 : ℕ → ℕ) (st st2 : Sta
       let spot : v.spot (number2 n) ≡ m.spot (number n) = ap v.spot is ∙ pairs.spot (number n) old in
       subst (λ (c : Chart K). HasSource c n (v.spot (number2 n)).turn) (sym same_chart)
       (subst (λ (x : Spot). HasSource st.chart n x.turn) (sym spot)
-      (came n here (subst (λ (x : Table). x.turn < (m.spot (number n)).turn) born (subst (λ (x : Spot). (v.born (number2 n)).turn < x.turn) spot ahead))))
+      (came n here (subst (λ (x : TableId). x.turn < (m.spot (number n)).turn) born (subst (λ (x : Spot). (v.born (number2 n)).turn < x.turn) spot ahead))))
 
 -- what was removed lay where it lies
 left_still : {K V : Type 0} (map : ℕ) (m v : Moment K V) → PairsStay m v → (c : Chart K) → WereLeft c map m → WereLeft c map v
 left_still map m v pairs c left x i mark is =
     let it = left x i mark is in
-    (it.0, it.1, (let most = it.2 in let more = pairs.stored in omega (arith, most, more)), ap (λ (y : Table). y.map) (pairs.born it.0 it.2) ∙ it.3, pairs.spot it.0 it.2 ∙ it.4)
+    (it.0, it.1, (let most = it.2 in let more = pairs.stored in omega (arith, most, more)), ap (λ (y : TableId). y.map) (pairs.born it.0 it.2) ∙ it.3, pairs.spot it.0 it.2 ∙ it.4)
 
 pub sources_stay : (K V : Type 0) → SourcesStay K V
 sources_stay K V same name m v known known2 s t sources shown2 pairs stands = record {

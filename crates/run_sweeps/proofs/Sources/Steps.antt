@@ -11,7 +11,7 @@ use Rattle.run_finds.specs.Given.TablesDeclared.setting.Setting.{Setting}
 use Rattle.run_finds.specs.Given.RawDeclared.machines.progress.Progress.{Progress}
 use Rattle.run_finds.specs.Given.RunsDeclared.effect.Effect.{Effect}
 use Rattle.run_finds.specs.Given.RunsDeclared.effect.Spot.{Spot}
-use Rattle.run_finds.specs.Given.RunsDeclared.effect.Table.{Table}
+use Rattle.run_finds.specs.Given.RunsDeclared.effect.TableId.{TableId}
 use Rattle.run_finds.specs.Given.SchedulesEffects.{with_effects}
 use Rattle.run_finds.specs.Given.SchedulesMoment.{Place, Unborn, InMap, Out, Handed, Behind, Left, GivenBack, Moment}
 use Rattle.run_finds.specs.Given.SchedulesViews.{is_in_map}
@@ -120,7 +120,7 @@ module _ {K V : Type 0} (same : K → K → Bool) (hash : ℕ → K → ℕ) (na
       let aside = aside_all (Some (name i)) (Some map) effects m all in
       sources_stay K V same name m v known known2 s s2 sources on.shows (record {
         stored = ap length (aside_stores_none (Some (name i)) (Some map) effects m all);
-        born = λ k l. ap (λ (f : ℕ → Table). f k) aside.born;
+        born = λ k l. ap (λ (f : ℕ → TableId). f k) aside.born;
         spot = λ k l. ap (λ (f : ℕ → Spot). f k) aside.spot;
       })
       (λ n st2 is. inl (let it = same_standing (s.maps n) (to.4.maps2 n) (kept n) st2 is in (it.0, it.1, it.2, ap (λ (x : Setting). is_incremental x.mode) it.3)))
@@ -267,7 +267,7 @@ module _ {K V : Type 0} (same : K → K → Bool) (hash : ℕ → K → ℕ) (na
           subst (λ (c : Chart K). HasSource c n (v.spot (shown.number of n)).turn) (sym was.2)
           (subst (λ (x : Spot). HasSource was.0.chart n x.turn) (sym spot)
           (sources.came of was.0 was.1 (ap (λ (x : Setting). is_incremental x.mode) was.3 ∙ chunks) n l
-          (subst (λ (x : Table). x.turn < (m.spot (shown.number of n)).turn) born (subst (λ (x : Spot). (v.born (shown.number of n)).turn < x.turn) spot ahead)))))
+          (subst (λ (x : TableId). x.turn < (m.spot (shown.number of n)).turn) born (subst (λ (x : Spot). (v.born (shown.number of n)).turn < x.turn) spot ahead)))))
 
       -- and so do those that were removed
       other_left : WereLeft st2.chart of v
@@ -277,7 +277,7 @@ module _ {K V : Type 0} (same : K → K → Bool) (hash : ℕ → K → ℕ) (na
             it.0,
             it.1,
             (let most = it.2 in let more = many_more in omega (arith, most, more)),
-            ap (λ (x : Table). x.map) (elsewhere.born it.0 it.2) ∙ it.3,
+            ap (λ (x : TableId). x.map) (elsewhere.born it.0 it.2) ∙ it.3,
             elsewhere.spot it.0 it.2 born (not_in_it map (m.place it.0) (λ is. born (whole.all.hands.born it.0 map is).1)) ∙ it.4,
           )
 

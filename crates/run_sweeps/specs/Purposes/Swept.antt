@@ -5,7 +5,7 @@ use Rattle.run_finds.specs.Given.RawDeclared.machines.progress.Answer.{Answer}
 use Rattle.run_finds.specs.Given.RawDeclared.machines.progress.Answer.TheVariants as answers
 use Rattle.run_finds.specs.Given.RawDeclared.machines.progress.Progress.{Progress}
 use Rattle.run_finds.specs.Given.RawDeclared.machines.progress.Progress.TheVariants as progress
-use Rattle.run_finds.specs.Given.RunsDeclared.call.Answer.TheVariants.{Absent, Completed, Counted}
+use Rattle.run_finds.specs.Given.RunsDeclared.call.Response.TheVariants.{Absent, Completed, Counted}
 use Rattle.run_finds.specs.Given.RunsDeclared.call.Call.TheVariants.{On, Reserve, Clear, Retain, Len, Walk}
 use Rattle.run_finds.specs.Given.RunsDeclared.call.OneKey.{OneKey}
 use Rattle.run_finds.specs.Given.RunsDeclared.outcome.Outcome.{Outcome}

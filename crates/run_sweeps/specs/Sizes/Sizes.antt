@@ -2,7 +2,7 @@
 use Rattle.std.specs.Prelude.{◌≡◌, ℕ, zero, suc, ◌+◌, ◌%◌, ◌^◌, ◌==◌, Bool, false, List, ◌∷◌, sum_by, Some, if◌then◌else◌}
 use Rattle.std.specs.List.{AllByRecursion}
 use Rattle.run_finds.specs.Given.TablesCounts.{count_in}
-use Rattle.run_finds.specs.Given.RunsDeclared.call.Answer.TheVariants.{Counted}
+use Rattle.run_finds.specs.Given.RunsDeclared.call.Response.TheVariants.{Counted}
 use Rattle.run_finds.specs.Given.RunsDeclared.call.Call.TheVariants.{Len}
 use Rattle.run_finds.specs.Given.RunsDeclared.event.Event.TheVariants.{OneCall}
 use Rattle.run_finds.specs.Given.RunsDeclared.outcome.Outcome.TheVariants.{Answered}

@@ -10,8 +10,8 @@ use Rattle.run_debts.specs.Given.SeizeDefer.{deferring}
 use Rattle.run_debts.specs.Given.SeizeFurther.{IsWordOf}
 use Rattle.run_debts.specs.Given.SeizeSettle.{retiring}
 use Rattle.run_debts.specs.Given.SeizeSequence.{taken_in}
-use Rattle.run_debts.specs.Given.SeizeDeclared.progress.Progress.{Progress as Deferring}
-use Rattle.run_debts.specs.Given.SeizeDeclared.progress.Progress.TheVariants as progress
+use Rattle.run_debts.specs.Given.SeizeDeclared.advance.Advance.{Advance as Deferring}
+use Rattle.run_debts.specs.Given.SeizeDeclared.advance.Advance.TheVariants as progress
 use Rattle.run_debts.specs.Given.SeizeDeclared.rows.defer.Defer.{Defer}
 use Rattle.run_debts.specs.Given.SeizeDeclared.rows.settle.Settle.{Settle}
 use Rattle.run_debts.specs.Given.SeizeDeclared.rows.settle.Settled.{Settled}
@@ -37,7 +37,7 @@ use Rattle.run_debts.specs.Given.TablesDeclared.node.Node.{Node}
 use Rattle.run_debts.specs.Given.RawDeclared.machines.progress.Progress.{Progress as CallTold}
 use Rattle.run_debts.specs.Given.RunsDeclared.effect.Effect.{Effect}
 use Rattle.run_debts.specs.Given.RunsDeclared.effect.Effect.TheVariants.{Retired, Deferred}
-use Rattle.run_debts.specs.Given.RunsDeclared.effect.Table.{Table}
+use Rattle.run_debts.specs.Given.RunsDeclared.effect.TableId.{TableId}
 use Rattle.run_debts.specs.Given.RunsDeclared.effect.Thing.TheVariants.{APair}
 use Rattle.run_debts.specs.Given.SchedulesEffects.{with_effects}
 use Rattle.run_debts.specs.Given.SchedulesLists.{is_among, put}
@@ -204,7 +204,7 @@ module _ {K V : Type 0} (same : K → K → Bool) (hash : ℕ → K → ℕ) (na
       let theirs = rows_hand_theirs K V same hash name m known s old new at whole.all map i u here_is said leads other in
       (let has = subst (HasRole to.4.w2 v.stored b) (role_kept b (role.Pair n) e tt) (theirs.2.shown.blocks.roles b) in (_, has.3))
 
-  table_after : (b len : ℕ) (t : Table) → known.roles b ≡ role.Table t len → (value : Node K V) × (value_at to.4.w2.memory b ≡ Some value)
+  table_after : (b len : ℕ) (t : TableId) → known.roles b ≡ role.Table t len → (value : Node K V) × (value_at to.4.w2.memory b ≡ Some value)
   table_after b len t e =
       let theirs = rows_hand_theirs K V same hash name m known s old new at whole.all map i u here_is said leads other in
       (let has = subst (HasRole to.4.w2 v.stored b) (role_kept b (role.Table t len) e tt) (theirs.2.shown.blocks.roles b) in (_, has.1))
@@ -262,7 +262,7 @@ module _ {K V : Type 0} (same : K → K → Bool) (hash : ℕ → K → ℕ) (na
     one_on (inr (request, begun, over, begin, step)) p t pair table waits =
         step_on begun (happens_reached deferred_word size (Begin i request) w begun reached begin) step p t pair table (begin_on request begun over begin.1 p t waits)
 
-    lies_on : IsOneStep to.0.setting i w w3 → (n : ℕ) (t : Table) → LiesBehind known w n t → LiesBehind known2 to.4.w2 n t
+    lies_on : IsOneStep to.0.setting i w w3 → (n : ℕ) (t : TableId) → LiesBehind known w n t → LiesBehind known2 to.4.w2 n t
     lies_on step n t l = record {
       pair = l.pair;
       is_pair = role_kept l.pair (role.Pair n) l.is_pair tt;
@@ -285,7 +285,7 @@ module _ {K V : Type 0} (same : K → K → Bool) (hash : ℕ → K → ℕ) (na
     looked (Flush slot) begun over h step = absurd over
 
     -- what it retires did not wait
-    not_waiting : w3.memory ≡ new.memory → IsOneStep to.0.setting i w w3 → (n k : ℕ) (t : Table) (l : LiesBehind known w n t) → IsDue l.pair (due_in_row (machine_of u)) → effects ≡ Retired (APair k) ∷ [] → ⊥
+    not_waiting : w3.memory ≡ new.memory → IsOneStep to.0.setting i w w3 → (n k : ℕ) (t : TableId) (l : LiesBehind known w n t) → IsDue l.pair (due_in_row (machine_of u)) → effects ≡ Retired (APair k) ∷ [] → ⊥
     not_waiting memory (inr (request, begun, over, begin, step)) n k t l due alone =
         (let calm = (stayed_calm same hash m known s old new at name whole.all.shown map i to.0 to.2 (name i) (made_so same hash name m known s old new at whole.all.shown map i u here_is said leads)
         (sym memory ∙ looked request begun over begin.1 step)).calm in
@@ -320,7 +320,7 @@ module _ {K V : Type 0} (same : K → K → Bool) (hash : ℕ → K → ℕ) (na
         by (inr both) = left_pending (w.hand l.pair) (kept.good.state.life l.pair) i both.0 (kept.good.hands l.pair) (pending (left_lives (w.hand l.pair) (kept.good.state.life l.pair) both.0 (kept.good.hands l.pair)))
 
     -- so it is at its place still
-    place_on : w3.memory ≡ new.memory → IsOneStep to.0.setting i w w3 → (n : ℕ) (t : Table) → LiesBehind known w n t → m.place n ≡ Behind → v.place n ≡ Behind
+    place_on : w3.memory ≡ new.memory → IsOneStep to.0.setting i w w3 → (n : ℕ) (t : TableId) → LiesBehind known w n t → m.place n ≡ Behind → v.place n ≡ Behind
     place_on memory step n t l was = by tells
       where
         then_at : List Effect → Place
@@ -337,7 +337,7 @@ module _ {K V : Type 0} (same : K → K → Bool) (hash : ℕ → K → ℕ) (na
         retired word (role.OwnTable turn shape) e due are = was
         retired word (role.Counter of) e due are = was
 
-        put_behind : (x : Table) (r : Role) → then_at (carried x r) ≡ Behind
+        put_behind : (x : TableId) (r : Role) → then_at (carried x r) ≡ Behind
         put_behind x (role.Pair k) = elim (cases_eq n k) as (λ _. put k Behind m.place n ≡ Behind) [
           | inl e ↦ put_here k Behind m.place n e
           | inr ne ↦ put_elsewhere k Behind m.place n ne ∙ was
@@ -353,18 +353,18 @@ module _ {K V : Type 0} (same : K → K → Bool) (hash : ℕ → K → ℕ) (na
         by (TellsRetired word due gone are) = ap then_at are ∙ retired word (known.roles (block_in word)) refl due are
         by (TellsDeferred word block place x len due its gone noted are) = ap then_at are ∙ put_behind x (named known word)
 
-    abbrev Waited : ℕ → Table → Type 0
+    abbrev Waited : ℕ → TableId → Type 0
     Waited n t = (m.place n ≡ Behind) × LiesBehind known w n t
 
     -- what waited does so still
-    abbrev WaitsThen : ℕ → Table → Type 0
+    abbrev WaitsThen : ℕ → TableId → Type 0
     WaitsThen n t = (v.place n ≡ Behind) × LiesBehind known2 to.4.w2 n t
 
     on_still : w3.memory ≡ new.memory → IsOneStep to.0.setting i w w3 → EachWaits WaitsThen m.deferred
     on_still memory step = each_on Waited WaitsThen (λ n t p. (place_on memory step n t p.1 p.0, lies_on step n t p.1)) m.deferred waiting
 
     -- the row is under way if it puts a pair behind a table
-    pub under_way : w3.memory ≡ new.memory → IsOneStep to.0.setting i w w3 → (k : ℕ) (t : Table) → effects ≡ Deferred k t ∷ [] → w.row i ≡ Rests → ⊥
+    pub under_way : w3.memory ≡ new.memory → IsOneStep to.0.setting i w w3 → (k : ℕ) (t : TableId) → effects ≡ Deferred k t ∷ [] → w.row i ≡ Rests → ⊥
     under_way memory (inr (request, begun, over, begin, step)) k t alone rests =
         (let calm = (stayed_calm same hash m known s old new at name whole.all.shown map i to.0 to.2 (name i) (made_so same hash name m known s old new at whole.all.shown map i u here_is said leads)
         (sym memory ∙ looked request begun over begin.1 step)).calm in
@@ -372,20 +372,20 @@ module _ {K V : Type 0} (same : K → K → Bool) (hash : ℕ → K → ℕ) (na
     under_way memory (inl step) k t alone rests = subst (λ (r : Row). Steps' deferred_word i r w w3) rests step
 
     -- and it is putting its block there,
-    pub puts_it : w3.memory ≡ new.memory → IsOneStep to.0.setting i w w3 → (word block : ℕ) (place : At) (k : ℕ) (t : Table) → due_in_row (machine_of u) ≡ Some (ToPut word place) → IsWordOf block place
+    pub puts_it : w3.memory ≡ new.memory → IsOneStep to.0.setting i w w3 → (word block : ℕ) (place : At) (k : ℕ) (t : TableId) → due_in_row (machine_of u) ≡ Some (ToPut word place) → IsWordOf block place
         → effects ≡ Deferred k t ∷ [] → IsPutting (block_in word) block (w.row i)
     puts_it memory step word block place k t due its alone =
         let row = to_put same to.0.hash to.0.setting w to.0.chart (seen_by to.0.blocks (to.0.sights (slot_of i))) i word place u (each.stand i u here_is) (under_way memory step k t alone) due in
         is_putting (LAST_SLOT + 1) i (view deferred_word w.memory) kept.good.state kept.good.extra word block place its (length w.memory.slots) (w.row i) (kept.good.rows i) row
 
     -- which waits there by the log,
-    waits_put : w3.memory ≡ new.memory → IsOneStep to.0.setting i w w3 → (word block : ℕ) (place : At) (k : ℕ) (t : Table) → due_in_row (machine_of u) ≡ Some (ToPut word place) → IsWordOf block place
+    waits_put : w3.memory ≡ new.memory → IsOneStep to.0.setting i w w3 → (word block : ℕ) (place : At) (k : ℕ) (t : TableId) → due_in_row (machine_of u) ≡ Some (ToPut word place) → IsWordOf block place
         → effects ≡ Deferred k t ∷ [] → waits_behind (block_in word) w.log ≡ Some block
     waits_put memory step word block place k t due its alone = kept.putting i (block_in word) block (puts_it memory step word block place k t due its alone)
 
     -- behind no other one
-    put_once : w3.memory ≡ new.memory → IsOneStep to.0.setting i w w3 → (word block : ℕ) (place : At) (k len : ℕ) (t : Table) → due_in_row (machine_of u) ≡ Some (ToPut word place) → IsWordOf block place
-        → known.roles block ≡ role.Table t len → named known word ≡ role.Pair k → effects ≡ Deferred k t ∷ [] → (x : Table) → is_among k (behind x m.deferred) ≡ true → same_table t x ≡ true
+    put_once : w3.memory ≡ new.memory → IsOneStep to.0.setting i w w3 → (word block : ℕ) (place : At) (k len : ℕ) (t : TableId) → due_in_row (machine_of u) ≡ Some (ToPut word place) → IsWordOf block place
+        → known.roles block ≡ role.Table t len → named known word ≡ role.Pair k → effects ≡ Deferred k t ∷ [] → (x : TableId) → is_among k (behind x m.deferred) ≡ true → same_table t x ≡ true
     put_once memory step word block place k len t due its is_table is_pair alone x among = by b.waits
       where
         a : WaitsAt Waited k x
@@ -410,7 +410,7 @@ module _ {K V : Type 0} (same : K → K → Bool) (hash : ℕ → K → ℕ) (na
         by (inr both) = absurd (subst IsLeft (ap w.hand same_pair ∙ has_it deferred_word size w kept (block_in word) block puts) both.0)
 
     -- and lies behind it
-    lies_new : w3.memory ≡ new.memory → IsOneStep to.0.setting i w w3 → (word block : ℕ) (place : At) (k len : ℕ) (t : Table) → due_in_row (machine_of u) ≡ Some (ToPut word place) → IsWordOf block place
+    lies_new : w3.memory ≡ new.memory → IsOneStep to.0.setting i w w3 → (word block : ℕ) (place : At) (k len : ℕ) (t : TableId) → due_in_row (machine_of u) ≡ Some (ToPut word place) → IsWordOf block place
         → known.roles block ≡ role.Table t len → named known word ≡ role.Pair k → effects ≡ Deferred k t ∷ [] → LiesBehind known2 to.4.w2 k t
     lies_new memory step word block place k len t due its is_table is_pair alone = lies_on step k t (record {
       pair = block_in word;
@@ -438,7 +438,7 @@ module _ {K V : Type 0} (same : K → K → Bool) (hash : ℕ → K → ℕ) (na
         still : v.deferred ≡ m.deferred → ShowsWaiting v known2 to.4.w2
         still same_list = subst (EachWaits WaitsThen) (sym same_list) (on_still memory step)
 
-        put_on : (word block : ℕ) (place : At) (t : Table) (len : ℕ) (r : Role) → named known word ≡ r → due_in_row (machine_of u) ≡ Some (ToPut word place) → IsWordOf block place
+        put_on : (word block : ℕ) (place : At) (t : TableId) (len : ℕ) (r : Role) → named known word ≡ r → due_in_row (machine_of u) ≡ Some (ToPut word place) → IsWordOf block place
             → known.roles block ≡ role.Table t len → effects ≡ carried t r → ShowsWaiting v known2 to.4.w2
         put_on word block place t len (role.Pair k) is due its table are =
             subst (EachWaits WaitsThen) (sym (ap deferred_then are)) (
@@ -463,7 +463,7 @@ module _ {K V : Type 0} (same : K → K → Bool) (hash : ℕ → K → ℕ) (na
         still : v.deferred ≡ m.deferred → WaitsOnce v.deferred
         still same_list = subst WaitsOnce (sym same_list) once
 
-        put_on : (word block : ℕ) (place : At) (t : Table) (len : ℕ) (r : Role) → named known word ≡ r → due_in_row (machine_of u) ≡ Some (ToPut word place) → IsWordOf block place
+        put_on : (word block : ℕ) (place : At) (t : TableId) (len : ℕ) (r : Role) → named known word ≡ r → due_in_row (machine_of u) ≡ Some (ToPut word place) → IsWordOf block place
             → known.roles block ≡ role.Table t len → effects ≡ carried t r → WaitsOnce v.deferred
         put_on word block place t len (role.Pair k) is due its table are =
             subst WaitsOnce (sym (ap deferred_then are)) (once_more m.deferred once k t (put_once memory step word block place k len t due its table is are))

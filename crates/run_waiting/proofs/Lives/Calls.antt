@@ -7,7 +7,7 @@ use Rattle.run_debts.specs.Given.TablesDeclared.node.Node.{Node}
 use Rattle.run_debts.specs.Given.RawDeclared.machines.progress.Progress.{Progress}
 use Rattle.run_debts.specs.Given.RunsDeclared.effect.Effect.{Effect}
 use Rattle.run_debts.specs.Given.RunsDeclared.effect.Effect.TheVariants.{Asked, PairMade, PairGivenUp, TableMade, TableGivenUp, Linked, Promoted, Copied, Stored, Replaced, Removed, Counted, Deferred, Retired, Reclaimed, Ended, Taken}
-use Rattle.run_debts.specs.Given.RunsDeclared.effect.Table.{Table}
+use Rattle.run_debts.specs.Given.RunsDeclared.effect.TableId.{TableId}
 use Rattle.run_debts.specs.Given.SchedulesEffects.{in_map, place_by, deferred_by, with_effect, with_effects, AtEachEffect}
 use Rattle.run_debts.specs.Given.SchedulesMoment.{Out, Behind, Moment}
 use Rattle.run_debts.specs.Given.RuleInWorld.{AllUsers}
@@ -105,7 +105,7 @@ module _ {K V : Type 0} (same : K → K → Bool) (hash : ℕ → K → ℕ) (na
     kept : (x : ℕ) (r : Role) → known.roles x ≡ r → IsLasting r → known2.roles x ≡ r
     kept x r e its = keeps x (subst IsLasting (sym e) its) ∙ e
 
-    was_stored : (n : ℕ) (t : Table) (l : LiesBehind known s.world n t) → n ≤ length m.stored
+    was_stored : (n : ℕ) (t : TableId) (l : LiesBehind known s.world n t) → n ≤ length m.stored
     was_stored n t l =
         let has = subst (λ (r : Role). HasRole s.world m.stored l.pair r) l.is_pair (whole.all.shown.blocks.roles l.pair) in
         pair_within m.stored n (has.0, has.1) has.2

@@ -1,25 +1,25 @@
 -- What is so of each pair that waits, and of its table.
 use Rattle.std.specs.Prelude.{◌≡◌, ℕ, ◌==◌, Bool, true, false, ◌||◌, List, [], ◌∷◌, filter, map, if◌then◌else◌}
 use Rattle.std.proofs.Common.{refl, sym, arith}
-use Rattle.run_debts.specs.Given.RunsDeclared.effect.Table.{Table}
+use Rattle.run_debts.specs.Given.RunsDeclared.effect.TableId.{TableId}
 use Rattle.run_debts.specs.Given.SchedulesLists.{is_among}
 use Rattle.run_debts.specs.Given.SchedulesMoment.{Deferral}
 use Rattle.run_debts.specs.Given.SchedulesThings.{same_table}
 use Rattle.run_debts.specs.Given.SchedulesViews.{behind}
 use Rattle.run_waiting.specs.Lives.Behind.{EachWaits}
 
-module _ (P : ℕ → Table → Type 0) where
-  pub each_on : (Q : ℕ → Table → Type 0) → ((n : ℕ) (t : Table) → P n t → Q n t) → (ds : List Deferral) → EachWaits P ds → EachWaits Q ds
+module _ (P : ℕ → TableId → Type 0) where
+  pub each_on : (Q : ℕ → TableId → Type 0) → ((n : ℕ) (t : TableId) → P n t → Q n t) → (ds : List Deferral) → EachWaits P ds → EachWaits Q ds
   each_on Q turn [] each = tt
   each_on Q turn (d ∷ ds) each = (turn d.pair d.behind each.0, each_on Q turn ds each.1)
 
   -- and something else is so of each
-  pub each_both : (Q : ℕ → Table → Type 0) (ds : List Deferral) → EachWaits P ds → EachWaits Q ds → EachWaits (λ n t. P n t × Q n t) ds
+  pub each_both : (Q : ℕ → TableId → Type 0) (ds : List Deferral) → EachWaits P ds → EachWaits Q ds → EachWaits (λ n t. P n t × Q n t) ds
   each_both Q [] each other = tt
   each_both Q (d ∷ ds) each other = ((each.0, other.0), each_both Q ds each.1 other.1)
 
   -- of those that pass a test
-  pub each_kept : (Q : ℕ → Table → Type 0) (f : Deferral → Bool) → ((d : Deferral) → f d ≡ true → P d.pair d.behind → Q d.pair d.behind) → (ds : List Deferral) → EachWaits P ds → EachWaits Q (filter f ds)
+  pub each_kept : (Q : ℕ → TableId → Type 0) (f : Deferral → Bool) → ((d : Deferral) → f d ≡ true → P d.pair d.behind → Q d.pair d.behind) → (ds : List Deferral) → EachWaits P ds → EachWaits Q (filter f ds)
   each_kept Q f turn [] each = tt
   each_kept Q f turn (d ∷ ds) each = by (f d) refl (each_kept Q f turn ds each.1)
     where
@@ -28,13 +28,13 @@ module _ (P : ℕ → Table → Type 0) where
       by false is rest = rest
 
   -- one that waits behind a table
-  pub record WaitsAt (n : ℕ) (t : Table) : Type 0 where
+  pub record WaitsAt (n : ℕ) (t : TableId) : Type 0 where
     pub one : Deferral
     pub its : same_table one.behind t ≡ true
     pub number : one.pair ≡ n
     pub so : P one.pair one.behind
 
-  pub found : (n : ℕ) (t : Table) (ds : List Deferral) → EachWaits P ds → is_among n (behind t ds) ≡ true → WaitsAt n t
+  pub found : (n : ℕ) (t : TableId) (ds : List Deferral) → EachWaits P ds → is_among n (behind t ds) ≡ true → WaitsAt n t
   found n t [] each among = absurd (cc among)
   found n t (d ∷ ds) each among = by (same_table d.behind t) refl among (found n t ds each.1)
     where

@@ -19,7 +19,7 @@ use Rattle.run_debts.specs.Given.RawDeclared.machines.machine.Machine.{Machine}
 use Rattle.run_debts.specs.Given.RawDeclared.machines.progress.Progress.{Progress as CallTold}
 use Rattle.run_debts.specs.Given.RunsDeclared.effect.Effect.{Effect}
 use Rattle.run_debts.specs.Given.RunsDeclared.effect.Effect.TheVariants.{Deferred, Retired}
-use Rattle.run_debts.specs.Given.RunsDeclared.effect.Table.{Table}
+use Rattle.run_debts.specs.Given.RunsDeclared.effect.TableId.{TableId}
 use Rattle.run_debts.specs.Given.RunsDeclared.effect.Thing.{Thing}
 use Rattle.run_debts.specs.Given.RunsDeclared.effect.Thing.TheVariants.{APair, ATable}
 use Rattle.run_debts.specs.Given.SchedulesEffects.{with_effects, AtEachEffect}
@@ -308,7 +308,7 @@ module _ {K V : Type 0} (same : K → K → Bool) (hash : ℕ → K → ℕ) (na
           let has = subst (HasRole s2.world v.stored b) noted (whole2.all.shown.blocks.roles b) in
           (b, noted, row_over step b _ has.3 over)
 
-      table_then : (b len : ℕ) (t : Table) → known.roles b ≡ role.Table t len → IsOneStep to.0.setting i w w3 → IsHandedOver w b
+      table_then : (b len : ℕ) (t : TableId) → known.roles b ≡ role.Table t len → IsOneStep to.0.setting i w w3 → IsHandedOver w b
           → (x : ℕ) × (n : ℕ) × (known2.roles x ≡ role.Table t n) × IsHandedOver s2.world x
       table_then b len t table step over =
           let noted = kept_role keeps b (role.Table t len) table tt in
@@ -318,13 +318,13 @@ module _ {K V : Type 0} (same : K → K → Bool) (hash : ℕ → K → ℕ) (na
       abbrev PairOver : ℕ → Type 0
       PairOver n = (x : ℕ) × (known2.roles x ≡ role.Pair n) × IsHandedOver s2.world x
 
-      abbrev TableOver : Table → Type 0
+      abbrev TableOver : TableId → Type 0
       TableOver t = (x : ℕ) × (len : ℕ) × (known2.roles x ≡ role.Table t len) × IsHandedOver s2.world x
 
       pairs_had : IsOneStep to.0.setting i w w3 → (n : ℕ) → is_handed (m.place n) ≡ true → PairOver n
       pairs_had step n so = (let one = shows.handed n so in pair_then one.0 n one.1 step one.2)
 
-      tables_had : IsOneStep to.0.setting i w w3 → (t : Table) → is_stage is_retired t m ≡ true → TableOver t
+      tables_had : IsOneStep to.0.setting i w w3 → (t : TableId) → is_stage is_retired t m ≡ true → TableOver t
       tables_had step t so = (let one = shows.tables t so in table_then one.0 one.1 t one.2 step one.3)
 
       -- a pair that is told to be handed over
@@ -343,7 +343,7 @@ module _ {K V : Type 0} (same : K → K → Bool) (hash : ℕ → K → ℕ) (na
       pair_retired step n word (role.OwnTable turn shape) e due are so = pairs_had step n so
       pair_retired step n word (role.Counter of) e due are so = pairs_had step n so
 
-      pair_put : IsOneStep to.0.setting i w w3 → (n : ℕ) (t : Table) (r : Role) → is_handed ((then_m (carried t r)).place n) ≡ true → PairOver n
+      pair_put : IsOneStep to.0.setting i w w3 → (n : ℕ) (t : TableId) (r : Role) → is_handed ((then_m (carried t r)).place n) ≡ true → PairOver n
       pair_put step n t (role.Pair k) so = pairs_had step n (handed_back (Some (name i)) (Some map) n (Deferred k t ∷ []) m (λ z. z, tt) so)
       pair_put step n t role.Free so = pairs_had step n so
       pair_put step n t (role.OwnPair j) so = pairs_had step n so
@@ -363,13 +363,13 @@ module _ {K V : Type 0} (same : K → K → Bool) (hash : ℕ → K → ℕ) (na
           by (TellsDeferred word block place t len was its gone noted are) = pair_put step n t (named known word) (subst IsAfter are so)
 
       -- and a table
-      table_retired : IsOneStep to.0.setting i w w3 → (t : Table) (word : ℕ) (r : Role) → known.roles (block_in word) ≡ r → IsDue (block_in word) (due_in_row (machine_of u)) → effects ≡ told_retired r
+      table_retired : IsOneStep to.0.setting i w w3 → (t : TableId) (word : ℕ) (r : Role) → known.roles (block_in word) ≡ r → IsDue (block_in word) (due_in_row (machine_of u)) → effects ≡ told_retired r
           → is_stage is_retired t (then_m (told_retired r)) ≡ true → TableOver t
       table_retired step t word (role.Table x len) e due are so = by (same_table x t) refl
         where
           by : (q : Bool) → same_table x t ≡ q → TableOver t
           by true one =
-              let its : known.roles (block_in word) ≡ role.Table t len = e ∙ ap (λ (y : Table). role.Table y len) (table_is x t one) in
+              let its : known.roles (block_in word) ≡ role.Table t len = e ∙ ap (λ (y : TableId). role.Table y len) (table_is x t one) in
               let has = subst (HasRole w m.stored (block_in word)) its (whole.all.shown.blocks.roles (block_in word)) in
               table_then (block_in word) len t its step (due_over step (ATable x) are (block_in word) due _ has.1)
           by false none = tables_had step t (retired_other (Some (name i)) (Some map) t x none m so)
@@ -379,7 +379,7 @@ module _ {K V : Type 0} (same : K → K → Bool) (hash : ℕ → K → ℕ) (na
       table_retired step t word (role.OwnTable turn shape) e due are so = tables_had step t so
       table_retired step t word (role.Counter of) e due are so = tables_had step t so
 
-      table_put : IsOneStep to.0.setting i w w3 → (t u2 : Table) (r : Role) → is_stage is_retired t (then_m (carried u2 r)) ≡ true → TableOver t
+      table_put : IsOneStep to.0.setting i w w3 → (t u2 : TableId) (r : Role) → is_stage is_retired t (then_m (carried u2 r)) ≡ true → TableOver t
       table_put step t u2 (role.Pair k) so = tables_had step t so
       table_put step t u2 role.Free so = tables_had step t so
       table_put step t u2 (role.OwnPair j) so = tables_had step t so
@@ -387,7 +387,7 @@ module _ {K V : Type 0} (same : K → K → Bool) (hash : ℕ → K → ℕ) (na
       table_put step t u2 (role.Table x len) so = tables_had step t so
       table_put step t u2 (role.Counter of) so = tables_had step t so
 
-      table_over : IsOneStep to.0.setting i w w3 → (t : Table) → is_stage is_retired t v ≡ true → TableOver t
+      table_over : IsOneStep to.0.setting i w w3 → (t : TableId) → is_stage is_retired t v ≡ true → TableOver t
       table_over step t so = by tells
         where
           IsAfter : List Effect → Type 0

@@ -5,7 +5,7 @@ use Rattle.std.proofs.Common.{refl, ap, sym, ◌∙◌, inl, inr, arith}
 use Rattle.std.proofs.lemmas.Bool.{cases_eq, eq-eqb}
 use Rattle.run_debts.specs.Given.RunsDeclared.effect.Effect.{Effect}
 use Rattle.run_debts.specs.Given.RunsDeclared.effect.Effect.TheVariants.{Asked, PairMade, PairGivenUp, TableMade, TableGivenUp, Linked, Promoted, Copied, Stored, Replaced, Removed, Counted, Deferred, Retired, Reclaimed, Ended, Taken}
-use Rattle.run_debts.specs.Given.RunsDeclared.effect.Table.{Table}
+use Rattle.run_debts.specs.Given.RunsDeclared.effect.TableId.{TableId}
 use Rattle.run_debts.specs.Given.RunsDeclared.effect.Thing.TheVariants.{APair, ATable}
 use Rattle.run_debts.specs.Given.SchedulesEffects.{at_stage, in_map, place_by, with_effect, with_effects, AtEachEffect}
 use Rattle.run_debts.specs.Given.SchedulesLists.{is_among, put}
@@ -44,10 +44,10 @@ any_back p q f turn (x ∷ xs) e = by (p (f x)) refl e (any_back p q f turn xs)
     by false is k rest = or_right (q x) (list_any q xs) (rest k)
 
 -- the table is this one, and is retired
-abbrev Test : Table → TableThere → Bool
+abbrev Test : TableId → TableThere → Bool
 Test t x = same_table x.table t && is_retired x.stage
 
-stage_back : (t u : Table) (to : Stage) → is_retired to ≡ false → (xs : List TableThere) → list_any (Test t) (map (at_stage u to) xs) ≡ true → list_any (Test t) xs ≡ true
+stage_back : (t u : TableId) (to : Stage) → is_retired to ≡ false → (xs : List TableThere) → list_any (Test t) (map (at_stage u to) xs) ≡ true → list_any (Test t) xs ≡ true
 stage_back t u to none xs e = any_back (Test t) (Test t) (at_stage u to) turn xs e
   where
     turn : (x : TableThere) → Test t (at_stage u to x) ≡ true → Test t x ≡ true
@@ -57,7 +57,7 @@ stage_back t u to none xs e = any_back (Test t) (Test t) (at_stage u to) turn xs
         by true k = absurd (let both = (and_both (same_table x.table t) (is_retired to) k).1 in cc (both, none))
         by false k = k
 
-linked_back : (t : Table) (new : TableThere) (xs : List TableThere) → (Test t new ≡ true → ⊥) → (list_any (Test t) xs ≡ true) ⊎ (Test t new ≡ true) → list_any (Test t) xs ≡ true
+linked_back : (t : TableId) (new : TableThere) (xs : List TableThere) → (Test t new ≡ true → ⊥) → (list_any (Test t) xs ≡ true) ⊎ (Test t new ≡ true) → list_any (Test t) xs ≡ true
 linked_back t new xs none (inl is) = is
 linked_back t new xs none (inr is) = absurd (none is)
 
@@ -74,7 +74,7 @@ in_map_not _ = refl
 
 module _ {K V : Type 0} (caller : Option (List ℕ)) (acted : Option ℕ) where
   -- a table that is retired then was so before
-  module _ (t : Table) where
+  module _ (t : TableId) where
     retired_one : (f : Effect) (m : Moment K V) → (IsHanding f → ⊥) → is_stage is_retired t (with_effect caller acted f m) ≡ true → is_stage is_retired t m ≡ true
     retired_one (Linked u shape) m none is =
         let new : TableThere = record { table = u; shape = shape; stage = IsLinked } in
@@ -102,11 +102,11 @@ module _ {K V : Type 0} (caller : Option (List ℕ)) (acted : Option ℕ) where
     retired_back (f ∷ effects) m none is = retired_one f m none.0 (retired_back effects (with_effect caller acted f m) none.1 is)
 
     -- also where one is reclaimed
-    pub reclaimed_back : (u : Table) (m : Moment K V) → is_stage is_retired t (with_effects caller acted (Reclaimed (ATable u) ∷ []) m) ≡ true → is_stage is_retired t m ≡ true
+    pub reclaimed_back : (u : TableId) (m : Moment K V) → is_stage is_retired t (with_effects caller acted (Reclaimed (ATable u) ∷ []) m) ≡ true → is_stage is_retired t m ≡ true
     reclaimed_back u m is = stage_back t u IsReclaimed refl m.tables is
 
     -- or where another one is retired
-    pub retired_other : (u : Table) → same_table u t ≡ false → (m : Moment K V) → is_stage is_retired t (with_effects caller acted (Retired (ATable u) ∷ []) m) ≡ true → is_stage is_retired t m ≡ true
+    pub retired_other : (u : TableId) → same_table u t ≡ false → (m : Moment K V) → is_stage is_retired t (with_effects caller acted (Retired (ATable u) ∷ []) m) ≡ true → is_stage is_retired t m ≡ true
     retired_other u apart m is = any_back (Test t) (Test t) (at_stage u IsRetired) turn m.tables is
       where
         turn : (x : TableThere) → Test t (at_stage u IsRetired x) ≡ true → Test t x ≡ true
@@ -114,7 +114,7 @@ module _ {K V : Type 0} (caller : Option (List ℕ)) (acted : Option ℕ) where
           where
             by : (z : Bool) → same_table x.table u ≡ z → Test t (if z then record x { stage = IsRetired } else x) ≡ true → Test t x ≡ true
             by true here e =
-                absurd (let both : same_table u t ≡ true = ap (λ (y : Table). same_table y t) (sym (table_is x.table u here)) ∙ (and_both (same_table x.table t) true e).0 in cc (both, apart))
+                absurd (let both : same_table u t ≡ true = ap (λ (y : TableId). same_table y t) (sym (table_is x.table u here)) ∙ (and_both (same_table x.table t) true e).0 in cc (both, apart))
             by false here e = e
 
     -- and that one is retired no more
@@ -202,7 +202,7 @@ hands_none (f ∷ effects) all = (one f all.0, hands_none effects all.1)
     one _ hands its = its
 
 -- what waits behind some table waits behind this one, or behind another one
-pub deferred_split : (n : ℕ) (t : Table) (ds : List Deferral) → is_deferred n ds ≡ true
+pub deferred_split : (n : ℕ) (t : TableId) (ds : List Deferral) → is_deferred n ds ≡ true
     → (is_among n (behind t ds) ≡ true) ⊎ (is_deferred n (filter (λ d. not (same_table d.behind t)) ds) ≡ true)
 deferred_split n t [] e = absurd (cc e)
 deferred_split n t (d ∷ ds) e = by (same_table d.behind t) (n == d.pair) refl e (deferred_split n t ds)
@@ -228,14 +228,14 @@ deferred_split n t (d ∷ ds) e = by (same_table d.behind t) (n == d.pair) refl 
     ]
 
 -- it waits behind a table that is named
-pub deferred_at : (n : ℕ) (ds : List Deferral) → is_deferred n ds ≡ true → (t : Table) × (is_among n (behind t ds) ≡ true)
+pub deferred_at : (n : ℕ) (ds : List Deferral) → is_deferred n ds ≡ true → (t : TableId) × (is_among n (behind t ds) ≡ true)
 deferred_at n [] e = absurd (cc e)
 deferred_at n (d ∷ ds) e = by (n == d.pair) refl e (deferred_at n ds)
   where
     Found : Type 0
-    Found = (t : Table) × (is_among n (behind t (d ∷ ds)) ≡ true)
+    Found = (t : TableId) × (is_among n (behind t (d ∷ ds)) ≡ true)
 
-    further : (t : Table) → is_among n (behind t ds) ≡ true → is_among n (behind t (d ∷ ds)) ≡ true
+    further : (t : TableId) → is_among n (behind t ds) ≡ true → is_among n (behind t (d ∷ ds)) ≡ true
     further t its = at (same_table d.behind t)
       where
         at : (q : Bool) → is_among n (map (λ x. x.pair) (if q then d ∷ filter (λ x. same_table x.behind t) ds else filter (λ x. same_table x.behind t) ds)) ≡ true
@@ -247,7 +247,7 @@ deferred_at n (d ∷ ds) e = by (n == d.pair) refl e (deferred_at n ds)
     here is true same so = ap (λ (z : Bool). z || is_among n (behind d.behind ds)) is
     here is false same so = absurd (cc so)
 
-    by : (r : Bool) → (n == d.pair) ≡ r → (r || is_deferred n ds) ≡ true → (is_deferred n ds ≡ true → (t : Table) × (is_among n (behind t ds) ≡ true)) → Found
+    by : (r : Bool) → (n == d.pair) ≡ r → (r || is_deferred n ds) ≡ true → (is_deferred n ds ≡ true → (t : TableId) × (is_among n (behind t ds) ≡ true)) → Found
     by true is k rest = (d.behind, here is (same_table d.behind d.behind) refl (same_itself d.behind))
     by false is k rest = (let found = rest k in (found.0, further found.0 found.1))
 
@@ -257,7 +257,7 @@ module _ {K V : Type 0} (caller : Option (List ℕ)) (acted : Option ℕ) (m : M
   abbrev pub Away : List Effect → Type 0
   Away fs = (is_handed ((with_effects caller acted fs m).place n) ≡ true) ⊎ (is_deferred n (with_effects caller acted fs m).deferred ≡ true)
 
-  pub put_away : (t : Table) (r : Role) → is_handed (m.place n) ≡ true → Away (carried t r)
+  pub put_away : (t : TableId) (r : Role) → is_handed (m.place n) ≡ true → Away (carried t r)
   put_away t (role.Pair k) so = elim (cases_eq n k) as (λ _. Away (Deferred k t ∷ [])) [
     | inl e ↦ inr (ap (λ (z : Bool). z || is_deferred n m.deferred) (eq-eqb n k e))
     | inr ne ↦ inl (ap is_handed (put_elsewhere k Behind m.place n ne) ∙ so)
@@ -280,7 +280,7 @@ module _ {K V : Type 0} (caller : Option (List ℕ)) (acted : Option ℕ) (m : M
   retired_away (role.Counter of) so = inl so
 
   -- and what waited does so
-  pub list_put : (t : Table) (r : Role) → is_deferred n m.deferred ≡ true → is_deferred n (with_effects caller acted (carried t r) m).deferred ≡ true
+  pub list_put : (t : TableId) (r : Role) → is_deferred n m.deferred ≡ true → is_deferred n (with_effects caller acted (carried t r) m).deferred ≡ true
   list_put t (role.Pair k) so = or_right (n == k) (is_deferred n m.deferred) so
   list_put t role.Free so = so
   list_put t (role.OwnPair j) so = so

@@ -10,7 +10,7 @@ use Rattle.run_debts.specs.Given.TablesDeclared.node.Node.{Node}
 use Rattle.run_debts.specs.Given.RawDeclared.machines.end_map.EndMap.{EndMap}
 use Rattle.run_debts.specs.Given.RunsDeclared.effect.Effect.{Effect}
 use Rattle.run_debts.specs.Given.RunsDeclared.effect.Effect.TheVariants.{Retired, Reclaimed}
-use Rattle.run_debts.specs.Given.RunsDeclared.effect.Table.{Table}
+use Rattle.run_debts.specs.Given.RunsDeclared.effect.TableId.{TableId}
 use Rattle.run_debts.specs.Given.RunsDeclared.effect.Thing.TheVariants.{APair, ATable}
 use Rattle.run_debts.specs.Given.SchedulesEffects.{with_effects}
 use Rattle.run_debts.specs.Given.SchedulesLists.{is_among}
@@ -128,7 +128,7 @@ module _ {K V : Type 0} (same : K → K → Bool) (hash : ℕ → K → ℕ) (na
       let has = subst (HasRole w m.stored one.0) one.1 (whole.all.shown.blocks.roles one.0) in
       (one.0, role_then one.0 (role.Pair n) _ one.1 tt has.3 one.2.0, over_then one.0 one.2)
 
-  table_over : (t : Table) → is_stage is_retired t v ≡ true → (b : ℕ) × (len : ℕ) × (known2.roles b ≡ role.Table t len) × IsHandedOver did.w2 b
+  table_over : (t : TableId) → is_stage is_retired t v ≡ true → (b : ℕ) × (len : ℕ) × (known2.roles b ≡ role.Table t len) × IsHandedOver did.w2 b
   table_over t so =
       let one = shows.tables t (retired_back None (Some map) t effects m none so) in
       let has = subst (HasRole w m.stored one.0) one.2 (whole.all.shown.blocks.roles one.0) in
@@ -149,7 +149,7 @@ module _ {K V : Type 0} (same : K → K → Bool) (hash : ℕ → K → ℕ) (na
     Stays fs = (is_handed (m.place n) ≡ true → is_handed ((then_m fs).place n) ≡ true) × (is_deferred n m.deferred ≡ true → is_deferred n (then_m fs).deferred ≡ true)
 
     -- it waits behind no table that is taken
-    waits_not : (x len : ℕ) (t : Table) → told ≡ changed.Took x → 0 < times x (taken_of did.deed) → known.roles x ≡ role.Table t len → is_among n (behind t m.deferred) ≡ true → ⊥
+    waits_not : (x len : ℕ) (t : TableId) → told ≡ changed.Took x → 0 < times x (taken_of did.deed) → known.roles x ≡ role.Table t len → is_among n (behind t m.deferred) ≡ true → ⊥
     waits_not x len t is some table among = by l.waits
       where
         a : WaitsAt (λ k y. (m.place k ≡ Behind) × LiesBehind known w k y) n t
@@ -170,7 +170,7 @@ module _ {K V : Type 0} (same : K → K → Bool) (hash : ℕ → K → ℕ) (na
         by (inr both) = subst IsLeft (ap w.hand same_pair ∙ had) both.0
 
     -- a pair that is handed over waits behind none
-    not_both : (t : Table) → is_handed (m.place n) ≡ true → is_among n (behind t m.deferred) ≡ true → ⊥
+    not_both : (t : TableId) → is_handed (m.place n) ≡ true → is_among n (behind t m.deferred) ≡ true → ⊥
     not_both t so among =
         let a = found (λ k y. (m.place k ≡ Behind) × LiesBehind known w k y) n t m.deferred waiting among in
         let none_there : is_handed (m.place n) ≡ false = ap is_handed (ap m.place (sym a.number) ∙ a.so.0) in

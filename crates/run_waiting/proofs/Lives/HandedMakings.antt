@@ -2,14 +2,14 @@
 use Rattle.std.specs.Prelude.{◌≡◌, ℕ, ◌==◌, Bool, true, false, List, [], ◌∷◌, Option, Some, None, if◌then◌else◌}
 use Rattle.std.proofs.Common.{refl, ap, sym, subst, ◌∙◌, inl, inr}
 use Rattle.run_debts.specs.Given.SeizeWordsDeclared.at.At.TheVariants.{Root, Used, Slot, Entry, Word}
-use Rattle.run_debts.specs.Given.SeizeDeclared.progress.Progress.{Progress}
+use Rattle.run_debts.specs.Given.SeizeDeclared.advance.Advance.{Advance}
 use Rattle.run_debts.specs.Given.SeizeWorld.{World, Row}
 use Rattle.run_debts.specs.Given.TablesNodes.{deferred_word}
 use Rattle.run_debts.specs.Given.TablesDeclared.node.Node.{Node}
 use Rattle.run_debts.specs.Given.TablesDeclared.setting.Setting.{Setting}
 use Rattle.run_debts.specs.Given.TablesDeclared.table_words.TheConstants.{NEXT, DEFERRED}
 use Rattle.run_debts.specs.Given.RunsDeclared.effect.Effect.{Effect}
-use Rattle.run_debts.specs.Given.RunsDeclared.effect.Table.{Table}
+use Rattle.run_debts.specs.Given.RunsDeclared.effect.TableId.{TableId}
 use Rattle.run_debts.specs.Given.SchedulesEffects.{with_effects}
 use Rattle.run_debts.specs.Given.SchedulesMoment.{Place, Moment}
 use Rattle.run_debts.specs.Given.SchedulesReclaims.{is_handed}
@@ -84,7 +84,7 @@ module _ (map : ℕ) (known : Known) where
   followed_none (role.OwnTable turn shape) = (λ z. z, tt)
   followed_none _ = tt
 
-  carried_none : (t : Table) (r : Role) → NoneHands (carried t r)
+  carried_none : (t : TableId) (r : Role) → NoneHands (carried t r)
   carried_none t (role.Pair n) = (λ z. z, tt)
   carried_none t _ = tt
 
@@ -124,7 +124,7 @@ module _ (map : ℕ) (known : Known) where
   making_none (changed.Roomed bucket had) spares = either _ [] (Asked ABucket ∷ []) tt (λ z. z, tt)
 
 module _ {K V : Type 0} (same : K → K → Bool) (hash : ℕ → K → ℕ) (name : ℕ → List ℕ) (m : Moment K V) (known : Known) (s : Scene K V) (old new : Held K V) (at : IsAt same hash old s)
-    (whole : ShowsWhole same name m known s) (shows : ShowsHanded m known s) (i : ℕ) (said : Progress Setting) (leads : MakingLeads same hash i said s old new) (b : Beginning K)
+    (whole : ShowsWhole same name m known s) (shows : ShowsHanded m known s) (i : ℕ) (said : Advance Setting) (leads : MakingLeads same hash i said s old new) (b : Beginning K)
     (here : s.makers i ≡ Some b) (of : Option ℕ) (was_new : WasNew b.map said m) where
   abbrev w : World (Node K V)
   w = s.world

@@ -6,7 +6,7 @@ use Rattle.run_debts.specs.Given.SeizeWordsWord.{block_in}
 use Rattle.run_debts.specs.Given.SeizeWordsDeclared.at.At.TheVariants.{Root, Used, Slot, Entry, Word}
 use Rattle.run_debts.specs.Given.TablesDeclared.table_words.TheConstants.{NEXT, DEFERRED}
 use Rattle.run_debts.specs.Given.RunsDeclared.effect.Effect.{Effect}
-use Rattle.run_debts.specs.Given.RunsDeclared.effect.Table.{Table}
+use Rattle.run_debts.specs.Given.RunsDeclared.effect.TableId.{TableId}
 use Rattle.run_debts.specs.Given.SchedulesEffects.{with_effects}
 use Rattle.run_debts.specs.Given.SchedulesMoment.{Place, InMap, Out, Moment}
 use Rattle.run_debts.specs.Given.SchedulesLists.{put}
@@ -47,7 +47,7 @@ module _ {K V : Type 0} (caller : Option (List ℕ)) (map : ℕ) (acting : Actin
   in_the_map : (stored : ℕ) (place : ℕ → Place) → n ≡ stored + 1 → is_in_a_map (put (stored + 1) (InMap map) place n) ≡ true
   in_the_map stored place e = ap is_in_a_map (put_here (stored + 1) (InMap map) place n e)
 
-  stored_then : (t : Table) (field : ℕ) (was : Role) (i : ℕ) → n ≡ known.stored + 1
+  stored_then : (t : TableId) (field : ℕ) (was : Role) (i : ℕ) → n ≡ known.stored + 1
       → is_in_a_map ((with_effects caller (Some map) (placed (spot_at t field) known.stored was (role.OwnPair i)) m).place n) ≡ true
   stored_then t field (role.Pair k) i e = in_the_map known.stored (put k Out m.place) e
   stored_then t field role.Free i e = in_the_map known.stored m.place e
@@ -56,7 +56,7 @@ module _ {K V : Type 0} (caller : Option (List ℕ)) (map : ℕ) (acting : Actin
   stored_then t field (role.Table u len) i e = in_the_map known.stored m.place e
   stored_then t field (role.Counter of) i e = in_the_map known.stored m.place e
 
-  stored_was : (t : Table) (field x : ℕ) (was is : Role) → (stored_on x is known).roles b ≡ role.Pair n → Was (placed (spot_at t field) known.stored was is)
+  stored_was : (t : TableId) (field x : ℕ) (was is : Role) → (stored_on x is known).roles b ≡ role.Pair n → Was (placed (spot_at t field) known.stored was is)
   stored_was t field x was (role.OwnPair i) noted = elim (cases_eq b x) as (λ _. Was (placed (spot_at t field) known.stored was (role.OwnPair i))) [
     | inl e ↦ inr (stored_then t field was i (let one : role.Pair (known.stored + 1) ≡ role.Pair n = sym (put_here x (role.Pair (known.stored + 1)) known.roles b e) ∙ noted in
         let number : known.stored + 1 ≡ n = cc one in sym number))
@@ -69,7 +69,7 @@ module _ {K V : Type 0} (caller : Option (List ℕ)) (map : ℕ) (acting : Actin
   stored_was t field x was (role.Counter of) noted = inl noted
 
   -- a word of a table is written, by what it is
-  word_was : (t : Table) (field x : ℕ) (same next deferred placing : Bool) (was is : Role) → (deferred ≡ true → placing ≡ false)
+  word_was : (t : TableId) (field x : ℕ) (same next deferred placing : Bool) (was is : Role) → (deferred ≡ true → placing ≡ false)
       → (if same then known else (if next then linked_on acting x is known else (if placing then stored_on x is known else known))).roles b ≡ role.Pair n
       → Was (if same then [] else (if next then followed_by acting is else (if deferred then carried t is else (if placing then placed (spot_at t field) known.stored was is else []))))
   word_was t field x true next deferred placing was is apart noted = inl noted

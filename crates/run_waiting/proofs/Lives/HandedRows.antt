@@ -15,7 +15,7 @@ use Rattle.run_debts.specs.Given.TablesNodes.{deferred_word}
 use Rattle.run_debts.specs.Given.TablesDeclared.node.Node.{Node}
 use Rattle.run_debts.specs.Given.RunsDeclared.effect.Effect.TheVariants.{Asked}
 use Rattle.run_debts.specs.Given.RunsDeclared.effect.Growth.TheVariants.{ABucket}
-use Rattle.run_debts.specs.Given.RunsDeclared.effect.Table.{Table}
+use Rattle.run_debts.specs.Given.RunsDeclared.effect.TableId.{TableId}
 use Rattle.run_debts.specs.Given.SchedulesEffects.{with_effects, AtEachEffect}
 use Rattle.run_debts.specs.Given.SchedulesLists.{is_among}
 use Rattle.run_debts.specs.Given.SchedulesMoment.{Place, Behind, TableThere, Moment}
@@ -121,7 +121,7 @@ module _ {K V : Type 0} (same : K → K → Bool) (hash : ℕ → K → ℕ) (na
     ap (waits_behind b) stepped.logged ∙ waits_no_more b x stepped.effects w.log stepped.one (told_taken size w came there i w2 (leads row here).2.1 told leaves x is) waits,
   )
 
-  not_left : (x len : ℕ) (t : Table) → told ≡ changed.Took x → known.roles x ≡ role.Table t len → IsLeft (w.hand x) → ⊥
+  not_left : (x len : ℕ) (t : TableId) → told ≡ changed.Took x → known.roles x ≡ role.Table t len → IsLeft (w.hand x) → ⊥
   not_left x len t is table over =
       (let none = left_unretired size w came there i w2 (leads row here).2.1 x over in let some = told_retired size w came there i w2 (leads row here).2.1 told leaves x is in cc (some, none))
 
@@ -141,7 +141,7 @@ module _ {K V : Type 0} (same : K → K → Bool) (hash : ℕ → K → ℕ) (na
       has : w.hand x ≡ Handed
       has = given_hand (w.hand x) (its.good.state.life x) given (its.good.hands x)
 
-      no_wait : (t : Table) → is_among n (behind t m.deferred) ≡ true → ⊥
+      no_wait : (t : TableId) → is_among n (behind t m.deferred) ≡ true → ⊥
       no_wait t among = at_table l.waits
         where
           a : WaitsAt (λ k u. (m.place k ≡ Behind) × LiesBehind known w k u) n t

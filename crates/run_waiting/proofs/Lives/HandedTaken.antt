@@ -8,7 +8,7 @@ use Rattle.run_debts.specs.Given.SeizeWorld.{World, Handed}
 use Rattle.run_debts.specs.Given.TablesDeclared.node.Node.{Node}
 use Rattle.run_debts.specs.Given.RunsDeclared.effect.Effect.TheVariants.{Asked, Reclaimed}
 use Rattle.run_debts.specs.Given.RunsDeclared.effect.Growth.TheVariants.{ABucket}
-use Rattle.run_debts.specs.Given.RunsDeclared.effect.Table.{Table}
+use Rattle.run_debts.specs.Given.RunsDeclared.effect.TableId.{TableId}
 use Rattle.run_debts.specs.Given.RunsDeclared.effect.Thing.TheVariants.{APair, ATable}
 use Rattle.run_debts.specs.Given.SchedulesEffects.{with_effects}
 use Rattle.run_debts.specs.Given.SchedulesLists.{is_among}
@@ -43,7 +43,7 @@ module _ {K V : Type 0} (same : K → K → Bool) (name : ℕ → List ℕ) (m :
     (had : (b : ℕ) → s2.world.hand b ≡ Handed → s.world.hand b ≡ Handed)
     (over_on : (b : ℕ) → IsSome (value_at s2.world.memory b) → IsHandedOver s.world b → IsHandedOver s2.world b)
     (freed_on : (x b : ℕ) → told ≡ changed.Took x → IsSome (value_at s2.world.memory b) → waits_behind b s.world.log ≡ Some x → IsHandedOver s2.world b)
-    (not_left : (x len : ℕ) (t : Table) → told ≡ changed.Took x → known.roles x ≡ role.Table t len → IsLeft (s.world.hand x) → ⊥)
+    (not_left : (x len : ℕ) (t : TableId) → told ≡ changed.Took x → known.roles x ≡ role.Table t len → IsLeft (s.world.hand x) → ⊥)
     (due_then : (b : ℕ) → ((j : ℕ) × HasCall s j × IsToHand b (s.world.row j)) → (j : ℕ) × HasCall s2 j × IsToHand b (s2.world.row j)) where
   abbrev w : World (Node K V)
   w = s.world
@@ -59,7 +59,7 @@ module _ {K V : Type 0} (same : K → K → Bool) (name : ℕ → List ℕ) (m :
   pair_there b n is other =
       let has = subst (HasRole w m.stored b) is (whole.all.shown.blocks.roles b) in some_of b (there_still w.memory w2.memory told tells leaves b _ has.3 other)
 
-  table_there : (b len : ℕ) (t : Table) → known.roles b ≡ role.Table t len → (told ≡ changed.Took b → ⊥) → IsSome (value_at w2.memory b)
+  table_there : (b len : ℕ) (t : TableId) → known.roles b ≡ role.Table t len → (told ≡ changed.Took b → ⊥) → IsSome (value_at w2.memory b)
   table_there b len t is other =
       let has = subst (HasRole w m.stored b) is (whole.all.shown.blocks.roles b) in some_of b (there_still w.memory w2.memory told tells leaves b _ has.1 other)
 
@@ -106,7 +106,7 @@ module _ {K V : Type 0} (same : K → K → Bool) (name : ℕ → List ℕ) (m :
         let ne = other one.0 one.1 in
         (one.0, role_same one.0 ne ∙ one.1, over_on one.0 (pair_there one.0 n one.1 (other_told one.0 ne)) one.2)
 
-    table_on : (t : Table) → is_stage is_retired t m ≡ true → ((b len : ℕ) → known.roles b ≡ role.Table t len → b ≡ x → ⊥)
+    table_on : (t : TableId) → is_stage is_retired t m ≡ true → ((b len : ℕ) → known.roles b ≡ role.Table t len → b ≡ x → ⊥)
         → (b : ℕ) × (len : ℕ) × (known2.roles b ≡ role.Table t len) × IsHandedOver w2 b
     table_on t so other =
         let one = shows.tables t so in
@@ -114,7 +114,7 @@ module _ {K V : Type 0} (same : K → K → Bool) (name : ℕ → List ℕ) (m :
         (one.0, one.1, role_same one.0 ne ∙ one.2, over_on one.0 (table_there one.0 one.1 t one.2 (other_told one.0 ne)) one.3)
 
     -- that of nothing of a map
-    took_other : (r : Role) → known.roles x ≡ r → ((n : ℕ) → r ≡ role.Pair n → ⊥) → ((t : Table) (len : ℕ) → r ≡ role.Table t len → ⊥)
+    took_other : (r : Role) → known.roles x ≡ r → ((n : ℕ) → r ≡ role.Pair n → ⊥) → ((t : TableId) (len : ℕ) → r ≡ role.Table t len → ⊥)
         → (v : Moment K V) → v.place ≡ m.place → v.deferred ≡ m.deferred → v.tables ≡ m.tables → ShowsHanded v known2 s2
     took_other r e no_pair no_table v place deferred tables = record {
       pairs = λ b n its_role handed.
@@ -143,11 +143,11 @@ module _ {K V : Type 0} (same : K → K → Bool) (name : ℕ → List ℕ) (m :
     }
 
     -- that of a table: what waited behind it is handed over
-    module _ (u : Table) (len : ℕ) (e : known.roles x ≡ role.Table u len) where
+    module _ (u : TableId) (len : ℕ) (e : known.roles x ≡ role.Table u len) where
       abbrev then_m : Moment K V
       then_m = with_effects None None (Reclaimed (ATable u) ∷ []) m
 
-      abbrev Waited : ℕ → Table → Type 0
+      abbrev Waited : ℕ → TableId → Type 0
       Waited n t = (m.place n ≡ Behind) × LiesBehind known w n t
 
       no_pair : (b n : ℕ) → known.roles b ≡ role.Pair n → b ≡ x → ⊥
@@ -191,7 +191,7 @@ module _ {K V : Type 0} (same : K → K → Bool) (name : ℕ → List ℕ) (m :
             table_on t (reclaimed_back None None t u m so)
             (λ b many its_role z. let two : role.Table t many ≡ role.Table u len = sym its_role ∙ ap known.roles z ∙ e in
             let one : t ≡ u = cc two in
-            reclaimed_not None None u m (subst (λ (y : Table). is_stage is_retired y then_m ≡ true) one so));
+            reclaimed_not None None u m (subst (λ (y : TableId). is_stage is_retired y then_m ≡ true) one so));
       }
 
     took : (r : Role) → known.roles x ≡ r → ShowsHanded (with_effects None None (taken_by Row r) m) known2 s2

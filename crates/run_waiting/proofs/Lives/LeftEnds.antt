@@ -13,7 +13,7 @@ use Rattle.run_debts.specs.Given.TablesChunks.{is_incremental}
 use Rattle.run_debts.specs.Given.TablesNodes.{deferred_word}
 use Rattle.run_debts.specs.Given.TablesDeclared.node.Node.{Node}
 use Rattle.run_debts.specs.Given.RawDeclared.machines.end_map.EndMap.{EndMap}
-use Rattle.run_debts.specs.Given.RunsDeclared.effect.Table.{Table}
+use Rattle.run_debts.specs.Given.RunsDeclared.effect.TableId.{TableId}
 use Rattle.run_debts.specs.Given.SchedulesMoment.{Moment}
 use Rattle.run_debts.specs.Given.CallersKept.{IsPair}
 use Rattle.run_debts.proofs.Given.CallersTogether.At.{at_same, at_other}
@@ -61,15 +61,15 @@ module _ {K V : Type 0} (same : K → K → Bool) (hash : ℕ → K → ℕ) (na
       there = value_there deferred_word (LAST_SLOT + 1) did.w2.memory after.good.state after.good.extra b after.good.shows
           (left_lives (did.w2.hand b) (after.good.state.life b) (subst IsLeft (sym left) tt) (after.good.hands b))
 
-  was_table : (b len : ℕ) (t : Table) → known2.roles b ≡ role.Table t len → known.roles b ≡ role.Table t len
+  was_table : (b len : ℕ) (t : TableId) → known2.roles b ≡ role.Table t len → known.roles b ≡ role.Table t len
   was_table b len t is = sym ((end_keeps same hash name m known s old new at whole i f here end said steps did of not_there comes).0 b (subst IsOfMap (sym is) tt)) ∙ is
 
   -- a table is no pair
-  no_pair : (b len : ℕ) (t : Table) → known.roles b ≡ role.Table t len → IsPair s.world b → ⊥
+  no_pair : (b len : ℕ) (t : TableId) → known.roles b ≡ role.Table t len → IsPair s.world b → ⊥
   no_pair b len t is pair = (let table = (subst (λ (r : Role). HasRole s.world m.stored b r) is (whole.all.shown.blocks.roles b)).1 in let its = pair.2 in cc (table, its))
 
   -- who has it then: the same, unless it was left over just now
-  either : (b len : ℕ) (t : Table) (j : ℕ) → known2.roles b ≡ role.Table t len → did.w2.hand b ≡ LeftTo j
+  either : (b len : ℕ) (t : TableId) (j : ℕ) → known2.roles b ≡ role.Table t len → did.w2.hand b ≡ LeftTo j
       → IsToTake s j b ⊎ ((i ≡ j) × (times b f.back ≡ 0) × ((u : ℕ) × (f.chart.first ≤ u) × (u < f.chart.past) × (b ≡ f.blocks.table u)))
   either b len t j is left = by (times b (left_by did.deed)) refl
     where

@@ -12,7 +12,7 @@ use Rattle.run_debts.specs.Given.TablesNodes.{deferred_word}
 use Rattle.run_debts.specs.Given.TablesDeclared.node.Node.{Node}
 use Rattle.run_debts.specs.Given.TablesDeclared.setting.Setting.{Setting}
 use Rattle.run_debts.specs.Given.RawDeclared.machines.progress.Progress.{Progress}
-use Rattle.run_debts.specs.Given.RunsDeclared.effect.Table.{Table}
+use Rattle.run_debts.specs.Given.RunsDeclared.effect.TableId.{TableId}
 use Rattle.run_debts.specs.Given.SchedulesMoment.{Moment}
 use Rattle.run_debts.specs.Given.RuleInWorld.{AllUsers}
 use Rattle.run_debts.proofs.Given.RuleWorld.Hands.{at_cases}
@@ -116,11 +116,11 @@ module _ {K V : Type 0} (known known2 : Known) (s t : Scene K V) (enders : t.end
   taken_as i b k = record { f = k.f; ends = ap (λ (g : ℕ → Option (Finishing K V)). g i) enders ∙ k.ends; fresh = k.fresh; turn = k.turn; from = k.from; made = k.made; is = k.is }
 
   -- by the same notes
-  pub left_as : ((b len : ℕ) (x : Table) → known2.roles b ≡ role.Table x len → known.roles b ≡ role.Table x len) → ((b j : ℕ) → t.world.hand b ≡ LeftTo j → s.world.hand b ≡ LeftTo j) → ShowsLeft known2 t
+  pub left_as : ((b len : ℕ) (x : TableId) → known2.roles b ≡ role.Table x len → known.roles b ≡ role.Table x len) → ((b j : ℕ) → t.world.hand b ≡ LeftTo j → s.world.hand b ≡ LeftTo j) → ShowsLeft known2 t
   left_as was back b len x j is left = taken_as j b (shows b len x j (was b len x is) (back b j left))
 
   -- and where somebody's own table may have been linked
-  left_then : OwnAreMade known s.world → ((b len : ℕ) (x : Table) → known2.roles b ≡ role.Table x len → WasTable known b x len)
+  left_then : OwnAreMade known s.world → ((b len : ℕ) (x : TableId) → known2.roles b ≡ role.Table x len → WasTable known b x len)
       → ((b j : ℕ) → t.world.hand b ≡ LeftTo j → s.world.hand b ≡ LeftTo j) → ShowsLeft known2 t
   left_then owning was back b len x j is left = by (was b len x is) (back b j left)
     where

@@ -12,7 +12,7 @@ use Rattle.run_debts.specs.Given.TablesNodes.{deferred_word}
 use Rattle.run_debts.specs.Given.TablesDeclared.node.Node.{Node}
 use Rattle.run_debts.specs.Given.RunsDeclared.effect.Effect.TheVariants.{Asked}
 use Rattle.run_debts.specs.Given.RunsDeclared.effect.Growth.TheVariants.{ABucket}
-use Rattle.run_debts.specs.Given.RunsDeclared.effect.Table.{Table}
+use Rattle.run_debts.specs.Given.RunsDeclared.effect.TableId.{TableId}
 use Rattle.run_debts.specs.Given.SchedulesEffects.{with_effects}
 use Rattle.run_debts.specs.Given.SchedulesLists.{is_among}
 use Rattle.run_debts.specs.Given.SchedulesMoment.{Deferral, Moment}
@@ -47,7 +47,7 @@ use Rattle.run_waiting.proofs.Lives.Waiting.{begun_log, reached, left}
 use Rattle.run_debts.specs.Given.ScenesScene.{Scene, row_of, slot_of}
 
 -- what waits behind one table does so still where what waits behind another one goes
-module _ (n : ℕ) (t u : Table) (other : t ≡ u → ⊥) where
+module _ (n : ℕ) (t u : TableId) (other : t ≡ u → ⊥) where
   abbrev Stays : Deferral → Bool
   Stays d = not (same_table d.behind u)
 
@@ -78,7 +78,7 @@ module _ (n : ℕ) (t u : Table) (other : t ≡ u → ⊥) where
       by false its q here e further = ap (λ (z : Bool). is_among n (map (λ (x : Deferral). x.pair) (if z then d ∷ Rest else Rest))) here ∙ kept q e further
 
 -- one that is put behind a table is among what waits there
-pub now_among : (n : ℕ) (t : Table) (ds : List Deferral) → is_among n (behind t (record { pair = n; behind = t } ∷ ds)) ≡ true
+pub now_among : (n : ℕ) (t : TableId) (ds : List Deferral) → is_among n (behind t (record { pair = n; behind = t } ∷ ds)) ≡ true
 now_among n t ds =
     ap (λ (q : Bool). is_among n (map (λ (x : Deferral). x.pair)
     (if q then record { pair = n; behind = t } ∷ filter (λ (x : Deferral). same_table x.behind t) ds else filter (λ (x : Deferral). same_table x.behind t) ds))) (same_itself t)
@@ -87,9 +87,9 @@ now_among n t ds =
 -- where what lies behind a table did so before
 module _ {K V : Type 0} (m v : Moment K V) (known known2 : Known) (w w2 : World (Node K V)) (shows : ShowsLying m known w) where
   pub lying_on : ((b c : ℕ) → where_is b w2.log ≡ With c → where_is b w.log ≡ With c)
-      → ((b c len : ℕ) (t : Table) → where_is b w.log ≡ With c → known2.roles c ≡ role.Table t len → known.roles c ≡ role.Table t len)
+      → ((b c len : ℕ) (t : TableId) → where_is b w.log ≡ With c → known2.roles c ≡ role.Table t len → known.roles c ≡ role.Table t len)
       → ((b c n : ℕ) → where_is b w2.log ≡ With c → known.roles b ≡ role.Pair n → known2.roles b ≡ role.Pair n)
-      → ((c len n : ℕ) (t : Table) → known2.roles c ≡ role.Table t len → known.roles c ≡ role.Table t len → is_among n (behind t m.deferred) ≡ true → is_among n (behind t v.deferred) ≡ true)
+      → ((c len n : ℕ) (t : TableId) → known2.roles c ≡ role.Table t len → known.roles c ≡ role.Table t len → is_among n (behind t m.deferred) ≡ true → is_among n (behind t v.deferred) ≡ true)
       → ((i b c : ℕ) → IsPutting b c (w.row i) → IsPutting b c (w2.row i))
       → ShowsLying v known2 w2
   lying_on back tables pairs among puts b c len t is at = elim (shows b c len t was (back b c at)) as (λ _. IsToldBehind v known2 b t ⊎ IsPutThere w2 b c) [
@@ -119,11 +119,11 @@ no_slot_puts b c (rows.Flushes settle) puts = puts
 no_slot_puts b c (rows.Frees unregister) puts = puts
 
 -- what a row on a slot tells leaves what waits behind each table that is left, and the pairs that are there
-module _ {K V : Type 0} (m : Moment K V) (known : Known) (w w2 : World (Node K V)) (once : (b c len n : ℕ) (t : Table) → known.roles b ≡ role.Table t len → known.roles c ≡ role.Table t n → b ≡ c) where
-  abbrev AmongThen : Changed → ℕ → Table → Type 0
+module _ {K V : Type 0} (m : Moment K V) (known : Known) (w w2 : World (Node K V)) (once : (b c len n : ℕ) (t : TableId) → known.roles b ≡ role.Table t len → known.roles c ≡ role.Table t n → b ≡ c) where
+  abbrev AmongThen : Changed → ℕ → TableId → Type 0
   AmongThen x n t = is_among n (behind t (with_effects None None (effects_of Row known x) m).deferred) ≡ true
 
-  module _ (c len n : ℕ) (t : Table) (was : known.roles c ≡ role.Table t len) (among : is_among n (behind t m.deferred) ≡ true) where
+  module _ (c len n : ℕ) (t : TableId) (was : known.roles c ≡ role.Table t len) (among : is_among n (behind t m.deferred) ≡ true) where
     taken_among : (x : ℕ) (r : Role) → known.roles x ≡ r → (with_role x role.Free known).roles c ≡ role.Table t len
         → is_among n (behind t (with_effects None None (taken_by Row r) m).deferred) ≡ true
     taken_among x role.Free e is = among
@@ -135,7 +135,7 @@ module _ {K V : Type 0} (m : Moment K V) (known : Known) (w w2 : World (Node K V
       where
         other : t ≡ u → ⊥
         other one =
-            let here : c ≡ x = once c x len k t was (e ∙ ap (λ (y : Table). role.Table y k) (sym one)) in
+            let here : c ≡ x = once c x len k t was (e ∙ ap (λ (y : TableId). role.Table y k) (sym one)) in
             subst IsOfMap (put_here x role.Free known.roles c here) (subst IsOfMap (sym is) tt)
 
     nothing_among : (q : Bool) → is_among n (behind t (with_effects None None (if q then [] else []) m).deferred) ≡ true
@@ -241,7 +241,7 @@ module _ (K V : Type 0) (same : K → K → Bool) (hash : ℕ → K → ℕ) whe
       there : Reached deferred_word old.batch_size s.world
       there = came_reached old.batch_size s.world at.together.makings.standing.came
 
-      noted : (x c len : ℕ) (t : Table) → where_is x s.world.log ≡ With c → WasTable known c t len → known.roles c ≡ role.Table t len
+      noted : (x c len : ℕ) (t : TableId) → where_is x s.world.log ≡ With c → WasTable known c t len → known.roles c ≡ role.Table t len
       noted x c len t lies (inl is) = is
       noted x c len t lies (inr (turn, shape, own, e)) =
           absurd (let made = owning c turn shape own in carrier_not_made deferred_word old.batch_size s.world there x c lies made.0 made.1)

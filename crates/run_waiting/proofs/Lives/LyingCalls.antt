@@ -17,7 +17,7 @@ use Rattle.run_debts.specs.Given.RawDeclared.machines.machine.Machine.{Machine}
 use Rattle.run_debts.specs.Given.RawDeclared.machines.progress.Progress.{Progress}
 use Rattle.run_debts.specs.Given.RawDeclared.machines.progress.Progress.TheVariants as progress
 use Rattle.run_debts.specs.Given.RunsDeclared.effect.Effect.{Effect}
-use Rattle.run_debts.specs.Given.RunsDeclared.effect.Table.{Table}
+use Rattle.run_debts.specs.Given.RunsDeclared.effect.TableId.{TableId}
 use Rattle.run_debts.specs.Given.SchedulesEffects.{with_effects}
 use Rattle.run_debts.specs.Given.SchedulesLists.{is_among}
 use Rattle.run_debts.specs.Given.SchedulesMoment.{Deferral, Moment}
@@ -97,7 +97,7 @@ module _ {K V : Type 0} (same : K → K → Bool) (hash : ℕ → K → ℕ) (na
   reached = came_reached size w each.ground.came
 
   -- what carries a block is none of somebody's own
-  was_table : (b c len : ℕ) (t : Table) → where_is b w.log ≡ With c → known2.roles c ≡ role.Table t len → known.roles c ≡ role.Table t len
+  was_table : (b c len : ℕ) (t : TableId) → where_is b w.log ≡ With c → known2.roles c ≡ role.Table t len → known.roles c ≡ role.Table t len
   was_table b c len t lies is = by (role_back (Call i map) known c len t new.changed is)
     where
       by : WasTable known c t len → known.roles c ≡ role.Table t len
@@ -152,11 +152,11 @@ module _ {K V : Type 0} (same : K → K → Bool) (hash : ℕ → K → ℕ) (na
     abbrev deferred_then : List Effect → List Deferral
     deferred_then fs = (with_effects (Some (name i)) (Some map) fs m).deferred
 
-    abbrev Lies : ℕ → ℕ → Table → Type 0
+    abbrev Lies : ℕ → ℕ → TableId → Type 0
     Lies b c t = IsToldBehind v known2 b t ⊎ IsPutThere to.4.w2 b c
 
     -- what waited does so still
-    still_among : (n : ℕ) (t : Table) → is_among n (behind t m.deferred) ≡ true → is_among n (behind t v.deferred) ≡ true
+    still_among : (n : ℕ) (t : TableId) → is_among n (behind t m.deferred) ≡ true → is_among n (behind t v.deferred) ≡ true
     still_among n t among = by tells
       where
         retired : (r : Role) → is_among n (behind t (deferred_then (told_retired r))) ≡ true
@@ -167,7 +167,7 @@ module _ {K V : Type 0} (same : K → K → Bool) (hash : ℕ → K → ℕ) (na
         retired (role.OwnTable turn shape) = among
         retired (role.Counter of) = among
 
-        put_more : (x : Table) (r : Role) → is_among n (behind t (deferred_then (carried x r))) ≡ true
+        put_more : (x : TableId) (r : Role) → is_among n (behind t (deferred_then (carried x r))) ≡ true
         put_more x (role.Pair k) = more n t (record { pair = k; behind = x }) m.deferred among
         put_more x role.Free = among
         put_more x (role.OwnPair k) = among
@@ -183,7 +183,7 @@ module _ {K V : Type 0} (same : K → K → Bool) (hash : ℕ → K → ℕ) (na
         by (TellsRetired word due gone are) = as_told (told_retired (known.roles (block_in word))) are (retired (known.roles (block_in word)))
         by (TellsDeferred word block place x len due its gone noted are) = as_told (carried x (named known word)) are (put_more x (named known word))
 
-    still_told : (b : ℕ) (t : Table) → IsToldBehind m known b t → IsToldBehind v known2 b t
+    still_told : (b : ℕ) (t : TableId) → IsToldBehind m known b t → IsToldBehind v known2 b t
     still_told b t (n, noted, among) = (n, role_kept b (role.Pair n) noted tt, still_among n t among)
 
     still_put : (j b c : ℕ) → j ≢ i → IsPutting b c (w.row j) → IsPutThere to.4.w2 b c
@@ -227,7 +227,7 @@ module _ {K V : Type 0} (same : K → K → Bool) (hash : ℕ → K → ℕ) (na
         cc (due2, gone)
 
     -- it tells that it has put it there
-    told_put : (b c len : ℕ) (t : Table) → known.roles c ≡ role.Table t len → IsPutting b c (w.row i) → HasPut (to.4.w2.row i) → IsToldBehind v known2 b t
+    told_put : (b c len : ℕ) (t : TableId) → known.roles c ≡ role.Table t len → IsPutting b c (w.row i) → HasPut (to.4.w2.row i) → IsToldBehind v known2 b t
     told_put b c len t table puts over = by tells
       where
         its : PutsSo b c (w.row i)
@@ -239,7 +239,7 @@ module _ {K V : Type 0} (same : K → K → Bool) (hash : ℕ → K → ℕ) (na
         names : block_in its.word ≡ b
         names = ap block_in its.block ∙ link-block b
 
-        put_now : (word block : ℕ) (place : At) (x : Table) (k : ℕ) (r : Role) → due_in_row (machine_of u) ≡ Some (ToPut word place) → IsWordOf block place → known.roles block ≡ role.Table x k
+        put_now : (word block : ℕ) (place : At) (x : TableId) (k : ℕ) (r : Role) → due_in_row (machine_of u) ≡ Some (ToPut word place) → IsWordOf block place → known.roles block ≡ role.Table x k
             → named known word ≡ r → IsPairRole r → effects ≡ carried x r → IsToldBehind v known2 b t
         put_now word block place x k (role.Pair n) due one noted is pair are =
             let alike : Some (ToPut word place) ≡ Some (ToPut its.word its.place) = sym due ∙ due_is in
@@ -252,7 +252,7 @@ module _ {K V : Type 0} (same : K → K → Bool) (hash : ℕ → K → ℕ) (na
               n,
               role_kept b (role.Pair n) pair_is tt,
               ap (λ (fs : List Effect). is_among n (behind t (deferred_then fs))) are
-                  ∙ subst (λ (y : Table). is_among n (behind t (record { pair = n; behind = y } ∷ m.deferred)) ≡ true) (sym same_table) (now_among n t m.deferred),
+                  ∙ subst (λ (y : TableId). is_among n (behind t (record { pair = n; behind = y } ∷ m.deferred)) ≡ true) (sym same_table) (now_among n t m.deferred),
             )
         put_now word block place x k role.Free due one noted is pair are = absurd pair
         put_now word block place x k (role.OwnPair j) due one noted is pair are = absurd pair
@@ -268,7 +268,7 @@ module _ {K V : Type 0} (same : K → K → Bool) (hash : ℕ → K → ℕ) (na
 
     module _ (w3 : World (Node K V)) (is : to.4.w2 ≡ w3) where
       -- it takes a step
-      stepped : Steps' deferred_word i (w.row i) w w3 → (b c len : ℕ) (t : Table) → known2.roles c ≡ role.Table t len → where_is b w3.log ≡ With c → Lies b c t
+      stepped : Steps' deferred_word i (w.row i) w w3 → (b c len : ℕ) (t : TableId) → known2.roles c ≡ role.Table t len → where_is b w3.log ≡ With c → Lies b c t
       stepped step b c len t noted lies = elim (shows b c len t table before) as (λ _. Lies b c t) [
         | inl told ↦ inl (still_told b t told)
         | inr its ↦ elim (cases_eq its.0 i) as (λ _. Lies b c t) [
@@ -293,7 +293,7 @@ module _ {K V : Type 0} (same : K → K → Bool) (hash : ℕ → K → ℕ) (na
 
       -- or begins with it
       module _ (request : Request) (begun : World (Node K V)) (begins : (w.row i ≡ Rests) × Begins deferred_word size i request w begun) (step : Steps' deferred_word i (begun.row i) begun w3)
-          (b c len : ℕ) (t : Table) (noted : known2.roles c ≡ role.Table t len) (lies : where_is b w3.log ≡ With c) where
+          (b c len : ℕ) (t : TableId) (noted : known2.roles c ≡ role.Table t len) (lies : where_is b w3.log ≡ With c) where
         in_begun : where_is b begun.log ≡ With c
         in_begun = (row_back deferred_word size b c begun w3 (happens_reached deferred_word size (Begin i request) w begun reached begins) i step lies).0
 

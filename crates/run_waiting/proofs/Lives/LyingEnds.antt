@@ -11,7 +11,7 @@ use Rattle.run_debts.specs.Given.TablesNodes.{deferred_word}
 use Rattle.run_debts.specs.Given.TablesDeclared.node.Node.{Node}
 use Rattle.run_debts.specs.Given.RawDeclared.machines.end_map.EndMap.{EndMap}
 use Rattle.run_debts.specs.Given.RunsDeclared.effect.Effect.{Effect}
-use Rattle.run_debts.specs.Given.RunsDeclared.effect.Table.{Table}
+use Rattle.run_debts.specs.Given.RunsDeclared.effect.TableId.{TableId}
 use Rattle.run_debts.specs.Given.SchedulesEffects.{with_effects}
 use Rattle.run_debts.specs.Given.SchedulesLists.{is_among}
 use Rattle.run_debts.specs.Given.SchedulesMoment.{Deferral, Moment}
@@ -59,7 +59,7 @@ module _ {K V : Type 0} (same : K → K → Bool) (hash : ℕ → K → ℕ) (na
   after : Reached deferred_word old.batch_size did.w2
   after = runs_reached deferred_word old.batch_size (events_of i did.deed) s.world did.w2 (came_reached old.batch_size s.world at.together.makings.standing.came) did.runs
 
-  was_table : (c len : ℕ) (t : Table) → known2.roles c ≡ role.Table t len → known.roles c ≡ role.Table t len
+  was_table : (c len : ℕ) (t : TableId) → known2.roles c ≡ role.Table t len → known.roles c ≡ role.Table t len
   was_table c len t is = sym ((end_keeps same hash name m known s old new at whole i f here end said steps did map not_there comes).0 c (subst IsOfMap (sym is) tt)) ∙ is
 
   -- what lies behind a block is there, and is what it was
@@ -69,7 +69,7 @@ module _ {K V : Type 0} (same : K → K → Bool) (hash : ℕ → K → ℕ) (na
       (kept_there deferred_word old.batch_size did.w2 after b (CanBeReached (ap is_somewhere lies))) (subst IsOfMap (sym is) tt) ∙ is
 
   -- what waits behind a table that is left does so still
-  module _ (c len n : ℕ) (t : Table) (is : known2.roles c ≡ role.Table t len) (was : known.roles c ≡ role.Table t len) (among : is_among n (behind t m.deferred) ≡ true) where
+  module _ (c len n : ℕ) (t : TableId) (is : known2.roles c ≡ role.Table t len) (was : known.roles c ≡ role.Table t len) (among : is_among n (behind t m.deferred) ≡ true) where
     taken_among : (x : ℕ) → told ≡ changed.Took x → (r : Role) → known.roles x ≡ r → is_among n (behind t (with_effects None (Some map) (taken_by (Ending map) r) m).deferred) ≡ true
     taken_among x took role.Free e = among
     taken_among x took (role.OwnPair j) e = among
@@ -80,7 +80,7 @@ module _ {K V : Type 0} (same : K → K → Bool) (hash : ℕ → K → ℕ) (na
       where
         other : t ≡ u → ⊥
         other one =
-            let one_block : c ≡ x = whole.blocks.tables_once c x len k t was (e ∙ ap (λ (y : Table). role.Table y k) (sym one)) in
+            let one_block : c ≡ x = whole.blocks.tables_once c x len k t was (e ∙ ap (λ (y : TableId). role.Table y k) (sym one)) in
             let gone : (known_after (Ending map) (changed.Took x) known).roles c ≡ role.Table t len = ap (λ (y : Changed). (known_after (Ending map) y known).roles c) (sym took) ∙ is in
             subst IsOfMap (put_here x role.Free known.roles c one_block) (subst IsOfMap (sym gone) tt)
 

@@ -8,7 +8,7 @@ use Rattle.run_debts.specs.Given.SeizeWordsOp.{Found, Stored, Exchanged, Made, T
 use Rattle.run_debts.specs.Given.SeizeWordsWord.{link_to}
 use Rattle.run_debts.specs.Given.SeizeDefer.{deferring}
 use Rattle.run_debts.specs.Given.SeizeFurther.{IsWordOf}
-use Rattle.run_debts.specs.Given.SeizeDeclared.progress.Progress.{Progress as Deferring}
+use Rattle.run_debts.specs.Given.SeizeDeclared.advance.Advance.{Advance as Deferring}
 use Rattle.run_debts.specs.Given.SeizeDeclared.rows.defer.Defer.{Defer}
 use Rattle.run_debts.specs.Given.SeizeDeclared.rows.defer.Deferring.{Deferring as Point}
 use Rattle.run_debts.specs.Given.SeizeDeclared.rows.defer.Deferring.TheVariants as at

@@ -4,8 +4,8 @@ use Rattle.std.proofs.Common.{refl, ap, sym, subst, ◌∙◌}
 use Rattle.run_debts.specs.Given.SeizeWordsMem.{value_at, word_at}
 use Rattle.run_debts.specs.Given.SeizeWordsWord.{block_in}
 use Rattle.run_debts.specs.Given.SeizeWordsDeclared.at.At.TheVariants.{Root, Used, Slot, Entry, Word}
-use Rattle.run_debts.specs.Given.SeizeDeclared.progress.Progress.{Progress}
-use Rattle.run_debts.specs.Given.SeizeDeclared.progress.Progress.TheVariants as progress
+use Rattle.run_debts.specs.Given.SeizeDeclared.advance.Advance.{Advance}
+use Rattle.run_debts.specs.Given.SeizeDeclared.advance.Advance.TheVariants as progress
 use Rattle.run_debts.specs.Given.SeizeWorld.{World}
 use Rattle.run_debts.specs.Given.TablesDeclared.node.Node.{Node}
 use Rattle.run_debts.specs.Given.TablesDeclared.setting.Setting.{Setting}
@@ -13,7 +13,7 @@ use Rattle.run_debts.specs.Given.ResizeDeclared.new_map.NewMap.{NewMap}
 use Rattle.run_debts.specs.Given.RunsDeclared.effect.Effect.{Effect}
 use Rattle.run_debts.specs.Given.RunsDeclared.effect.Effect.TheVariants.{Asked}
 use Rattle.run_debts.specs.Given.RunsDeclared.effect.Growth.TheVariants.{ABlock}
-use Rattle.run_debts.specs.Given.RunsDeclared.effect.Table.{Table}
+use Rattle.run_debts.specs.Given.RunsDeclared.effect.TableId.{TableId}
 use Rattle.run_debts.specs.Given.SchedulesEffects.{with_effects}
 use Rattle.run_debts.specs.Given.SchedulesMoment.{Place, Moment}
 use Rattle.run_debts.specs.Given.EffectsDeclared.changed.Changed.{Changed}
@@ -50,7 +50,7 @@ module _ {K V : Type 0} (map : ℕ) (of : Option ℕ) (m : Moment K V) (known : 
 
   -- effects that neither put a pair behind a table nor move one, and end no table
   abbrev AreApart : List Effect → Type 0
-  AreApart effects = ((with_effects None of effects m).deferred ≡ m.deferred) × ((with_effects None of effects m).place ≡ m.place) × ((t : Table) → NoneEnds t effects)
+  AreApart effects = ((with_effects None of effects m).deferred ≡ m.deferred) × ((with_effects None of effects m).place ≡ m.place) × ((t : TableId) → NoneEnds t effects)
 
   made_apart : (k : Kind) → AreApart (Asked ABlock ∷ made_by its k)
   made_apart kind.Pair = (refl, refl, λ t. (λ z. z, (λ z. z, tt)))
@@ -74,7 +74,7 @@ module _ {K V : Type 0} (map : ℕ) (of : Option ℕ) (m : Moment K V) (known : 
   led_apart false (role.Table t len) = (refl, refl, λ t. tt)
   led_apart false (role.Counter c) = (refl, refl, λ t. tt)
 
-  word_apart : (field : ℕ) (r : Role) (q : Bool) (was is : Role) → ((t : Table) (len : ℕ) → r ≡ role.Table t len → q ≡ true) → AreApart (in_block its r field known.stored q was is)
+  word_apart : (field : ℕ) (r : Role) (q : Bool) (was is : Role) → ((t : TableId) (len : ℕ) → r ≡ role.Table t len → q ≡ true) → AreApart (in_block its r field known.stored q was is)
   word_apart field role.Free q was is names = (refl, refl, λ t. tt)
   word_apart field (role.OwnPair i) q was is names = (refl, refl, λ t. tt)
   word_apart field (role.OwnTable turn shape) q was is names = (refl, refl, λ t. tt)
@@ -84,7 +84,7 @@ module _ {K V : Type 0} (map : ℕ) (of : Option ℕ) (m : Moment K V) (known : 
   word_apart field (role.Table t len) false was is names = absurd (let e = names t len refl in cc e)
 
   module _ (w w2 : World (Node K V)) (i root : ℕ) (free : known.roles 0 ≡ role.Free)
-      (no_table : (x : ℕ) (q : Bool) → TellsMaking w i root (changed.Wrote (Word x 0) 0 0) → (t : Table) (len : ℕ) → known.roles x ≡ role.Table t len → q ≡ true)
+      (no_table : (x : ℕ) (q : Bool) → TellsMaking w i root (changed.Wrote (Word x 0) 0 0) → (t : TableId) (len : ℕ) → known.roles x ≡ role.Table t len → q ≡ true)
       (stays : (x : ℕ) → IsOfMap (known.roles x) → IsSome (value_at w2.memory x)) where
     making_apart : (told : Changed) → TellsMaking w i root told → LeavesBy w.memory w2.memory told → AreApart (effects_of its known told)
     making_apart changed.Nothing so l = (refl, refl, λ t. tt)
@@ -111,14 +111,14 @@ module _ {K V : Type 0} (map : ℕ) (of : Option ℕ) (m : Moment K V) (known : 
 
 -- the world that a step of a making leads to
 module _ {K V : Type 0} (same : K → K → Bool) (hash : ℕ → K → ℕ) (s : Scene K V) (old new : Held K V) (i : ℕ) (b : Beginning K) (opening : NewMap) (w2 : World (Node K V)) where
-  pub world_then : (told : Progress Setting) (comes : MakingComesTo same hash s old new i b opening w2 told) → (making_after same hash s old new i b opening w2 told comes).world ≡ w2
+  pub world_then : (told : Advance Setting) (comes : MakingComesTo same hash s old new i b opening w2 told) → (making_after same hash s old new i b opening w2 told comes).world ≡ w2
   world_then progress.Goes comes = refl
   world_then progress.Waits comes = absurd comes
   world_then (progress.Done setting) comes = refl
   world_then (progress.Refused fault) comes = refl
 
 module _ {K V : Type 0} (same : K → K → Bool) (hash : ℕ → K → ℕ) (name : ℕ → List ℕ) (m : Moment K V) (known : Known) (s : Scene K V) (old new : Held K V) (at : IsAt same hash old s)
-    (whole : ShowsWhole same name m known s) (i : ℕ) (told : Progress Setting) (leads : MakingLeads same hash i told s old new) (b : Beginning K) (here : s.makers i ≡ Some b) (of : Option ℕ)
+    (whole : ShowsWhole same name m known s) (i : ℕ) (told : Advance Setting) (leads : MakingLeads same hash i told s old new) (b : Beginning K) (here : s.makers i ≡ Some b) (of : Option ℕ)
     (was_new : WasNew b.map told m) where
   abbrev w2 : World (Node K V)
   w2 = (leads b here).2.step.w2

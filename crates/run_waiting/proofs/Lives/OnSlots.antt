@@ -15,7 +15,7 @@ use Rattle.run_debts.specs.Given.TablesNodes.{deferred_word}
 use Rattle.run_debts.specs.Given.TablesDeclared.node.Node.{Node}
 use Rattle.run_debts.specs.Given.RunsDeclared.effect.Effect.TheVariants.{Asked}
 use Rattle.run_debts.specs.Given.RunsDeclared.effect.Growth.TheVariants.{ABucket}
-use Rattle.run_debts.specs.Given.RunsDeclared.effect.Table.{Table}
+use Rattle.run_debts.specs.Given.RunsDeclared.effect.TableId.{TableId}
 use Rattle.run_debts.specs.Given.SchedulesEffects.{all_at, with_effects}
 use Rattle.run_debts.specs.Given.SchedulesLists.{is_among, put}
 use Rattle.run_debts.specs.Given.SchedulesMoment.{Place, Behind, Handed as IsHanded, GivenBack, Deferral, Moment}
@@ -72,24 +72,24 @@ module _ {K V : Type 0} (same : K → K → Bool) (name : ℕ → List ℕ) (siz
   left_is = left_unretired size w came reached i w2 step
 
   -- the block of what waits was not
-  pair_unretired : (n : ℕ) (t : Table) (l : LiesBehind known w n t) → is_retired l.pair w.log ≡ false
+  pair_unretired : (n : ℕ) (t : TableId) (l : LiesBehind known w n t) → is_retired l.pair w.log ≡ false
   pair_unretired n t l = by l.waits
     where
       by : (waits_behind l.pair w.log ≡ Some l.table) ⊎ (IsLeft (w.hand l.pair) × IsLeft (w.hand l.table)) → is_retired l.pair w.log ≡ false
       by (inl waits) = unretired deferred_word size w kept l.pair l.table waits
       by (inr both) = left_is l.pair both.0
 
-  pair_stays : (n : ℕ) (t : Table) (l : LiesBehind known w n t) → told ≡ changed.Took l.pair → ⊥
+  pair_stays : (n : ℕ) (t : TableId) (l : LiesBehind known w n t) → told ≡ changed.Took l.pair → ⊥
   pair_stays n t l is = (let yes = was_retired l.pair is in let no = pair_unretired n t l in cc (yes, no))
 
-  value_of_pair : (n : ℕ) (t : Table) (l : LiesBehind known w n t) → (value : Node K V) × (value_at w.memory l.pair ≡ Some value)
+  value_of_pair : (n : ℕ) (t : TableId) (l : LiesBehind known w n t) → (value : Node K V) × (value_at w.memory l.pair ≡ Some value)
   value_of_pair n t l = (let has = subst (λ (r : Role). HasRole w m.stored l.pair r) l.is_pair (shown.blocks.roles l.pair) in (_, has.3))
 
-  value_of_table : (n : ℕ) (t : Table) (l : LiesBehind known w n t) → (value : Node K V) × (value_at w.memory l.table ≡ Some value)
+  value_of_table : (n : ℕ) (t : TableId) (l : LiesBehind known w n t) → (value : Node K V) × (value_at w.memory l.table ≡ Some value)
   value_of_table n t l = (let has = subst (λ (r : Role). HasRole w m.stored l.table r) l.is_table (shown.blocks.roles l.table) in (_, has.1))
 
   -- where neither its block nor the table's is taken, it lies behind it still
-  lies_still : (known2 : Known) (n : ℕ) (t : Table) (l : LiesBehind known w n t) → known2.roles l.pair ≡ known.roles l.pair → known2.roles l.table ≡ known.roles l.table
+  lies_still : (known2 : Known) (n : ℕ) (t : TableId) (l : LiesBehind known w n t) → known2.roles l.pair ≡ known.roles l.pair → known2.roles l.table ≡ known.roles l.table
       → (told ≡ changed.Took l.table → ⊥) → LiesBehind known2 w2 n t
   lies_still known2 n t l pair_same table_same apart = record {
     pair = l.pair;
@@ -120,16 +120,16 @@ module _ {K V : Type 0} (same : K → K → Bool) (name : ℕ → List ℕ) (siz
       by (inl waits) = inl (ap (waits_behind l.pair) it.logged ∙ waits_on l.pair l.table it.effects w.log it.one waits table_kept)
       by (inr both) = inr (subst IsLeft (sym (hand_same l.pair pair_kept)) both.0, subst IsLeft (sym (hand_same l.table table_kept)) both.1)
 
-  abbrev Waits : Moment K V → Known → World (Node K V) → ℕ → Table → Type 0
+  abbrev Waits : Moment K V → Known → World (Node K V) → ℕ → TableId → Type 0
   Waits v known2 x n t = (v.place n ≡ Behind) × LiesBehind known2 x n t
 
   -- a table that is taken is none of theirs
-  other_table : (x : ℕ) → told ≡ changed.Took x → (n : ℕ) (t : Table) (l : LiesBehind known w n t) → (l.table ≡ x → ⊥) → told ≡ changed.Took l.table → ⊥
+  other_table : (x : ℕ) → told ≡ changed.Took x → (n : ℕ) (t : TableId) (l : LiesBehind known w n t) → (l.table ≡ x → ⊥) → told ≡ changed.Took l.table → ⊥
   other_table x is n t l ne its = ne (let one : changed.Took l.table ≡ changed.Took x = sym its ∙ is in cc one)
 
   -- where nothing else is told than a block that was none of a map
   none_moved : (v : Moment K V) (known2 : Known) → v.place ≡ m.place → v.deferred ≡ m.deferred
-      → ((n : ℕ) (t : Table) (l : LiesBehind known w n t) → (known2.roles l.pair ≡ known.roles l.pair) × (known2.roles l.table ≡ known.roles l.table) × (told ≡ changed.Took l.table → ⊥))
+      → ((n : ℕ) (t : TableId) (l : LiesBehind known w n t) → (known2.roles l.pair ≡ known.roles l.pair) × (known2.roles l.table ≡ known.roles l.table) × (told ≡ changed.Took l.table → ⊥))
       → ShowsWaiting v known2 w2
   none_moved v known2 place deferred roles =
       subst (EachWaits (Waits v known2 w2)) (sym deferred)
@@ -149,11 +149,11 @@ module _ {K V : Type 0} (same : K → K → Bool) (name : ℕ → List ℕ) (siz
     role_same : (b : ℕ) → (b ≡ x → ⊥) → known2.roles b ≡ known.roles b
     role_same b ne = put_elsewhere x role.Free known.roles b ne
 
-    took_pair : (n : ℕ) (t : Table) (l : LiesBehind known w n t) → l.pair ≡ x → ⊥
+    took_pair : (n : ℕ) (t : TableId) (l : LiesBehind known w n t) → l.pair ≡ x → ⊥
     took_pair n t l e = pair_stays n t l (is ∙ ap changed.Took (sym e))
 
     -- that of nothing of a map
-    took_other : (r : Role) → known.roles x ≡ r → ((t : Table) (len : ℕ) → r ≡ role.Table t len → ⊥) → (v : Moment K V) → v.place ≡ m.place → v.deferred ≡ m.deferred → ShowsWaiting v known2 w2
+    took_other : (r : Role) → known.roles x ≡ r → ((t : TableId) (len : ℕ) → r ≡ role.Table t len → ⊥) → (v : Moment K V) → v.place ≡ m.place → v.deferred ≡ m.deferred → ShowsWaiting v known2 w2
     took_other r e never v place deferred =
         none_moved v known2 place deferred
         (λ n t l. let apart : l.table ≡ x → ⊥ = (λ z. never t l.len (sym e ∙ ap known.roles (sym z) ∙ l.is_table)) in
@@ -172,23 +172,23 @@ module _ {K V : Type 0} (same : K → K → Bool) (name : ℕ → List ℕ) (siz
         )) m.deferred waiting)
 
     -- that of a table
-    took_a_table : (u : Table) (len : ℕ) → known.roles x ≡ role.Table u len → (v : Moment K V) → v.place ≡ all_at IsHanded (behind u m.deferred) m.place
+    took_a_table : (u : TableId) (len : ℕ) → known.roles x ≡ role.Table u len → (v : Moment K V) → v.place ≡ all_at IsHanded (behind u m.deferred) m.place
         → v.deferred ≡ filter (λ (d : Deferral). not (same_table d.behind u)) m.deferred → ShowsWaiting v known2 w2
     took_a_table u len e v place deferred =
         subst (EachWaits (Waits v known2 w2)) (sym deferred)
         (each_kept (Waits m known w) (Waits v known2 w2) (λ d. not (same_table d.behind u)) (λ d other p. kept_one d.pair d.behind other p) m.deferred waiting)
       where
         -- the table of what stays is another one
-        apart : (n : ℕ) (t : Table) → not (same_table t u) ≡ true → (l : LiesBehind known w n t) → l.table ≡ x → ⊥
+        apart : (n : ℕ) (t : TableId) → not (same_table t u) ≡ true → (l : LiesBehind known w n t) → l.table ≡ x → ⊥
         apart n t other l z =
             let one : role.Table t l.len ≡ role.Table u len = sym l.is_table ∙ ap known.roles z ∙ e in
             let t_is : t ≡ u = cc one in
-            let yes : same_table t u ≡ true = ap (λ (y : Table). same_table y u) t_is ∙ same_itself u in
+            let yes : same_table t u ≡ true = ap (λ (y : TableId). same_table y u) t_is ∙ same_itself u in
             let none = ap not yes in
             cc (other, none)
 
         -- so it does not wait behind this one, too
-        not_both : (n : ℕ) (t : Table) → not (same_table t u) ≡ true → (l : LiesBehind known w n t) → WaitsAt (Waits m known w) n u → ⊥
+        not_both : (n : ℕ) (t : TableId) → not (same_table t u) ≡ true → (l : LiesBehind known w n t) → WaitsAt (Waits m known w) n u → ⊥
         not_both n t other l a = clash l.waits b.waits
           where
             b : LiesBehind known w n u
@@ -210,14 +210,14 @@ module _ {K V : Type 0} (same : K → K → Bool) (name : ℕ → List ℕ) (siz
             clash (inr first) (inl second) =
                 left_no_handed (w.hand l.pair) first.0 (ap w.hand same_pair ∙ has_it deferred_word size w kept b.pair b.table second)
 
-        place_kept : (n : ℕ) (t : Table) → not (same_table t u) ≡ true → (l : LiesBehind known w n t) → m.place n ≡ Behind → all_at IsHanded (behind u m.deferred) m.place n ≡ Behind
+        place_kept : (n : ℕ) (t : TableId) → not (same_table t u) ≡ true → (l : LiesBehind known w n t) → m.place n ≡ Behind → all_at IsHanded (behind u m.deferred) m.place n ≡ Behind
         place_kept n t other l was = by (is_among n (behind u m.deferred)) refl
           where
             by : (q : Bool) → is_among n (behind u m.deferred) ≡ q → (if q then IsHanded else m.place n) ≡ Behind
             by true among = absurd (not_both n t other l (found (Waits m known w) n u m.deferred waiting among))
             by false among = was
 
-        kept_one : (n : ℕ) (t : Table) → not (same_table t u) ≡ true → Waits m known w n t → Waits v known2 w2 n t
+        kept_one : (n : ℕ) (t : TableId) → not (same_table t u) ≡ true → Waits m known w n t → Waits v known2 w2 n t
         kept_one n t other p =
             let l = p.1 in (
               ap (λ (f : ℕ → Place). f n) place ∙ place_kept n t other l p.0,

@@ -5,7 +5,7 @@ use Rattle.std.proofs.lemmas.Bool.{eq-eqb}
 use Rattle.run_debts.specs.Given.SeizeWordsDeclared.at.At.TheVariants.{Root, Used, Slot, Entry, Word}
 use Rattle.run_debts.specs.Given.RunsDeclared.effect.Effect.TheVariants.{Asked}
 use Rattle.run_debts.specs.Given.RunsDeclared.effect.Growth.TheVariants.{ABucket}
-use Rattle.run_debts.specs.Given.RunsDeclared.effect.Table.{Table}
+use Rattle.run_debts.specs.Given.RunsDeclared.effect.TableId.{TableId}
 use Rattle.run_debts.specs.Given.SchedulesEffects.{with_effects}
 use Rattle.run_debts.specs.Given.SchedulesLists.{is_among}
 use Rattle.run_debts.specs.Given.SchedulesMoment.{Deferral, Moment}
@@ -24,15 +24,15 @@ use Rattle.run_waiting.specs.Lives.Behind.{EachWaits, WaitsOnce}
 use Rattle.run_waiting.proofs.Lives.Each.{each_on, each_both, each_kept, found}
 
 -- it waits behind one table alone
-abbrev One : List Deferral → ℕ → Table → Type 0
-One ds n t = (u : Table) → is_among n (behind u ds) ≡ true → same_table t u ≡ true
+abbrev One : List Deferral → ℕ → TableId → Type 0
+One ds n t = (u : TableId) → is_among n (behind u ds) ≡ true → same_table t u ≡ true
 
 -- it is listed behind its table
-abbrev Listed : List Deferral → ℕ → Table → Type 0
-Listed ds n t = (u : Table) → same_table t u ≡ true → is_among n (behind u ds) ≡ true
+abbrev Listed : List Deferral → ℕ → TableId → Type 0
+Listed ds n t = (u : TableId) → same_table t u ≡ true → is_among n (behind u ds) ≡ true
 
 -- what is listed is so with one more
-pub more : (n : ℕ) (u : Table) (d : Deferral) (ds : List Deferral) → is_among n (behind u ds) ≡ true → is_among n (behind u (d ∷ ds)) ≡ true
+pub more : (n : ℕ) (u : TableId) (d : Deferral) (ds : List Deferral) → is_among n (behind u ds) ≡ true → is_among n (behind u (d ∷ ds)) ≡ true
 more n u d ds among = by (same_table d.behind u)
   where
     by : (q : Bool) → is_among n (map (λ x. x.pair) (if q then d ∷ filter (λ x. same_table x.behind u) ds else filter (λ x. same_table x.behind u) ds)) ≡ true
@@ -53,21 +53,21 @@ listed (d ∷ ds) = (here, each_on (Listed ds) (Listed (d ∷ ds)) (λ n t p u e
 once_kept : (f : Deferral → Bool) (ds : List Deferral) → WaitsOnce ds → WaitsOnce (filter f ds)
 once_kept f ds once = each_kept (One ds) (One (filter f ds)) f (λ d is p u among. p u (back d.pair u among)) ds once
   where
-    back : (n : ℕ) (u : Table) → is_among n (behind u (filter f ds)) ≡ true → is_among n (behind u ds) ≡ true
+    back : (n : ℕ) (u : TableId) → is_among n (behind u (filter f ds)) ≡ true → is_among n (behind u ds) ≡ true
     back n u among =
         let a = found (Listed ds) n u (filter f ds) (each_kept (Listed ds) (Listed ds) f (λ d is p. p) ds (listed ds)) among in
         subst (λ (k : ℕ). is_among k (behind u ds) ≡ true) a.number (a.so u a.its)
 
 -- where one more waits
-module _ (ds : List Deferral) (once : WaitsOnce ds) (n : ℕ) (t : Table) (fresh : (u : Table) → is_among n (behind u ds) ≡ true → same_table t u ≡ true) where
+module _ (ds : List Deferral) (once : WaitsOnce ds) (n : ℕ) (t : TableId) (fresh : (u : TableId) → is_among n (behind u ds) ≡ true → same_table t u ≡ true) where
   abbrev new : Deferral
   new = record { pair = n; behind = t }
 
-  abbrev Either : ℕ → Table → Type 0
+  abbrev Either : ℕ → TableId → Type 0
   Either k u = ((k ≡ n) × (same_table t u ≡ true)) ⊎ (is_among k (behind u ds) ≡ true)
 
   -- it is the new one, or was behind the table before
-  either : (k : ℕ) (u : Table) → is_among k (behind u (new ∷ ds)) ≡ true → Either k u
+  either : (k : ℕ) (u : TableId) → is_among k (behind u (new ∷ ds)) ≡ true → Either k u
   either k u among = by (same_table t u) refl among
     where
       first : (p : Bool) → (k == n) ≡ p → same_table t u ≡ true → (p || is_among k (behind u ds)) ≡ true → Either k u
@@ -85,11 +85,11 @@ module _ (ds : List Deferral) (once : WaitsOnce ds) (n : ℕ) (t : Table) (fresh
     | inr before ↦ fresh u before
   ]
 
-  others : (k : ℕ) (x : Table) → One ds k x × Listed ds k x → One (new ∷ ds) k x
+  others : (k : ℕ) (x : TableId) → One ds k x × Listed ds k x → One (new ∷ ds) k x
   others k x p u among = elim (either k u among) as (λ _. same_table x u ≡ true) [
     | inl e ↦
         let there = subst (λ (y : ℕ). is_among y (behind x ds) ≡ true) e.0 (p.1 x (same_itself x)) in
-        ap (λ (y : Table). same_table y u) (sym (table_is t x (fresh x there))) ∙ e.1
+        ap (λ (y : TableId). same_table y u) (sym (table_is t x (fresh x there))) ∙ e.1
     | inr before ↦ p.0 u before
   ]
 
@@ -98,7 +98,7 @@ module _ (ds : List Deferral) (once : WaitsOnce ds) (n : ℕ) (t : Table) (fresh
 
 -- the same ones wait, or all but those behind one table
 abbrev pub Fewer : List Deferral → List Deferral → Type 0
-Fewer before after = (after ≡ before) ⊎ ((t : Table) × (after ≡ filter (λ (d : Deferral). not (same_table d.behind t)) before))
+Fewer before after = (after ≡ before) ⊎ ((t : TableId) × (after ≡ filter (λ (d : Deferral). not (same_table d.behind t)) before))
 
 pub once_fewer : (before after : List Deferral) → Fewer before after → WaitsOnce before → WaitsOnce after
 once_fewer before after (inl same) once = subst WaitsOnce (sym same) once

@@ -11,7 +11,7 @@ use Rattle.run_debts.specs.Given.TablesNodes.{deferred_word}
 use Rattle.run_debts.specs.Given.TablesDeclared.node.Node.{Node}
 use Rattle.run_debts.specs.Given.RunsDeclared.effect.Effect.TheVariants.{Asked}
 use Rattle.run_debts.specs.Given.RunsDeclared.effect.Growth.TheVariants.{ABucket}
-use Rattle.run_debts.specs.Given.RunsDeclared.effect.Table.{Table}
+use Rattle.run_debts.specs.Given.RunsDeclared.effect.TableId.{TableId}
 use Rattle.run_debts.specs.Given.SchedulesEffects.{with_effects}
 use Rattle.run_debts.specs.Given.SchedulesMoment.{Behind, Deferral, Moment}
 use Rattle.run_debts.specs.Given.SchedulesThings.{same_table}
@@ -62,7 +62,7 @@ noted_still known known2 (b ∷ blocks) (n ∷ pairs) is still =
     ap (λ (r : Role). r ∷ map known2.roles blocks) (still b n (some_here b blocks) first) ∙ ap (λ (rs : List Role). role.Pair n ∷ rs) rest
 
 -- what waits behind one table does so where what waits behind another one goes
-module _ (t u : Table) (other : t ≡ u → ⊥) where
+module _ (t u : TableId) (other : t ≡ u → ⊥) where
   abbrev IsKept : Deferral → Bool
   IsKept d = not (same_table d.behind u)
 
@@ -83,7 +83,7 @@ module _ (t u : Table) (other : t ≡ u → ⊥) where
           ap (λ (z : Bool). map (λ (x : Deferral). x.pair) (if z then d ∷ filter IsIts (filter IsKept ds) else filter IsIts (filter IsKept ds))) here ∙ rest
 
 -- nothing waits behind a table that is none of those behind which something does
-pub none_behind : (t : Table) (ds : List Deferral) → EachWaits (λ n u. u ≡ t → ⊥) ds → behind t ds ≡ []
+pub none_behind : (t : TableId) (ds : List Deferral) → EachWaits (λ n u. u ≡ t → ⊥) ds → behind t ds ≡ []
 none_behind t [] each = refl
 none_behind t (d ∷ ds) each = by (same_table d.behind t) refl (none_behind t ds each.1)
   where
@@ -104,7 +104,7 @@ endings_begin_order K V m known s shows map i standing c len o t blocks is used 
 
 -- where a table has the list that it had, its pairs are noted as they were, and the same ones wait behind it
 module _ {K V : Type 0} (m v : Moment K V) (known known2 : Known) (w : World (Node K V)) (shows : ShowsOrder m known w) where
-  pub order_as : (c len o : ℕ) (t : Table) (blocks : List ℕ) → known.roles c ≡ role.Table t len → w.hand c ≡ InUse o → FurtherAre deferred_word w.memory c blocks
+  pub order_as : (c len o : ℕ) (t : TableId) (blocks : List ℕ) → known.roles c ≡ role.Table t len → w.hand c ≡ InUse o → FurtherAre deferred_word w.memory c blocks
       → ((b n : ℕ) → 0 < times b blocks → known.roles b ≡ role.Pair n → known2.roles b ≡ role.Pair n) → behind t v.deferred ≡ behind t m.deferred
       → map known2.roles blocks ≡ map role.Pair (behind t v.deferred)
   order_as c len o t blocks is used are still same =
@@ -113,17 +113,17 @@ module _ {K V : Type 0} (m v : Moment K V) (known known2 : Known) (w : World (No
 -- what users do leaves it, where they put nothing behind a table: one that they link is a new one
 module _ {K V : Type 0} (size : ℕ) (m v : Moment K V) (known known2 : Known) (w w2 : World (Node K V)) (r : Reached deferred_word size w) (shows : ShowsOrder m known w) (waiting : ShowsWaiting m known w)
     (roles : (b : ℕ) → HasRole w m.stored b (known.roles b)) (owning : OwnAreMade known w) (events : List (Event (Node K V))) (users : AllUsers events) (runs : Runs deferred_word size events w w2)
-    (tables : (c len : ℕ) (t : Table) → known2.roles c ≡ role.Table t len → WasTable known c t len)
+    (tables : (c len : ℕ) (t : TableId) → known2.roles c ≡ role.Table t len → WasTable known c t len)
     (keeps : (b : ℕ) (x : Role) → known.roles b ≡ x → IsOfMap x → known2.roles b ≡ x)
-    (once : (b d len len2 : ℕ) (t : Table) → known2.roles b ≡ role.Table t len → known2.roles d ≡ role.Table t len2 → b ≡ d)
+    (once : (b d len len2 : ℕ) (t : TableId) → known2.roles b ≡ role.Table t len → known2.roles d ≡ role.Table t len2 → b ≡ d)
     (list : v.deferred ≡ m.deferred) where
   -- nothing waits behind a table that is linked anew
-  new_behind : (c len turn : ℕ) (shape : TableShape) (t : Table) → known2.roles c ≡ role.Table t len → known.roles c ≡ role.OwnTable turn shape → behind t v.deferred ≡ []
+  new_behind : (c len turn : ℕ) (shape : TableShape) (t : TableId) → known2.roles c ≡ role.Table t len → known.roles c ≡ role.OwnTable turn shape → behind t v.deferred ≡ []
   new_behind c len turn shape t is own =
       ap (behind t) list
       ∙ none_behind t m.deferred (each_on (λ n u. (m.place n ≡ Behind) × LiesBehind known w n u) (λ n u. u ≡ t → ⊥) (λ n u p e.
       (let l = p.1 in
-      let there : known.roles l.table ≡ role.Table t l.len = l.is_table ∙ ap (λ (x : Table). role.Table x l.len) e in
+      let there : known.roles l.table ≡ role.Table t l.len = l.is_table ∙ ap (λ (x : TableId). role.Table x l.len) e in
       let one = once l.table c l.len len t (keeps l.table (role.Table t l.len) there tt) is in
       let both : role.Table t l.len ≡ role.OwnTable turn shape = sym there ∙ ap known.roles one ∙ own in
       cc both)) m.deferred waiting)
@@ -142,8 +142,8 @@ module _ {K V : Type 0} (size : ℕ) (m v : Moment K V) (known known2 : Known) (
           ∙ ap (λ (l : List ℕ). map role.Pair l) (sym (new_behind c len turn shape t is own))
 
 -- What a row on a slot tells leaves what waits behind each table that is left.
-module _ {K V : Type 0} (m : Moment K V) (known : Known) (once : (b c len n : ℕ) (t : Table) → known.roles b ≡ role.Table t len → known.roles c ≡ role.Table t n → b ≡ c)
-    (c len : ℕ) (t : Table) (was : known.roles c ≡ role.Table t len) where
+module _ {K V : Type 0} (m : Moment K V) (known : Known) (once : (b c len n : ℕ) (t : TableId) → known.roles b ≡ role.Table t len → known.roles c ≡ role.Table t n → b ≡ c)
+    (c len : ℕ) (t : TableId) (was : known.roles c ≡ role.Table t len) where
   abbrev SameThen : Changed → Type 0
   SameThen x = behind t (with_effects None None (effects_of Row known x) m).deferred ≡ behind t m.deferred
 
@@ -157,7 +157,7 @@ module _ {K V : Type 0} (m : Moment K V) (known : Known) (once : (b c len n : �
     where
       other : t ≡ u → ⊥
       other one =
-          let here : c ≡ x = once c x len k t was (e ∙ ap (λ (y : Table). role.Table y k) (sym one)) in
+          let here : c ≡ x = once c x len k t was (e ∙ ap (λ (y : TableId). role.Table y k) (sym one)) in
           subst IsOfMap (put_here x role.Free known.roles c here) (subst IsOfMap (sym is) tt)
 
   nothing_behind : (q : Bool) → behind t (with_effects None None (if q then [] else []) m).deferred ≡ behind t m.deferred

@@ -15,7 +15,7 @@ use Rattle.run_debts.specs.Given.TablesDeclared.node.Node.{Node}
 use Rattle.run_debts.specs.Given.RawDeclared.machines.progress.Progress.{Progress}
 use Rattle.run_debts.specs.Given.RunsDeclared.effect.Effect.{Effect}
 use Rattle.run_debts.specs.Given.RunsDeclared.effect.Effect.TheVariants.{Deferred}
-use Rattle.run_debts.specs.Given.RunsDeclared.effect.Table.{Table}
+use Rattle.run_debts.specs.Given.RunsDeclared.effect.TableId.{TableId}
 use Rattle.run_debts.specs.Given.SchedulesEffects.{with_effects}
 use Rattle.run_debts.specs.Given.SchedulesMoment.{Deferral, Moment}
 use Rattle.run_debts.specs.Given.SchedulesThings.{same_table}
@@ -59,12 +59,12 @@ use Rattle.run_debts.specs.Given.ScenesScene.{Scene, slot_of}
 use Rattle.run_debts.specs.Given.ScenesStepping.{StepLeads}
 
 -- one more waits behind this table, and no more behind another one
-more_behind : (n : ℕ) (t : Table) (ds : List Deferral) → behind t (record { pair = n; behind = t } ∷ ds) ≡ n ∷ behind t ds
+more_behind : (n : ℕ) (t : TableId) (ds : List Deferral) → behind t (record { pair = n; behind = t } ∷ ds) ≡ n ∷ behind t ds
 more_behind n t ds =
     ap (λ (q : Bool). each_of (λ (x : Deferral). x.pair)
     (if q then record { pair = n; behind = t } ∷ filter (λ (x : Deferral). same_table x.behind t) ds else filter (λ (x : Deferral). same_table x.behind t) ds)) (same_itself t)
 
-no_more_behind : (n : ℕ) (t x : Table) (ds : List Deferral) → (x ≡ t → ⊥) → behind t (record { pair = n; behind = x } ∷ ds) ≡ behind t ds
+no_more_behind : (n : ℕ) (t x : TableId) (ds : List Deferral) → (x ≡ t → ⊥) → behind t (record { pair = n; behind = x } ∷ ds) ≡ behind t ds
 no_more_behind n t x ds other = by (same_table x t) refl
   where
     by : (q : Bool) → same_table x t ≡ q
@@ -143,14 +143,14 @@ module _ {K V : Type 0} (same : K → K → Bool) (hash : ℕ → K → ℕ) (na
     abbrev deferred_then : List Effect → List Deferral
     deferred_then fs = (with_effects (Some (name i)) (Some map) fs m).deferred
 
-    was_table : (c len : ℕ) (t : Table) → known2.roles c ≡ role.Table t len → (o : ℕ) → w.hand c ≡ InUse o → known.roles c ≡ role.Table t len
+    was_table : (c len : ℕ) (t : TableId) → known2.roles c ≡ role.Table t len → (o : ℕ) → w.hand c ≡ InUse o → known.roles c ≡ role.Table t len
     was_table c len t is o used = by (role_back (Call i map) known c len t new.changed is)
       where
         by : WasTable known c t len → known.roles c ≡ role.Table t len
         by (inl was) = was
         by (inr (turn, shape, own, e)) = absurd (let made = owning c turn shape own in let making = made.1 in cc (used, making))
 
-    module _ (w3 : World (Node K V)) (is : to.4.w2 ≡ w3) (memory : w3.memory ≡ new.memory) (c len o : ℕ) (t : Table) (blocks : List ℕ) (table2 : known2.roles c ≡ role.Table t len)
+    module _ (w3 : World (Node K V)) (is : to.4.w2 ≡ w3) (memory : w3.memory ≡ new.memory) (c len o : ℕ) (t : TableId) (blocks : List ℕ) (table2 : known2.roles c ≡ role.Table t len)
         (used : w3.hand c ≡ InUse o) (are : FurtherAre deferred_word w3.memory c blocks) where
       abbrev Lies : Type 0
       Lies = each_of known2.roles blocks ≡ each_of role.Pair (behind t v.deferred)
@@ -163,14 +163,14 @@ module _ {K V : Type 0} (same : K → K → Bool) (hash : ℕ → K → ℕ) (na
       same_order was used_was are_was list = order_as m v known known2 w shows c len o t blocks was used_was are_was (λ b n some e. noted b (role.Pair n) e tt) list
 
       -- where no pair is told to wait behind the table
-      none_more : ((word block : ℕ) (place : At) (x : Table) (k n : ℕ) → due_in_row (machine_of u) ≡ Some (ToPut word place) → IsWordOf block place → due_in_row to.1 ≡ None → known.roles block ≡ role.Table x k
+      none_more : ((word block : ℕ) (place : At) (x : TableId) (k n : ℕ) → due_in_row (machine_of u) ≡ Some (ToPut word place) → IsWordOf block place → due_in_row to.1 ≡ None → known.roles block ≡ role.Table x k
           → effects ≡ Deferred n x ∷ [] → x ≡ t → ⊥) → behind t v.deferred ≡ behind t m.deferred
       none_more never = by tells
         where
           Told : Type 0
           Told = behind t v.deferred ≡ behind t m.deferred
 
-          put_more : (word block : ℕ) (place : At) (x : Table) (k : ℕ) (r : Role) → due_in_row (machine_of u) ≡ Some (ToPut word place) → IsWordOf block place → due_in_row to.1 ≡ None
+          put_more : (word block : ℕ) (place : At) (x : TableId) (k : ℕ) (r : Role) → due_in_row (machine_of u) ≡ Some (ToPut word place) → IsWordOf block place → due_in_row to.1 ≡ None
               → known.roles block ≡ role.Table x k → effects ≡ carried x r → Told
           put_more word block place x k (role.Pair n) due its gone table told =
               as_told (Deferred n x ∷ []) told (behind t m.deferred) (no_more_behind n t x m.deferred (never word block place x k n due its gone table told))
@@ -199,7 +199,7 @@ module _ {K V : Type 0} (same : K → K → Bool) (hash : ℕ → K → ℕ) (na
             put_on (LAST_SLOT + 1) i b c (w.row i) (w3.row i) w.uses w3.uses reached.good.state next.good.state puts next.told
 
         -- one that puts nothing there tells of none that waits there
-        never : ((b : ℕ) → IsPutting b c (w.row i) → HasPut (w3.row i) → ⊥) → (word block : ℕ) (place : At) (x : Table) (k n : ℕ) → due_in_row (machine_of u) ≡ Some (ToPut word place) → IsWordOf block place
+        never : ((b : ℕ) → IsPutting b c (w.row i) → HasPut (w3.row i) → ⊥) → (word block : ℕ) (place : At) (x : TableId) (k n : ℕ) → due_in_row (machine_of u) ≡ Some (ToPut word place) → IsWordOf block place
             → due_in_row to.1 ≡ None → known.roles block ≡ role.Table x k → effects ≡ Deferred n x ∷ [] → x ≡ t → ⊥
         never none word block place x k n due its gone table told one = elim (row_then (block_in word) puts) as (λ _. ⊥) [
           | inl on ↦
@@ -209,7 +209,7 @@ module _ {K V : Type 0} (same : K → K → Bool) (hash : ℕ → K → ℕ) (na
         ]
           where
             same_block : block ≡ c
-            same_block = whole.blocks.tables_once block c k len t (table ∙ ap (λ (y : Table). role.Table y k) one) was
+            same_block = whole.blocks.tables_once block c k len t (table ∙ ap (λ (y : TableId). role.Table y k) one) was
 
             puts : IsPutting (block_in word) c (w.row i)
             puts =
@@ -232,7 +232,7 @@ module _ {K V : Type 0} (same : K → K → Bool) (hash : ℕ → K → ℕ) (na
             over_there : HasPut (to.4.w2.row i)
             over_there = subst (λ (z : World (Node K V)). HasPut (z.row i)) (sym is) over
 
-            put_now : (word block : ℕ) (place : At) (x : Table) (k : ℕ) (r : Role) → due_in_row (machine_of u) ≡ Some (ToPut word place) → IsWordOf block place → known.roles block ≡ role.Table x k
+            put_now : (word block : ℕ) (place : At) (x : TableId) (k : ℕ) (r : Role) → due_in_row (machine_of u) ≡ Some (ToPut word place) → IsWordOf block place → known.roles block ≡ role.Table x k
                 → named known word ≡ r → IsPairRole r → effects ≡ carried x r → Lies
             put_now word block place x k (role.Pair n) due one table is_named pair told =
                 let alike : Some (ToPut word place) ≡ Some (ToPut its.word its.place) = sym due ∙ due_is in
@@ -244,7 +244,7 @@ module _ {K V : Type 0} (same : K → K → Bool) (hash : ℕ → K → ℕ) (na
                 let pair_is : known.roles b ≡ role.Pair n = ap known.roles (sym names ∙ ap block_in (sym words)) ∙ is_named in
                 let waits : behind t v.deferred ≡ n ∷ behind t m.deferred =
                 as_told (Deferred n x ∷ []) told (n ∷ behind t m.deferred)
-                (ap (λ (y : Table). behind t (record { pair = n; behind = y } ∷ m.deferred)) same_one ∙ more_behind n t m.deferred) in
+                (ap (λ (y : TableId). behind t (record { pair = n; behind = y } ∷ m.deferred)) same_one ∙ more_behind n t m.deferred) in
                 let rest_is : each_of known2.roles rest ≡ each_of role.Pair (behind t m.deferred) =
                 order_as m m known known2 w shows c len o t rest was used_was are_rest (λ d k some e. noted d (role.Pair k) e tt) refl in
                 ap (λ (l : List ℕ). each_of known2.roles l) is_first ∙ ap (λ (r : Role). r ∷ each_of known2.roles rest) (noted b (role.Pair n) pair_is tt)

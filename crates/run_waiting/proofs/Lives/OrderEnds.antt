@@ -16,7 +16,7 @@ use Rattle.run_debts.specs.Given.TablesNodes.{deferred_word}
 use Rattle.run_debts.specs.Given.TablesDeclared.node.Node.{Node}
 use Rattle.run_debts.specs.Given.RawDeclared.machines.end_map.EndMap.{EndMap}
 use Rattle.run_debts.specs.Given.RunsDeclared.effect.Effect.{Effect}
-use Rattle.run_debts.specs.Given.RunsDeclared.effect.Table.{Table}
+use Rattle.run_debts.specs.Given.RunsDeclared.effect.TableId.{TableId}
 use Rattle.run_debts.specs.Given.SchedulesEffects.{with_effects}
 use Rattle.run_debts.specs.Given.SchedulesMoment.{Deferral, Moment}
 use Rattle.run_debts.specs.Given.SchedulesViews.{behind}
@@ -96,14 +96,14 @@ module _ {K V : Type 0} (same : K → K → Bool) (hash : ℕ → K → ℕ) (na
   first : Reached deferred_word old.batch_size s.world
   first = came_reached old.batch_size s.world at.together.makings.standing.came
 
-  was_table : (c len : ℕ) (t : Table) → known2.roles c ≡ role.Table t len → known.roles c ≡ role.Table t len
+  was_table : (c len : ℕ) (t : TableId) → known2.roles c ≡ role.Table t len → known.roles c ≡ role.Table t len
   was_table c len t is = sym ((end_keeps same hash name m known s old new at whole i f here end said steps did map not_there comes).0 c (subst IsOfMap (sym is) tt)) ∙ is
 
   still_pair : (b n : ℕ) → IsSome (value_at did.w2.memory b) → known.roles b ≡ role.Pair n → known2.roles b ≡ role.Pair n
   still_pair b n there is = (end_keeps same hash name m known s old new at whole i f here end said steps did map not_there comes).1 b there (subst IsOfMap (sym is) tt) ∙ is
 
   -- the same pairs wait behind a table that is left
-  pub same_behind : (c len : ℕ) (t : Table) → known2.roles c ≡ role.Table t len → behind t v.deferred ≡ behind t m.deferred
+  pub same_behind : (c len : ℕ) (t : TableId) → known2.roles c ≡ role.Table t len → behind t v.deferred ≡ behind t m.deferred
   same_behind c len t is = elim (says same hash name m known s old new at whole i f here end said steps did map not_there comes) as (λ _. behind t v.deferred ≡ behind t m.deferred) [
     | inl it ↦ ap (λ (ds : List Deferral). behind t ds) (calm_deferred (Some map) effects m it.0)
     | inr it ↦
@@ -120,7 +120,7 @@ module _ {K V : Type 0} (same : K → K → Bool) (hash : ℕ → K → ℕ) (na
         where
           other : t ≡ u → ⊥
           other one =
-              let one_block : c ≡ x = whole.blocks.tables_once c x len k t (was_table c len t is) (e ∙ ap (λ (y : Table). role.Table y k) (sym one)) in
+              let one_block : c ≡ x = whole.blocks.tables_once c x len k t (was_table c len t is) (e ∙ ap (λ (y : TableId). role.Table y k) (sym one)) in
               let gone : (known_after (Ending map) (changed.Took x) known).roles c ≡ role.Table t len = ap (λ (y : Changed). (known_after (Ending map) y known).roles c) (sym took) ∙ is in
               subst IsOfMap (put_here x role.Free known.roles c one_block) (subst IsOfMap (sym gone) tt)
 

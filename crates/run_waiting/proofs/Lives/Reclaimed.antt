@@ -16,7 +16,7 @@ use Rattle.run_debts.specs.Given.TablesDeclared.node.Node.{Node}
 use Rattle.run_debts.specs.Given.RunsDeclared.effect.Effect.{Effect}
 use Rattle.run_debts.specs.Given.RunsDeclared.effect.Effect.TheVariants.{Asked}
 use Rattle.run_debts.specs.Given.RunsDeclared.effect.Growth.TheVariants.{ABucket}
-use Rattle.run_debts.specs.Given.RunsDeclared.effect.Table.{Table}
+use Rattle.run_debts.specs.Given.RunsDeclared.effect.TableId.{TableId}
 use Rattle.run_debts.specs.Given.SchedulesEffects.{with_effects, AtEachEffect}
 use Rattle.run_debts.specs.Given.SchedulesMoment.{Moment}
 use Rattle.run_debts.specs.Given.SchedulesViews.{is_stage, is_retired}
@@ -73,17 +73,17 @@ module _ {K V : Type 0} (m : Moment K V) (known : Known) (blocks : ShowsUnreclai
   -- A table was one before, and none that is reclaimed.
   abbrev pub StaysSo : Changed → Type 0
   StaysSo x =
-      (b len : ℕ) (t : Table) → (known_after Row x known).roles b ≡ role.Table t len → (known.roles b ≡ role.Table t len) × NoneEnds t (effects_of Row known x)
+      (b len : ℕ) (t : TableId) → (known_after Row x known).roles b ≡ role.Table t len → (known.roles b ≡ role.Table t len) × NoneEnds t (effects_of Row known x)
 
-  same_roles : (known3 : Known) (effects : List Effect) → known3.roles ≡ known.roles → ((t : Table) → NoneEnds t effects)
-      → (b len : ℕ) (t : Table) → known3.roles b ≡ role.Table t len → (known.roles b ≡ role.Table t len) × NoneEnds t effects
+  same_roles : (known3 : Known) (effects : List Effect) → known3.roles ≡ known.roles → ((t : TableId) → NoneEnds t effects)
+      → (b len : ℕ) (t : TableId) → known3.roles b ≡ role.Table t len → (known.roles b ≡ role.Table t len) × NoneEnds t effects
   same_roles known3 effects roles none b len t is = (sym (ap (λ (f : ℕ → Role). f b) roles) ∙ is, none t)
 
-  nothing_ends : (q : Bool) (t : Table) → NoneEnds t (if q then [] else [])
+  nothing_ends : (q : Bool) (t : TableId) → NoneEnds t (if q then [] else [])
   nothing_ends true t = tt
   nothing_ends false t = tt
 
-  roomed_ends : (q : Bool) (t : Table) → NoneEnds t (if q then [] else Asked ABucket ∷ [])
+  roomed_ends : (q : Bool) (t : TableId) → NoneEnds t (if q then [] else Asked ABucket ∷ [])
   roomed_ends true t = tt
   roomed_ends false t = (λ z. z, tt)
 
@@ -101,7 +101,7 @@ module _ {K V : Type 0} (m : Moment K V) (known : Known) (blocks : ShowsUnreclai
       let was = sym (put_back known.roles x role.Free (λ of. of) b of_map) ∙ e in (
         was,
         taken_ends t Row (known.roles x) (λ u n its_table one.
-            subst IsOfMap (put_here x role.Free known.roles b (blocks.tables_once b x len n t was (its_table ∙ ap (λ (y : Table). role.Table y n) one))) of_map),
+            subst IsOfMap (put_here x role.Free known.roles b (blocks.tables_once b x len n t was (its_table ∙ ap (λ (y : TableId). role.Table y n) one))) of_map),
       )
   stays_so (changed.Roomed bucket had) is =
       same_roles (known_after Row (changed.Roomed bucket had) known) (if had && nat_lt bucket known.buckets then [] else Asked ABucket ∷ []) (roomed_as_many Row known bucket had).0
@@ -141,7 +141,7 @@ module _ {K V : Type 0} (same : K → K → Bool) (hash : ℕ → K → ℕ) (na
   its = kept old.batch_size w came there i w2 (leads row here).2.1
 
   -- the table that is taken
-  had_retired : (x len : ℕ) (t : Table) → told ≡ changed.Took x → known.roles x ≡ role.Table t len → is_stage is_retired t m ≡ true
+  had_retired : (x len : ℕ) (t : TableId) → told ≡ changed.Took x → known.roles x ≡ role.Table t len → is_stage is_retired t m ≡ true
   had_retired x len t is table =
       let retired = told_retired old.batch_size w came there i w2 (leads row here).2.1 told leaves x is in
       let given : is_given (its.good.state.life x) ≡ true = sym (its.good.inv.logged.given x) ∙ ap (was_retired x) its.good.logged ∙ retired in

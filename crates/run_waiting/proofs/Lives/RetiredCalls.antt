@@ -4,7 +4,7 @@ use Rattle.std.proofs.Common.{refl, ap, sym, subst, ◌∙◌, inl, inr}
 use Rattle.std.proofs.lemmas.Bool.{cases_eq, ne_eqb}
 use Rattle.run_debts.specs.Given.SeizeWordsMem.{value_at}
 use Rattle.run_debts.specs.Given.SeizeWordsWord.{block_in}
-use Rattle.run_debts.specs.Given.SeizeDeclared.progress.Progress.{Progress}
+use Rattle.run_debts.specs.Given.SeizeDeclared.advance.Advance.{Advance}
 use Rattle.run_debts.specs.Given.SeizeDeclared.rows.defer.Deferring.{Deferring}
 use Rattle.run_debts.specs.Given.SeizeDeclared.rows.defer.Deferring.TheVariants as deferring
 use Rattle.run_debts.specs.Given.SeizeWorld.{World, Row, Rests, Hand, NoBlock, Making, InUse, Parting, Cutting, Handed, LeftTo, Request, Event, Begin, Step, Begins, Runs, Happens, Steps', with_at}
@@ -30,7 +30,7 @@ use Rattle.run_debts.specs.Given.RawDeclared.machines.progress.Progress.{Progres
 use Rattle.run_debts.specs.Given.RawDeclared.machines.progress.Progress.TheVariants as progress
 use Rattle.run_debts.specs.Given.RunsDeclared.effect.Effect.{Effect}
 use Rattle.run_debts.specs.Given.RunsDeclared.effect.Effect.TheVariants.{Reclaimed, Taken}
-use Rattle.run_debts.specs.Given.RunsDeclared.effect.Table.{Table}
+use Rattle.run_debts.specs.Given.RunsDeclared.effect.TableId.{TableId}
 use Rattle.run_debts.specs.Given.RunsDeclared.effect.Thing.TheVariants.{APair, ATable}
 use Rattle.run_debts.specs.Given.SchedulesEffects.{with_effects}
 use Rattle.run_debts.specs.Given.SchedulesMoment.{Moment}
@@ -94,7 +94,7 @@ users_handed {K} {V} size b events w v r value there users runs handed = by (w.h
     by (LeftTo i) e = absurd (not_own (subst IsUsersOwn (sym e) tt))
 
 -- which effects end no table: those that hand nothing over, and those that a row within a call tells
-module _ (t : Table) where
+module _ (t : TableId) where
   hands_none : (f : Effect) → HandsNothing f → EndsIt t f → ⊥
   hands_none (Reclaimed (ATable u)) hands ends = hands
   hands_none (Reclaimed (APair n)) hands ends = hands
@@ -113,7 +113,7 @@ module _ (t : Table) where
   retired_ends (role.OwnTable turn shape) = tt
   retired_ends (role.Counter of) = tt
 
-  carried_ends : (u : Table) (r : Role) → NoneEnds t (carried u r)
+  carried_ends : (u : TableId) (r : Role) → NoneEnds t (carried u r)
   carried_ends u (role.Pair n) = (λ z. z, tt)
   carried_ends u role.Free = tt
   carried_ends u (role.OwnPair i) = tt
@@ -211,22 +211,22 @@ module _ {K V : Type 0} (same : K → K → Bool) (hash : K → ℕ) (setting : 
 -- what becomes of the tables
 module _ {K V : Type 0} (size : ℕ) (m v : Moment K V) (known : Known) (s t : Scene K V) (shows : ShowsRetired m known s) (roles : (b : ℕ) → HasRole s.world m.stored b (known.roles b))
     (owning : OwnAreMade known s.world) (reached : Reached deferred_word size s.world) where
-  abbrev Then : ℕ → Table → Type 0
+  abbrev Then : ℕ → TableId → Type 0
   Then b x = (is_stage is_retired x v ≡ true) ⊎ ((j : ℕ) × HasCall t j × IsToRetire b (t.world.row j))
 
   -- one of a map, or of somebody's own, is in its block, and has a place
-  table_there : (b len : ℕ) (x : Table) → WasTable known b x len → (limit turn : ℕ) × (value_at s.world.memory b ≡ Some (node.Table len limit turn)) × (len ≢ 0)
+  table_there : (b len : ℕ) (x : TableId) → WasTable known b x len → (limit turn : ℕ) × (value_at s.world.memory b ≡ Some (node.Table len limit turn)) × (len ≢ 0)
   table_there b len x (inl is) = (let has = subst (HasRole s.world m.stored b) is (roles b) in (_, _, has.1, shows.lengths b len x is))
   table_there b len x (inr (turn, shape, is, e)) =
       (let has = subst (HasRole s.world m.stored b) is (roles b) in (_, _, has.1 ∙ ap (λ (n : ℕ). Some (node.Table n shape.limit turn)) e, λ z. has.0 (e ∙ z)))
 
   -- one that the collector had is noted as one of a map
-  was_noted : (b len : ℕ) (x : Table) → WasTable known b x len → s.world.hand b ≡ Handed → known.roles b ≡ role.Table x len
+  was_noted : (b len : ℕ) (x : TableId) → WasTable known b x len → s.world.hand b ≡ Handed → known.roles b ≡ role.Table x len
   was_noted b len x (inl is) handed = is
   was_noted b len x (inr (turn, shape, is, e)) handed = absurd (let made = (owning b turn shape is).1 in cc (made, handed))
 
   -- where the collector had it
-  had : (b len : ℕ) (x : Table) → WasTable known b x len → s.world.hand b ≡ Handed → (is_stage is_retired x m ≡ true → is_stage is_retired x v ≡ true)
+  had : (b len : ℕ) (x : TableId) → WasTable known b x len → s.world.hand b ≡ Handed → (is_stage is_retired x m ≡ true → is_stage is_retired x v ≡ true)
       → ((j : ℕ) → HasCall s j → IsToRetire b (s.world.row j) → Then b x) → Then b x
   had b len x was handed still due = elim (shows.tables b len x (was_noted b len x was handed) handed) as (λ _. Then b x) [
     | inl so ↦ inl (still so)
@@ -235,7 +235,7 @@ module _ {K V : Type 0} (size : ℕ) (m v : Moment K V) (known : Known) (s t : S
 
   -- by users
   pub users_retired : (acting : Acting) (told : Changed) (events : List (Event (Node K V))) → AllUsers events → Runs deferred_word size events s.world t.world → CallsStay s t
-      → ((x : Table) → is_stage is_retired x m ≡ true → is_stage is_retired x v ≡ true) → ShowsRetired v (known_after acting told known) t
+      → ((x : TableId) → is_stage is_retired x m ≡ true → is_stage is_retired x v ≡ true) → ShowsRetired v (known_after acting told known) t
   users_retired acting told events users runs stay still = record {
     tables = λ b len x is handed.
         let was = role_back acting known b len x told is in
@@ -311,14 +311,14 @@ module _ {K V : Type 0} (same : K → K → Bool) (hash : ℕ → K → ℕ) (na
       by (progress.Refused fault) none = absurd (on (to.4.rests none))
       by _ goes = goes
 
-  abbrev Result : ℕ → Table → Type 0
+  abbrev Result : ℕ → TableId → Type 0
   Result = Then size m v known s s2 shows whole.all.shown.blocks.roles owning reached
 
-  then_long : (b len : ℕ) (x : Table) → known2.roles b ≡ role.Table x len → len ≢ 0
+  then_long : (b len : ℕ) (x : TableId) → known2.roles b ≡ role.Table x len → len ≢ 0
   then_long b len x is =
       (table_there size m v known s s2 shows whole.all.shown.blocks.roles owning reached b len x (role_back (acts.Call i map) known b len x told is)).3
 
-  others_due : (b : ℕ) (x : Table) (j : ℕ) → HasCall s j → (j ≡ i → ⊥) → IsToRetire b (s.world.row j) → Result b x
+  others_due : (b : ℕ) (x : TableId) (j : ℕ) → HasCall s j → (j ≡ i → ⊥) → IsToRetire b (s.world.row j) → Result b x
   others_due b x j call ne due =
       let row = subst (IsToRetire b) (sym (to.4.rows j ne)) due in
       elim (stay j call) as (λ _. Result b x) [
@@ -339,11 +339,11 @@ module _ {K V : Type 0} (same : K → K → Bool) (hash : ℕ → K → ℕ) (na
     tells : RowTells i map known effects (due_in_row (machine_of u)) (due_in_row to.1)
     tells = rows_tell_due K V same hash name m known s old new at whole.all.shown whole.all.rows entries owning map i u here said leads other
 
-    still : (x : Table) → is_stage is_retired x m ≡ true → is_stage is_retired x v ≡ true
+    still : (x : TableId) → is_stage is_retired x m ≡ true → is_stage is_retired x v ≡ true
     still x so = still_retired x (Some (name i)) (Some map) effects m (row_ends x i map known effects (due_in_row (machine_of u)) (due_in_row to.1) tells) so
 
     -- what its row is to retire
-    its_due : (b len : ℕ) (x : Table) → known.roles b ≡ role.Table x len → IsDue b (due_in_row (machine_of u)) → (to.4.w2.row i ≡ Rests → ⊥) → Result b x
+    its_due : (b len : ℕ) (x : TableId) → known.roles b ≡ role.Table x len → IsDue b (due_in_row (machine_of u)) → (to.4.w2.row i ≡ Rests → ⊥) → Result b x
     its_due b len x table due on = by tells
       where
         by : RowTells i map known effects (due_in_row (machine_of u)) (due_in_row to.1) → Result b x
@@ -394,7 +394,7 @@ module _ {K V : Type 0} (same : K → K → Bool) (hash : ℕ → K → ℕ) (na
               let row = did deferred_word size begun (happens_reached deferred_word size (Begin i request) s.world begun reached begin) i w3 step in
               begun_handed deferred_word size i s.world begun b request begin.1 (handed_before row.effects begun.hand b (sym (ap (λ (h : ℕ → Hand). h b) row.hands) ∙ in_w3 b handed))
 
-          by : (b len : ℕ) (x : Table) → WasTable known b x len → HandedBy deferred_word s.world request b → Result b x
+          by : (b len : ℕ) (x : TableId) → WasTable known b x len → HandedBy deferred_word s.world request b → Result b x
           by b len x was (Retires slot e) =
               let due = begun_due deferred_word size i s.world begun w3 slot b (subst (λ (r : Request). Begins deferred_word size i r s.world begun) e begin.1) step in
               let next = goes_on (goes_in b due) in
@@ -431,7 +431,7 @@ module _ {K V : Type 0} (same : K → K → Bool) (hash : ℕ → K → ℕ) (na
 
 -- A making steps as users do, and ends no table.
 module _ {K V : Type 0} (same : K → K → Bool) (hash : ℕ → K → ℕ) (name : ℕ → List ℕ) (m : Moment K V) (known : Known) (s : Scene K V) (old new : Held K V) (at : IsAt same hash old s)
-    (whole : ShowsWhole same name m known s) (owning : OwnAreMade known s.world) (shows : ShowsRetired m known s) (i : ℕ) (said : Progress Setting) (leads : MakingLeads same hash i said s old new)
+    (whole : ShowsWhole same name m known s) (owning : OwnAreMade known s.world) (shows : ShowsRetired m known s) (i : ℕ) (said : Advance Setting) (leads : MakingLeads same hash i said s old new)
     (b : Beginning K) (here : s.makers i ≡ Some b) (of : Option ℕ) (was_new : WasNew b.map said m) where
   pub making_retired : ShowsRetired (with_effects None of (effects_of (acts.Making b.map) known new.changed) m) (known_after (acts.Making b.map) new.changed known) (record s { world = (leads b here).2.step.w2 })
   making_retired =

@@ -16,7 +16,7 @@ use Rattle.run_debts.specs.Given.TablesDeclared.node.Node.{Node}
 use Rattle.run_debts.specs.Given.RawDeclared.machines.end_map.EndMap.{EndMap}
 use Rattle.run_debts.specs.Given.RunsDeclared.effect.Effect.{Effect}
 use Rattle.run_debts.specs.Given.RunsDeclared.effect.Effect.TheVariants.{Reclaimed, Taken}
-use Rattle.run_debts.specs.Given.RunsDeclared.effect.Table.{Table}
+use Rattle.run_debts.specs.Given.RunsDeclared.effect.TableId.{TableId}
 use Rattle.run_debts.specs.Given.RunsDeclared.effect.Thing.TheVariants.{APair, ATable}
 use Rattle.run_debts.specs.Given.SchedulesEffects.{with_effects}
 use Rattle.run_debts.specs.Given.SchedulesMoment.{Moment}
@@ -54,13 +54,13 @@ handed_lives (IsIn x) handed = refl
 handed_lives (IsDoomed i) handed = refl
 handed_lives _ handed = absurd (cc handed)
 
-calm_ends : (t : Table) (f : Effect) → is_calm f ≡ true → EndsIt t f → ⊥
+calm_ends : (t : TableId) (f : Effect) → is_calm f ≡ true → EndsIt t f → ⊥
 calm_ends t (Reclaimed (ATable u)) calm ends = absurd (cc calm)
 calm_ends t (Reclaimed (APair n)) calm ends = ends
 calm_ends t (Taken u) calm ends = absurd (cc calm)
 calm_ends t _ calm ends = ends
 
-calm_end : (t : Table) (effects : List Effect) → AllCalm effects → NoneEnds t effects
+calm_end : (t : TableId) (effects : List Effect) → AllCalm effects → NoneEnds t effects
 calm_end t [] all = tt
 calm_end t (f ∷ effects) all = (calm_ends t f all.0, calm_end t effects all.1)
 
@@ -97,17 +97,17 @@ module _ {K V : Type 0} (same : K → K → Bool) (hash : ℕ → K → ℕ) (na
       by zero e = kept e (times b (left_by did.deed)) refl
       by (suc n) e = absurd (none_some (value_at did.w2.memory b) there (did.spares.gone b (omega (arith, e))))
 
-  was_table : (b len : ℕ) (t : Table) → known2.roles b ≡ role.Table t len → known.roles b ≡ role.Table t len
+  was_table : (b len : ℕ) (t : TableId) → known2.roles b ≡ role.Table t len → known.roles b ≡ role.Table t len
   was_table b len t is = sym ((end_keeps same hash name m known s old new at whole i f here end said steps did map not_there comes).0 b (subst IsOfMap (sym is) tt)) ∙ is
 
-  ends_none : (b len : ℕ) (t : Table) → known2.roles b ≡ role.Table t len → NoneEnds t (effects_of (Ending map) known told)
+  ends_none : (b len : ℕ) (t : TableId) → known2.roles b ≡ role.Table t len → NoneEnds t (effects_of (Ending map) known told)
   ends_none b len t is = elim (says same hash name m known s old new at whole i f here end said steps did map not_there comes) as (λ _. NoneEnds t (effects_of (Ending map) known told)) [
     | inl it ↦ calm_end t (effects_of (Ending map) known told) it.0
     | inr it ↦
         let gone : (known_after (Ending map) (changed.Took it.0) known).roles b ≡ role.Table t len = ap (λ (x : Changed). (known_after (Ending map) x known).roles b) (sym it.1) ∙ is in
         subst (λ (x : Changed). NoneEnds t (effects_of (Ending map) known x)) (sym it.1)
         (taken_ends t (Ending map) (known.roles it.0) (λ u n its_table one.
-        let same_one = whole.blocks.tables_once b it.0 len n t (was_table b len t is) (its_table ∙ ap (λ (y : Table). role.Table y n) one) in
+        let same_one = whole.blocks.tables_once b it.0 len n t (was_table b len t is) (its_table ∙ ap (λ (y : TableId). role.Table y n) one) in
         subst IsOfMap (put_here it.0 role.Free known.roles b same_one) (subst IsOfMap (sym gone) tt)))
   ]
 

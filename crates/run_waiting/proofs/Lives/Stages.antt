@@ -10,7 +10,7 @@ use Rattle.run_debts.specs.Given.TablesDeclared.table_words.TheConstants.{NEXT}
 use Rattle.run_debts.specs.Given.RunsDeclared.shapes.TableShape.{TableShape}
 use Rattle.run_debts.specs.Given.RunsDeclared.effect.Effect.{Effect}
 use Rattle.run_debts.specs.Given.RunsDeclared.effect.Effect.TheVariants.{Asked, PairMade, PairGivenUp, TableMade, TableGivenUp, Linked, Promoted, Copied, Stored, Replaced, Removed, Counted, Deferred, Retired, Reclaimed, Ended, Taken}
-use Rattle.run_debts.specs.Given.RunsDeclared.effect.Table.{Table}
+use Rattle.run_debts.specs.Given.RunsDeclared.effect.TableId.{TableId}
 use Rattle.run_debts.specs.Given.RunsDeclared.effect.Thing.TheVariants.{APair, ATable}
 use Rattle.run_debts.specs.Given.SchedulesEffects.{at_stage, with_effect, with_effects}
 use Rattle.run_debts.specs.Given.SchedulesMoment.{Stage, IsLinked, IsRetired, TableThere, Moment}
@@ -39,12 +39,12 @@ any_map p q f turn (x ∷ xs) e = by (p x) refl e (any_map p q f turn xs)
     by true is k rest = ap (λ (z : Bool). z || list_any q (map f xs)) (turn x is)
     by false is k rest = or_right (q (f x)) (list_any q (map f xs)) (rest k)
 
-module _ (t : Table) where
+module _ (t : TableId) where
   abbrev Test : TableThere → Bool
   Test x = same_table x.table t && is_retired x.stage
 
   -- another table comes to another stage
-  other_stage : (u : Table) (to : Stage) → (u ≡ t → ⊥) → (xs : List TableThere) → list_any Test xs ≡ true → list_any Test (map (at_stage u to) xs) ≡ true
+  other_stage : (u : TableId) (to : Stage) → (u ≡ t → ⊥) → (xs : List TableThere) → list_any Test xs ≡ true → list_any Test (map (at_stage u to) xs) ≡ true
   other_stage u to ne xs e = any_map Test Test (at_stage u to) turn xs e
     where
       turn : (x : TableThere) → Test x ≡ true → Test (at_stage u to x) ≡ true
@@ -58,7 +58,7 @@ module _ (t : Table) where
           by false here = is
 
   -- one is retired
-  retired_stage : (u : Table) (xs : List TableThere) → list_any Test xs ≡ true → list_any Test (map (at_stage u IsRetired) xs) ≡ true
+  retired_stage : (u : TableId) (xs : List TableThere) → list_any Test xs ≡ true → list_any Test (map (at_stage u IsRetired) xs) ≡ true
   retired_stage u xs e = any_map Test Test (at_stage u IsRetired) turn xs e
     where
       turn : (x : TableThere) → Test x ≡ true → Test (at_stage u IsRetired x) ≡ true
@@ -119,8 +119,8 @@ module _ (t : Table) where
     still_retired [] m none is = is
     still_retired (f ∷ effects) m none is = still_retired effects (with_effect caller acted f m) none.1 (still_one f m none.0 is)
 
-module _ (t : Table) (acting : Acting) where
-  table_ends : (a : Acting) (u : Table) → EndsIt t (table_taken a u) → u ≡ t
+module _ (t : TableId) (acting : Acting) where
+  table_ends : (a : Acting) (u : TableId) → EndsIt t (table_taken a u) → u ≡ t
   table_ends (acts.Ending map) u ends = ends
   table_ends (acts.Call caller map) u ends = ends
   table_ends (acts.Making map) u ends = ends
@@ -133,7 +133,7 @@ module _ (t : Table) (acting : Acting) where
   pair_ends acts.Row n ends = ends
 
   -- what is taken ends another table, if one
-  pub taken_ends : (r : Role) → ((u : Table) (n : ℕ) → r ≡ role.Table u n → u ≡ t → ⊥) → NoneEnds t (taken_by acting r)
+  pub taken_ends : (r : Role) → ((u : TableId) (n : ℕ) → r ≡ role.Table u n → u ≡ t → ⊥) → NoneEnds t (taken_by acting r)
   taken_ends role.Free other = tt
   taken_ends (role.OwnPair i) other = (λ z. z, tt)
   taken_ends (role.OwnTable turn shape) other = (λ z. z, tt)
@@ -142,10 +142,10 @@ module _ (t : Table) (acting : Acting) where
   taken_ends (role.Counter of) other = tt
 
 -- a table of a map, or of somebody's own
-abbrev pub WasTable : Known → ℕ → Table → ℕ → Type 0
+abbrev pub WasTable : Known → ℕ → TableId → ℕ → Type 0
 WasTable known b t len = (known.roles b ≡ role.Table t len) ⊎ ((turn : ℕ) × (shape : TableShape) × (known.roles b ≡ role.OwnTable turn shape) × (shape.len ≡ len))
 
-module _ (acting : Acting) (known : Known) (b len : ℕ) (t : Table) where
+module _ (acting : Acting) (known : Known) (b len : ℕ) (t : TableId) where
   abbrev Was : Known → Type 0
   Was known2 = known2.roles b ≡ role.Table t len → WasTable known b t len
 

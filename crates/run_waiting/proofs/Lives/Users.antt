@@ -11,7 +11,7 @@ use Rattle.run_debts.proofs.Given.SeizeMemoryWords.Shows.{lives}
 use Rattle.run_debts.proofs.Given.SeizeMemoryWords.There.{value_there}
 use Rattle.run_debts.proofs.Given.SeizeMovesState.Ghost.{Life}
 use Rattle.run_debts.specs.Given.TablesNodes.{deferred_word}
-use Rattle.run_debts.specs.Given.RunsDeclared.effect.Table.{Table}
+use Rattle.run_debts.specs.Given.RunsDeclared.effect.TableId.{TableId}
 use Rattle.run_debts.specs.Given.SchedulesMoment.{Behind}
 use Rattle.run_debts.specs.Given.RuleInWorld.{AllUsers}
 use Rattle.run_debts.proofs.Given.RuleWorld.Hands.{at_cases}
@@ -124,7 +124,7 @@ users_keep_waiting K V size m v known known2 w w2 came waiting events users runs
     after : After deferred_word size w w2
     after = all_after deferred_word size events w w2 (runs_kept deferred_word size came.1 _ w (start_kept deferred_word size came.0) came.2) users runs
 
-    lies : (n : ℕ) (t : Table) → LiesBehind known w n t → LiesBehind known2 w2 n t
+    lies : (n : ℕ) (t : TableId) → LiesBehind known w n t → LiesBehind known2 w2 n t
     lies n t l = record { pair = l.pair; is_pair = pairs l.pair n l.is_pair; table = l.table; len = l.len; is_table = tables l.table l.len t l.is_table; waits = by l.waits }
       where
         by : (waits_behind l.pair w.log ≡ Some l.table) ⊎ (IsLeft (w.hand l.pair) × IsLeft (w.hand l.table))

@@ -11,7 +11,7 @@ use Rattle.run_debts.specs.Given.TablesDeclared.node.Node.{Node}
 use Rattle.run_debts.specs.Given.RunsDeclared.effect.Effect.{Effect}
 use Rattle.run_debts.specs.Given.RunsDeclared.effect.Effect.TheVariants.{Asked, Reclaimed, Taken}
 use Rattle.run_debts.specs.Given.RunsDeclared.effect.Growth.TheVariants.{ABucket}
-use Rattle.run_debts.specs.Given.RunsDeclared.effect.Table.{Table}
+use Rattle.run_debts.specs.Given.RunsDeclared.effect.TableId.{TableId}
 use Rattle.run_debts.specs.Given.RunsDeclared.effect.Thing.TheVariants.{APair, ATable}
 use Rattle.run_debts.specs.Given.SchedulesEffects.{AtEachEffect}
 use Rattle.run_debts.specs.Given.SchedulesMoment.{Place, Behind, Moment}
@@ -47,7 +47,7 @@ use Rattle.run_debts.specs.Given.ScenesScene.{IsOnSlot, Scene, slot_of}
 
 -- by the same log, with the same hands
 module _ {K V : Type 0} (known : Known) (w w2 : World (Node K V)) (waits : (b : ℕ) → waits_behind b w2.log ≡ waits_behind b w.log) (hands : w2.hand ≡ w.hand) where
-  lies_as : (n : ℕ) (t : Table) → LiesBehind known w n t → LiesBehind known w2 n t
+  lies_as : (n : ℕ) (t : TableId) → LiesBehind known w n t → LiesBehind known w2 n t
   lies_as n t l = record { pair = l.pair; is_pair = l.is_pair; table = l.table; len = l.len; is_table = l.is_table; waits = by l.waits }
     where
       by : (waits_behind l.pair w.log ≡ Some l.table) ⊎ (IsLeft (w.hand l.pair) × IsLeft (w.hand l.table))

@@ -13,7 +13,7 @@ use Rattle.run_debts.specs.Given.TablesDeclared.node.Node.TheVariants as node
 use Rattle.run_debts.specs.Given.RawDeclared.machines.end_map.EndMap.{EndMap}
 use Rattle.run_debts.specs.Given.RunsDeclared.effect.Effect.{Effect}
 use Rattle.run_debts.specs.Given.RunsDeclared.effect.Effect.TheVariants.{PairGivenUp, TableGivenUp, Deferred, Reclaimed, Ended, Taken}
-use Rattle.run_debts.specs.Given.RunsDeclared.effect.Table.{Table}
+use Rattle.run_debts.specs.Given.RunsDeclared.effect.TableId.{TableId}
 use Rattle.run_debts.specs.Given.RunsDeclared.effect.Thing.TheVariants.{APair, ATable}
 use Rattle.run_debts.specs.Given.SchedulesEffects.{all_at, deferred_by, with_effect, with_effects}
 use Rattle.run_debts.specs.Given.SchedulesLists.{is_among}
@@ -111,7 +111,7 @@ module _ {K V : Type 0} (same : K → K → Bool) (hash : ℕ → K → ℕ) (na
   pair_value : (b n : ℕ) → known.roles b ≡ role.Pair n → (k : K) × (x : V) × (value_at w.memory b ≡ Some (node.Pair k x))
   pair_value b n is = (let has = subst (λ (r : Role). HasRole w m.stored b r) is (whole.all.shown.blocks.roles b) in (has.0, has.1, has.3))
 
-  table_value : (b len : ℕ) (t : Table) → known.roles b ≡ role.Table t len → (limit : ℕ) × (value_at w.memory b ≡ Some (node.Table len limit t.turn))
+  table_value : (b len : ℕ) (t : TableId) → known.roles b ≡ role.Table t len → (limit : ℕ) × (value_at w.memory b ≡ Some (node.Table len limit t.turn))
   table_value b len t is = (let has = subst (λ (r : Role). HasRole w m.stored b r) is (whole.all.shown.blocks.roles b) in (has.0, has.1))
 
   -- a table of the map that ends is one still
@@ -122,7 +122,7 @@ module _ {K V : Type 0} (same : K → K → Bool) (hash : ℕ → K → ℕ) (na
       ap (value_at w.memory) is ∙ since.still.value ∙ (shows.tables t made (shows.linked t from made)).value
 
   -- the block of what waits is not taken
-  pair_untaken : (n : ℕ) (t : Table) (l : LiesBehind known w n t) → IsTaken l.pair → ⊥
+  pair_untaken : (n : ℕ) (t : TableId) (l : LiesBehind known w n t) → IsTaken l.pair → ⊥
   pair_untaken n t l some = by l.waits
     where
       by : (waits_behind l.pair w.log ≡ Some l.table) ⊎ (IsLeft (w.hand l.pair) × IsLeft (w.hand l.table)) → ⊥
@@ -152,7 +152,7 @@ module _ {K V : Type 0} (same : K → K → Bool) (hash : ℕ → K → ℕ) (na
       by (suc k) e = subst IsLeft (sym (did.spares.left b (omega (arith, e)))) tt
 
   -- where the table's block is not taken, it lies behind it still
-  lies_then : (n : ℕ) (t : Table) (l : LiesBehind known w n t) → (IsTaken l.table → ⊥) → LiesBehind known2 did.w2 n t
+  lies_then : (n : ℕ) (t : TableId) (l : LiesBehind known w n t) → (IsTaken l.table → ⊥) → LiesBehind known2 did.w2 n t
   lies_then n t l free = record {
     pair = l.pair;
     is_pair = role_there l.pair (role.Pair n) l.is_pair tt (some_there l.pair _ (pair_value l.pair n l.is_pair).2) (pair_untaken n t l);
@@ -185,10 +185,10 @@ module _ {K V : Type 0} (same : K → K → Bool) (hash : ℕ → K → ℕ) (na
         | inr it ↦ subst (λ (x : Changed). Fewer m.deferred (with_effects None (Some map) (effects_of (Ending map) known x) m).deferred) (sym it.1) (end_took (known.roles it.0))
       ]
 
-  abbrev Waited : ℕ → Table → Type 0
+  abbrev Waited : ℕ → TableId → Type 0
   Waited n t = (m.place n ≡ Behind) × LiesBehind known w n t
 
-  abbrev WaitsThen : ℕ → Table → Type 0
+  abbrev WaitsThen : ℕ → TableId → Type 0
   WaitsThen n t = (v.place n ≡ Behind) × LiesBehind known2 did.w2 n t
 
   -- it takes no block
@@ -215,7 +215,7 @@ module _ {K V : Type 0} (same : K → K → Bool) (hash : ℕ → K → ℕ) (na
         let count : times x (taken_of did.deed) ≡ times x (x ∷ []) = ap (times x) taken_is in
         subst IsTaken (sym e) (omega (arith, one, count))
 
-    took_pair : (n : ℕ) (t : Table) (l : LiesBehind known w n t) → l.pair ≡ x → ⊥
+    took_pair : (n : ℕ) (t : TableId) (l : LiesBehind known w n t) → l.pair ≡ x → ⊥
     took_pair n t l e = pair_untaken n t l (this_one l.pair e)
 
     are : (r : Role) → known.roles x ≡ r → effects ≡ taken_by (Ending map) r
@@ -225,44 +225,44 @@ module _ {K V : Type 0} (same : K → K → Bool) (hash : ℕ → K → ℕ) (na
     then_at fs = with_effects None (Some map) fs m
 
     -- the block of no table
-    no_table : (r : Role) → known.roles x ≡ r → ((t : Table) (len : ℕ) → r ≡ role.Table t len → ⊥) → (n : ℕ) (t : Table) (l : LiesBehind known w n t) → l.table ≡ x → ⊥
+    no_table : (r : Role) → known.roles x ≡ r → ((t : TableId) (len : ℕ) → r ≡ role.Table t len → ⊥) → (n : ℕ) (t : TableId) (l : LiesBehind known w n t) → l.table ≡ x → ⊥
     no_table r e never n t l z = never t l.len (sym e ∙ ap known.roles (sym z) ∙ l.is_table)
 
-    all_wait : (fs : List Effect) → effects ≡ fs → (then_at fs).deferred ≡ m.deferred → ((n : ℕ) (t : Table) → LiesBehind known w n t → m.place n ≡ Behind → (then_at fs).place n ≡ Behind)
-        → ((n : ℕ) (t : Table) (l : LiesBehind known w n t) → l.table ≡ x → ⊥) → EachWaits WaitsThen v.deferred
+    all_wait : (fs : List Effect) → effects ≡ fs → (then_at fs).deferred ≡ m.deferred → ((n : ℕ) (t : TableId) → LiesBehind known w n t → m.place n ≡ Behind → (then_at fs).place n ≡ Behind)
+        → ((n : ℕ) (t : TableId) (l : LiesBehind known w n t) → l.table ≡ x → ⊥) → EachWaits WaitsThen v.deferred
     all_wait fs they deferred place apart =
         subst (EachWaits WaitsThen) (sym (ap (λ (gs : List Effect). (then_at gs).deferred) they ∙ deferred))
         (each_on Waited WaitsThen
         (λ n t p. (ap (λ (gs : List Effect). (then_at gs).place n) they ∙ place n t p.1 p.0, lies_then n t p.1 (others p.1.table (apart n t p.1)))) m.deferred waiting)
 
     -- that of a table
-    took_a_table : (u : Table) (len : ℕ) → known.roles x ≡ role.Table u len → EachWaits WaitsThen v.deferred
+    took_a_table : (u : TableId) (len : ℕ) → known.roles x ≡ role.Table u len → EachWaits WaitsThen v.deferred
     took_a_table u len e =
         subst (EachWaits WaitsThen) (sym (ap (λ (gs : List Effect). (then_at gs).deferred) (are (role.Table u len) e)))
         (each_kept (λ n t. Waited n t × Alone n t) WaitsThen (λ d. not (same_table d.behind u)) (λ d other p. kept_one d.pair d.behind other p.0 p.1) m.deferred
         (each_both Waited Alone m.deferred waiting once))
       where
         -- it waits behind one table alone
-        Alone : ℕ → Table → Type 0
-        Alone n t = (y : Table) → is_among n (behind y m.deferred) ≡ true → same_table t y ≡ true
+        Alone : ℕ → TableId → Type 0
+        Alone n t = (y : TableId) → is_among n (behind y m.deferred) ≡ true → same_table t y ≡ true
 
         -- the table of what stays is another one
-        apart : (n : ℕ) (t : Table) → not (same_table t u) ≡ true → (l : LiesBehind known w n t) → l.table ≡ x → ⊥
+        apart : (n : ℕ) (t : TableId) → not (same_table t u) ≡ true → (l : LiesBehind known w n t) → l.table ≡ x → ⊥
         apart n t other l z =
             let one : role.Table t l.len ≡ role.Table u len = sym l.is_table ∙ ap known.roles z ∙ e in
             let t_is : t ≡ u = cc one in
-            let yes : same_table t u ≡ true = ap (λ (y : Table). same_table y u) t_is ∙ same_itself u in
+            let yes : same_table t u ≡ true = ap (λ (y : TableId). same_table y u) t_is ∙ same_itself u in
             let none = ap not yes in
             cc (other, none)
 
-        place_kept : (n : ℕ) (t : Table) → not (same_table t u) ≡ true → Alone n t → m.place n ≡ Behind → all_at Left (behind u m.deferred) m.place n ≡ Behind
+        place_kept : (n : ℕ) (t : TableId) → not (same_table t u) ≡ true → Alone n t → m.place n ≡ Behind → all_at Left (behind u m.deferred) m.place n ≡ Behind
         place_kept n t other alone was = by (is_among n (behind u m.deferred)) refl
           where
             by : (q : Bool) → is_among n (behind u m.deferred) ≡ q → (if q then Left else m.place n) ≡ Behind
             by true among = absurd (let none = ap not (alone u among) in cc (other, none))
             by false among = was
 
-        kept_one : (n : ℕ) (t : Table) → not (same_table t u) ≡ true → Waited n t → Alone n t → WaitsThen n t
+        kept_one : (n : ℕ) (t : TableId) → not (same_table t u) ≡ true → Waited n t → Alone n t → WaitsThen n t
         kept_one n t other p alone = (
           ap (λ (gs : List Effect). (then_at gs).place n) (are (role.Table u len) e) ∙ place_kept n t other alone p.0,
           lies_then n t p.1 (others p.1.table (apart n t other p.1)),

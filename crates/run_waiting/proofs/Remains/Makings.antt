@@ -5,8 +5,8 @@ use Rattle.std.proofs.lemmas.Bool.{cases_eq}
 use Rattle.run_debts.specs.Given.SeizeWordsDeclared.at.At.TheVariants.{Used}
 use Rattle.run_debts.specs.Given.SeizeWordsMem.{word_at}
 use Rattle.run_debts.specs.Given.SeizeWorld.{World, with_at}
-use Rattle.run_debts.specs.Given.SeizeDeclared.progress.Progress.{Progress}
-use Rattle.run_debts.specs.Given.SeizeDeclared.progress.Progress.TheVariants as progress
+use Rattle.run_debts.specs.Given.SeizeDeclared.advance.Advance.{Advance}
+use Rattle.run_debts.specs.Given.SeizeDeclared.advance.Advance.TheVariants as progress
 use Rattle.run_debts.specs.Given.TablesDeclared.node.Node.{Node}
 use Rattle.run_debts.specs.Given.TablesDeclared.setting.Setting.{Setting}
 use Rattle.run_debts.specs.Given.ResizeDeclared.new_map.NewMap.{NewMap}
@@ -66,10 +66,10 @@ module _ (K V : Type 0) (same : K → K → Bool) (hash : ℕ → K → ℕ) whe
     abbrev v : Moment K V
     v = with_effects caller acted effects m
 
-    abbrev Did : NewMap → Progress Setting → Type 0
+    abbrev Did : NewMap → Advance Setting → Type 0
     Did opening said = MakingStepsAmong V same same old.batch_size old.roots slot_of s.world s.maps s.calls s.makers s.enders i b new.memory (opening, said)
 
-    left_then : (opening : NewMap) (said : Progress Setting) (did : Did opening said)
+    left_then : (opening : NewMap) (said : Advance Setting) (did : Did opening said)
         → MakingLeft V same same old.batch_size old.roots slot_of s.world s.maps s.calls s.makers s.enders shows.lists i b did.step.w2 (opening, said) did.told
     left_then opening said did =
         makings_leave_it V same same old.batch_size old.roots slot_of s.world s.maps s.calls s.makers s.enders shows.lists at.together shows.left i b here new.memory (opening, said) did
@@ -85,7 +85,7 @@ module _ (K V : Type 0) (same : K → K → Bool) (hash : ℕ → K → ℕ) whe
         (root_alike (with_at s.maps b.map (Some st)) (with_at s.maps b.map (Some t)) (with_setting s.maps b.map st t e))
         (λ r its. subst (λ (x : ℕ). word_at w2.memory (Used x) ≡ Some 1) its.3 (together.makings.used its.0 its.1 its.2))
 
-    then_so : (opening : NewMap) (said : Progress Setting) (did : Did opening said) (comes : MakingComesTo same hash s old new i b opening did.step.w2 said)
+    then_so : (opening : NewMap) (said : Advance Setting) (did : Did opening said) (comes : MakingComesTo same hash s old new i b opening did.step.w2 said)
         → LeftNoted known known2 s.world (making_after same hash s old new i b opening did.step.w2 said comes).world
         → ShowsRemains old.roots v known2 (making_after same hash s old new i b opening did.step.w2 said comes)
     then_so opening progress.Goes did comes noted =

@@ -10,7 +10,7 @@ use Rattle.run_debts.specs.Given.EffectsDeclared.changed.Changed.TheVariants.{To
 use Rattle.run_debts.specs.Given.RunsDeclared.effect.Effect.{Effect}
 use Rattle.run_debts.specs.Given.RunsDeclared.effect.Effect.TheVariants.{Asked, Taken}
 use Rattle.run_debts.specs.Given.RunsDeclared.effect.Growth.TheVariants.{ABucket}
-use Rattle.run_debts.specs.Given.RunsDeclared.effect.Table.{Table}
+use Rattle.run_debts.specs.Given.RunsDeclared.effect.TableId.{TableId}
 use Rattle.run_debts.specs.Given.SchedulesEffects.{at_stage, maps_by, tables_by, with_effect, with_effects}
 use Rattle.run_debts.specs.Given.SchedulesMoment.{IsReclaimed, IsTaken, MapThere, Moment, TableThere}
 use Rattle.run_debts.specs.Given.EffectsEffects.{names_same, taken_by, effects_of}
@@ -110,7 +110,7 @@ more_are_counted K V m count more numbers = record {
 }
 
 -- what is known of a memory whose blocks all are this table
-abbrev all_are : Table → ℕ → Known
+abbrev all_are : TableId → ℕ → Known
 all_are t len = record { roles = λ b. role.Table t len; stored = 0; buckets = 0 }
 
 -- What ends is told of the map's number alone where it is a table that was not linked: there the number does not matter.

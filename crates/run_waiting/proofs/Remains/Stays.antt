@@ -8,7 +8,7 @@ use Rattle.run_debts.specs.Given.TablesDeclared.node.Node.{Node}
 use Rattle.run_debts.specs.Given.RunsLifeCycle.{times}
 use Rattle.run_debts.specs.Given.RunsDeclared.effect.Effect.{Effect}
 use Rattle.run_debts.specs.Given.RunsDeclared.effect.Effect.TheVariants.{Promoted}
-use Rattle.run_debts.specs.Given.RunsDeclared.effect.Table.{Table}
+use Rattle.run_debts.specs.Given.RunsDeclared.effect.TableId.{TableId}
 use Rattle.run_debts.specs.Given.SchedulesBeginning.{used_roots}
 use Rattle.run_debts.specs.Given.SchedulesEffects.{maps_by, promoted, with_effect, with_effects}
 use Rattle.run_debts.specs.Given.SchedulesLists.{is_among}
@@ -27,14 +27,14 @@ use Rattle.run_waiting.proofs.Lives.Order.{noted_still}
 use Rattle.run_debts.specs.Given.ScenesScene.{Scene, at_first}
 
 -- a map whose root's table is another one has its root
-root_same : (t : Table) (f : MapThere) → (promoted t f).root ≡ f.root
+root_same : (t : TableId) (f : MapThere) → (promoted t f).root ≡ f.root
 root_same t f = by (f.number == t.map)
   where
     by : (q : Bool) → (if q then record f { first = t.turn } else f).root ≡ f.root
     by true = refl
     by false = refl
 
-roots_promoted : (t : Table) (fs : List MapThere) → map (λ f. f.root) (map (promoted t) fs) ≡ map (λ f. f.root) fs
+roots_promoted : (t : TableId) (fs : List MapThere) → map (λ f. f.root) (map (promoted t) fs) ≡ map (λ f. f.root) fs
 roots_promoted t [] = refl
 roots_promoted t (f ∷ fs) = ap (λ (r : ℕ). r ∷ map (λ g. g.root) (map (promoted t) fs)) (root_same t f) ∙ ap (λ (rs : List ℕ). f.root ∷ rs) (roots_promoted t fs)
 

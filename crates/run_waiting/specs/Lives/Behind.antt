@@ -2,7 +2,7 @@
 use Rattle.std.specs.Prelude.{◌≡◌, ◌⊎◌, ℕ, true, List, [], ◌∷◌, Some}
 use Rattle.run_debts.specs.Given.SeizeWorld.{World, Hand, LeftTo}
 use Rattle.run_debts.specs.Given.TablesDeclared.node.Node.{Node}
-use Rattle.run_debts.specs.Given.RunsDeclared.effect.Table.{Table}
+use Rattle.run_debts.specs.Given.RunsDeclared.effect.TableId.{TableId}
 use Rattle.run_debts.specs.Given.SchedulesLists.{is_among}
 use Rattle.run_debts.specs.Given.SchedulesMoment.{Behind, Deferral, Moment}
 use Rattle.run_debts.specs.Given.SchedulesThings.{same_table}
@@ -19,10 +19,10 @@ IsLeft _ = ⊥
 
 -- no block that is noted as a table is left over
 abbrev pub NoTableLeft : {K V : Type 0} → Known → World (Node K V) → Type 0
-NoTableLeft known w = (b len : ℕ) (t : Table) → known.roles b ≡ role.Table t len → IsLeft (w.hand b) → ⊥
+NoTableLeft known w = (b len : ℕ) (t : TableId) → known.roles b ≡ role.Table t len → IsLeft (w.hand b) → ⊥
 
 -- The pair has a block, and so has the table. That one waits behind this one; or both are left over, since their map ends.
-pub record LiesBehind {K V : Type 0} (known : Known) (w : World (Node K V)) (n : ℕ) (t : Table) : Type 0 where
+pub record LiesBehind {K V : Type 0} (known : Known) (w : World (Node K V)) (n : ℕ) (t : TableId) : Type 0 where
   pub pair : ℕ
   pub is_pair : known.roles pair ≡ role.Pair n
   pub table : ℕ
@@ -31,7 +31,7 @@ pub record LiesBehind {K V : Type 0} (known : Known) (w : World (Node K V)) (n :
   pub waits : (waits_behind pair w.log ≡ Some table) ⊎ (IsLeft (w.hand pair) × IsLeft (w.hand table))
 
 -- this is so of each pair that waits, and of the table that it waits behind
-abbrev pub EachWaits : (ℕ → Table → Type 0) → List Deferral → Type 0
+abbrev pub EachWaits : (ℕ → TableId → Type 0) → List Deferral → Type 0
 EachWaits P [] = Unit {0}
 EachWaits P (d ∷ deferred) = P d.pair d.behind × EachWaits P deferred
 
@@ -43,8 +43,8 @@ module _ {K V : Type 0} where
 -- The promise: so nothing is reclaimed that waits behind a table.
 abbrev pub WaitingIsThere : Type 0 → Type 0 → Type 0
 WaitingIsThere K V =
-    (m : Moment K V) (known : Known) (w : World (Node K V)) → ShowsWaiting m known w → (t : Table) (n : ℕ) → is_among n (behind t m.deferred) ≡ true → is_unreclaimed (m.place n) ≡ true
+    (m : Moment K V) (known : Known) (w : World (Node K V)) → ShowsWaiting m known w → (t : TableId) (n : ℕ) → is_among n (behind t m.deferred) ≡ true → is_unreclaimed (m.place n) ≡ true
 
 -- each pair that waits is told to be behind one table
 abbrev pub WaitsOnce : List Deferral → Type 0
-WaitsOnce deferred = EachWaits (λ n t. (u : Table) → is_among n (behind u deferred) ≡ true → same_table t u ≡ true) deferred
+WaitsOnce deferred = EachWaits (λ n t. (u : TableId) → is_among n (behind u deferred) ≡ true → same_table t u ≡ true) deferred

@@ -3,7 +3,7 @@
 use Rattle.std.specs.Prelude.{◌≡◌, ◌⊎◌, ℕ, Bool, true, List, map, Option, Some, None}
 use Rattle.run_debts.specs.Given.SeizeWordsWord.{block_in}
 use Rattle.run_debts.specs.Given.SeizeLaw.{is_retired as was_retired}
-use Rattle.run_debts.specs.Given.SeizeDeclared.progress.Progress.{Progress}
+use Rattle.run_debts.specs.Given.SeizeDeclared.advance.Advance.{Advance}
 use Rattle.run_debts.specs.Given.SeizeDeclared.rows.settle.Settled.{Settled}
 use Rattle.run_debts.specs.Given.SeizeWorld.{World, Row, Rests, Settles, Defers, Handed, Begin, Step}
 use Rattle.run_debts.specs.Given.TablesDeclared.node.Node.{Node}
@@ -11,7 +11,7 @@ use Rattle.run_debts.specs.Given.TablesDeclared.setting.Setting.{Setting}
 use Rattle.run_debts.specs.Given.RawDeclared.machines.progress.Progress.{Progress as CallTold}
 use Rattle.run_debts.specs.Given.RunsDeclared.effect.Effect.{Effect}
 use Rattle.run_debts.specs.Given.RunsDeclared.effect.Effect.TheVariants.{Reclaimed}
-use Rattle.run_debts.specs.Given.RunsDeclared.effect.Table.{Table}
+use Rattle.run_debts.specs.Given.RunsDeclared.effect.TableId.{TableId}
 use Rattle.run_debts.specs.Given.RunsDeclared.effect.Thing.TheVariants.{APair}
 use Rattle.run_debts.specs.Given.SchedulesEffects.{with_effects, AtEachEffect}
 use Rattle.run_debts.specs.Given.SchedulesLists.{is_among}
@@ -75,7 +75,7 @@ pub record ShowsHanded {K V : Type 0} (m : Moment K V) (known : Known) (s : Scen
   pub pairs : (b n : ℕ) → known.roles b ≡ role.Pair n → s.world.hand b ≡ Handed → HasGone m s b n
   -- a pair that is told to be handed over, and a table that is told to be retired, the collector has, and it waits behind nothing
   pub handed : (n : ℕ) → is_handed (m.place n) ≡ true → (b : ℕ) × (known.roles b ≡ role.Pair n) × IsHandedOver s.world b
-  pub tables : (t : Table) → is_stage is_retired t m ≡ true → (b : ℕ) × (len : ℕ) × (known.roles b ≡ role.Table t len) × IsHandedOver s.world b
+  pub tables : (t : TableId) → is_stage is_retired t m ≡ true → (b : ℕ) × (len : ℕ) × (known.roles b ≡ role.Table t len) × IsHandedOver s.world b
 
 -- a pair that is reclaimed was handed over
 abbrev pub HadHanded : {K V : Type 0} → Moment K V → Effect → Type 0
@@ -101,7 +101,7 @@ abbrev pub HandedAtRest : Type 0 → Type 0 → Type 0
 HandedAtRest K V =
     (batch_size : ℕ) (m : Moment K V) (known : Known) (s : Scene K V) → CameAbout batch_size s.world → ShowsHanded m known s → ((i : ℕ) → s.world.row i ≡ Rests)
     → ((n : ℕ) → is_handed (m.place n) ≡ true → (b : ℕ) × (known.roles b ≡ role.Pair n) × (was_retired b s.world.log ≡ true))
-    × ((t : Table) → is_stage is_retired t m ≡ true → (b : ℕ) × (len : ℕ) × (known.roles b ≡ role.Table t len) × (was_retired b s.world.log ≡ true))
+    × ((t : TableId) → is_stage is_retired t m ≡ true → (b : ℕ) × (len : ℕ) × (known.roles b ≡ role.Table t len) × (was_retired b s.world.log ≡ true))
 
 module _ (K V : Type 0) (same : K → K → Bool) (hash : ℕ → K → ℕ) where
   -- So it is where a row begins on a slot,
@@ -131,7 +131,7 @@ module _ (K V : Type 0) (same : K → K → Bool) (hash : ℕ → K → ℕ) whe
   abbrev pub MakingsKeepHanded : Type 0
   MakingsKeepHanded =
       (name : ℕ → List ℕ) (m : Moment K V) (known : Known) (s : Scene K V) (old new : Held K V) → IsAt same hash old s → ShowsWhole same name m known s → ShowsHanded m known s
-      → (i : ℕ) (told : Progress Setting) (leads : MakingLeads same hash i told s old new) (b : Beginning K) (here : s.makers i ≡ Some b) (of : Option ℕ) → WasNew b.map told m
+      → (i : ℕ) (told : Advance Setting) (leads : MakingLeads same hash i told s old new) (b : Beginning K) (here : s.makers i ≡ Some b) (of : Option ℕ) → WasNew b.map told m
       → ShowsHanded (with_effects None of (effects_of (Making b.map) known new.changed) m) (known_after (Making b.map) new.changed known) (record s { world = (leads b here).2.step.w2 })
 
   -- and of a call, of its row, too.

@@ -1,12 +1,12 @@
 -- The tables that are left over at a moment of a run: each is one of a map whose end is under way, and which that end has not reclaimed.
 use Rattle.std.specs.Prelude.{◌≡◌, ◌<◌, ◌≤◌, ℕ, Bool, List, Some, None}
-use Rattle.run_debts.specs.Given.SeizeDeclared.progress.Progress.{Progress}
+use Rattle.run_debts.specs.Given.SeizeDeclared.advance.Advance.{Advance}
 use Rattle.run_debts.specs.Given.SeizeDeclared.rows.settle.Settled.{Settled}
 use Rattle.run_debts.specs.Given.SeizeWorld.{LeftTo, Begin, Step, times}
 use Rattle.run_debts.specs.Given.TablesDeclared.node.Node.{Node}
 use Rattle.run_debts.specs.Given.TablesDeclared.setting.Setting.{Setting}
 use Rattle.run_debts.specs.Given.RawDeclared.machines.progress.Progress.{Progress as CallTold}
-use Rattle.run_debts.specs.Given.RunsDeclared.effect.Table.{Table}
+use Rattle.run_debts.specs.Given.RunsDeclared.effect.TableId.{TableId}
 use Rattle.run_debts.specs.Given.SchedulesMoment.{Moment}
 use Rattle.run_debts.specs.Given.CallersTogether.{UnderWay}
 use Rattle.run_debts.specs.Given.EffectsEffects.{known_after}
@@ -44,7 +44,7 @@ pub record IsToTake {K V : Type 0} (s : Scene K V) (i b : ℕ) : Type 0 where
 
 -- each table that is left over to a caller is one that its end is to reclaim
 abbrev pub ShowsLeft : {K V : Type 0} → Known → Scene K V → Type 0
-ShowsLeft known s = (b len : ℕ) (t : Table) (i : ℕ) → known.roles b ≡ role.Table t len → s.world.hand b ≡ LeftTo i → IsToTake s i b
+ShowsLeft known s = (b len : ℕ) (t : TableId) (i : ℕ) → known.roles b ≡ role.Table t len → s.world.hand b ≡ LeftTo i → IsToTake s i b
 
 -- The promises: none is left over before all events,
 abbrev pub LeftBegins : Type 0 → Type 0 → Type 0
@@ -62,7 +62,7 @@ EndingsBeginLeft K V =
 -- So none is left over to who ends no map, and none at all where nobody ends one;
 abbrev pub NoneIsLeftTo : Type 0 → Type 0 → Type 0
 NoneIsLeftTo K V =
-    (known : Known) (s : Scene K V) → ShowsLeft known s → (i : ℕ) → s.enders i ≡ None → (b len : ℕ) (t : Table) → known.roles b ≡ role.Table t len → s.world.hand b ≡ LeftTo i → ⊥
+    (known : Known) (s : Scene K V) → ShowsLeft known s → (i : ℕ) → s.enders i ≡ None → (b len : ℕ) (t : TableId) → known.roles b ≡ role.Table t len → s.world.hand b ≡ LeftTo i → ⊥
 
 abbrev pub NoneIsLeft : Type 0 → Type 0 → Type 0
 NoneIsLeft K V = (known : Known) (s : Scene K V) → ShowsLeft known s → ((i : ℕ) → s.enders i ≡ None) → NoTableLeft known s.world
@@ -89,7 +89,7 @@ module _ (K V : Type 0) (same : K → K → Bool) (hash : ℕ → K → ℕ) whe
   abbrev pub MakingsKeepLeft : Type 0
   MakingsKeepLeft =
       (known : Known) (s : Scene K V) (old new : Held K V) → OwnAreMade known s.world → ShowsLeft known s
-      → (i : ℕ) (told : Progress Setting) (leads : MakingLeads same hash i told s old new) (b : Beginning K) (here : s.makers i ≡ Some b)
+      → (i : ℕ) (told : Advance Setting) (leads : MakingLeads same hash i told s old new) (b : Beginning K) (here : s.makers i ≡ Some b)
       → ShowsLeft (known_after (Making b.map) new.changed known) (record s { world = (leads b here).2.step.w2 })
 
   abbrev pub CallsKeepLeft : Type 0

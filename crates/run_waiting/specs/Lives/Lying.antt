@@ -1,13 +1,13 @@
 -- What can be reached through a table alone, at a moment of a run: it is told to wait behind that table, or a row is putting it there.
 use Rattle.std.specs.Prelude.{◌≡◌, ◌⊎◌, ℕ, Bool, true, List, Option, Some, None}
-use Rattle.run_debts.specs.Given.SeizeDeclared.progress.Progress.{Progress}
+use Rattle.run_debts.specs.Given.SeizeDeclared.advance.Advance.{Advance}
 use Rattle.run_debts.specs.Given.SeizeDeclared.rows.settle.Settled.{Settled}
 use Rattle.run_debts.specs.Given.SeizeLaw.{With, where_is}
 use Rattle.run_debts.specs.Given.SeizeWorld.{World, Begin, Step}
 use Rattle.run_debts.specs.Given.TablesDeclared.node.Node.{Node}
 use Rattle.run_debts.specs.Given.TablesDeclared.setting.Setting.{Setting}
 use Rattle.run_debts.specs.Given.RawDeclared.machines.progress.Progress.{Progress as CallTold}
-use Rattle.run_debts.specs.Given.RunsDeclared.effect.Table.{Table}
+use Rattle.run_debts.specs.Given.RunsDeclared.effect.TableId.{TableId}
 use Rattle.run_debts.specs.Given.SchedulesEffects.{with_effects}
 use Rattle.run_debts.specs.Given.SchedulesLists.{is_among}
 use Rattle.run_debts.specs.Given.SchedulesMoment.{Moment, start}
@@ -41,7 +41,7 @@ use Rattle.run_debts.specs.Given.ScenesStepping.{StepLeads}
 
 module _ {K V : Type 0} where
   -- the block is noted as a pair that is told to wait behind this table
-  abbrev pub IsToldBehind : Moment K V → Known → ℕ → Table → Type 0
+  abbrev pub IsToldBehind : Moment K V → Known → ℕ → TableId → Type 0
   IsToldBehind m known b t = (n : ℕ) × (known.roles b ≡ role.Pair n) × (is_among n (behind t m.deferred) ≡ true)
 
   -- somebody's row is putting it behind the table's block
@@ -51,7 +51,7 @@ module _ {K V : Type 0} where
   -- each block that can be reached through one that is noted as a table, and through that alone, is told to wait behind it, or a row is putting it there
   abbrev pub ShowsLying : Moment K V → Known → World (Node K V) → Type 0
   ShowsLying m known w =
-      (b c len : ℕ) (t : Table) → known.roles c ≡ role.Table t len → where_is b w.log ≡ With c → IsToldBehind m known b t ⊎ IsPutThere w b c
+      (b c len : ℕ) (t : TableId) → known.roles c ≡ role.Table t len → where_is b w.log ≡ With c → IsToldBehind m known b t ⊎ IsPutThere w b c
 
 -- The promises: nothing lies behind a table before all events,
 abbrev pub LyingBegins : Type 0 → Type 0 → Type 0
@@ -85,7 +85,7 @@ module _ (K V : Type 0) (same : K → K → Bool) (hash : ℕ → K → ℕ) whe
   MakingsKeepLying =
       (name : ℕ → List ℕ) (m : Moment K V) (known : Known) (s : Scene K V) (old new : Held K V) → IsAt same hash old s → ShowsWhole same name m known s → OwnAreMade known s.world
       → ShowsLying m known s.world
-      → (i : ℕ) (told : Progress Setting) (leads : MakingLeads same hash i told s old new) (b : Beginning K) (here : s.makers i ≡ Some b) (of : Option ℕ) → WasNew b.map told m
+      → (i : ℕ) (told : Advance Setting) (leads : MakingLeads same hash i told s old new) (b : Beginning K) (here : s.makers i ≡ Some b) (of : Option ℕ) → WasNew b.map told m
       → ShowsLying (with_effects None of (effects_of (Making b.map) known new.changed) m) (known_after (Making b.map) new.changed known) (leads b here).2.step.w2
 
   -- of a call, whoever's row it is, where calls owe what they have in hand,

@@ -1,6 +1,6 @@
 -- In which order pairs lie behind tables, at a moment of a run: the list of a table in use is that of the blocks of the pairs that wait behind it, the last one first.
 use Rattle.std.specs.Prelude.{◌≡◌, ℕ, Bool, List, map, Option, Some, None}
-use Rattle.run_debts.specs.Given.SeizeDeclared.progress.Progress.{Progress}
+use Rattle.run_debts.specs.Given.SeizeDeclared.advance.Advance.{Advance}
 use Rattle.run_debts.specs.Given.SeizeDeclared.rows.settle.Settled.{Settled}
 use Rattle.run_debts.specs.Given.SeizeFurther.{FurtherAre}
 use Rattle.run_debts.specs.Given.SeizeWorld.{World, InUse, Begin, Step}
@@ -8,7 +8,7 @@ use Rattle.run_debts.specs.Given.TablesNodes.{deferred_word}
 use Rattle.run_debts.specs.Given.TablesDeclared.node.Node.{Node}
 use Rattle.run_debts.specs.Given.TablesDeclared.setting.Setting.{Setting}
 use Rattle.run_debts.specs.Given.RawDeclared.machines.progress.Progress.{Progress as CallTold}
-use Rattle.run_debts.specs.Given.RunsDeclared.effect.Table.{Table}
+use Rattle.run_debts.specs.Given.RunsDeclared.effect.TableId.{TableId}
 use Rattle.run_debts.specs.Given.SchedulesEffects.{with_effects}
 use Rattle.run_debts.specs.Given.SchedulesMoment.{Moment, start}
 use Rattle.run_debts.specs.Given.SchedulesViews.{behind}
@@ -43,7 +43,7 @@ use Rattle.run_debts.specs.Given.ScenesStepping.{StepLeads}
 -- the blocks on the list of a table in use are noted, in their order, as the pairs that the moment says wait behind it
 abbrev pub ShowsOrder : {K V : Type 0} → Moment K V → Known → World (Node K V) → Type 0
 ShowsOrder m known w =
-    (c len owner : ℕ) (t : Table) (blocks : List ℕ) → known.roles c ≡ role.Table t len → w.hand c ≡ InUse owner → FurtherAre deferred_word w.memory c blocks
+    (c len owner : ℕ) (t : TableId) (blocks : List ℕ) → known.roles c ≡ role.Table t len → w.hand c ≡ InUse owner → FurtherAre deferred_word w.memory c blocks
     → map known.roles blocks ≡ map role.Pair (behind t m.deferred)
 
 -- The promises: so it is before all events,
@@ -78,7 +78,7 @@ module _ (K V : Type 0) (same : K → K → Bool) (hash : ℕ → K → ℕ) whe
   MakingsKeepOrder =
       (name : ℕ → List ℕ) (m : Moment K V) (known : Known) (s : Scene K V) (old new : Held K V) → IsAt same hash old s → ShowsWhole same name m known s → OwnAreMade known s.world
       → ShowsWaiting m known s.world → ShowsOrder m known s.world
-      → (i : ℕ) (told : Progress Setting) (leads : MakingLeads same hash i told s old new) (b : Beginning K) (here : s.makers i ≡ Some b) (of : Option ℕ) → WasNew b.map told m
+      → (i : ℕ) (told : Advance Setting) (leads : MakingLeads same hash i told s old new) (b : Beginning K) (here : s.makers i ≡ Some b) (of : Option ℕ) → WasNew b.map told m
       → ShowsOrder (with_effects None of (effects_of (Making b.map) known new.changed) m) (known_after (Making b.map) new.changed known) (leads b here).2.step.w2
 
   -- of a call, whoever's row it is,

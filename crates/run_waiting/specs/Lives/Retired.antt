@@ -1,13 +1,13 @@
 -- The tables that the collector has at a moment of a run: each is told to be retired, or the row of a call is to retire it.
 use Rattle.std.specs.Prelude.{◌≡◌, ◌≢◌, ◌⊎◌, ℕ, Bool, true, List, Option, Some, None}
 use Rattle.run_debts.specs.Given.SeizeWordsWord.{block_in}
-use Rattle.run_debts.specs.Given.SeizeDeclared.progress.Progress.{Progress}
+use Rattle.run_debts.specs.Given.SeizeDeclared.advance.Advance.{Advance}
 use Rattle.run_debts.specs.Given.SeizeDeclared.rows.settle.Settled.{Settled}
 use Rattle.run_debts.specs.Given.SeizeWorld.{Row, Settles, Rests, Handed, Begin, Step}
 use Rattle.run_debts.specs.Given.TablesDeclared.node.Node.{Node}
 use Rattle.run_debts.specs.Given.TablesDeclared.setting.Setting.{Setting}
 use Rattle.run_debts.specs.Given.RawDeclared.machines.progress.Progress.{Progress as CallTold}
-use Rattle.run_debts.specs.Given.RunsDeclared.effect.Table.{Table}
+use Rattle.run_debts.specs.Given.RunsDeclared.effect.TableId.{TableId}
 use Rattle.run_debts.specs.Given.SchedulesEffects.{with_effects, AtEachEffect}
 use Rattle.run_debts.specs.Given.SchedulesMoment.{Moment, start}
 use Rattle.run_debts.specs.Given.SchedulesViews.{is_stage, is_retired}
@@ -49,9 +49,9 @@ IsToRetire b _ = ⊥
 
 -- Each block of a table that the collector has is of one that is told to be retired, or the row within a call is to retire it. A table has a place.
 pub record ShowsRetired {K V : Type 0} (m : Moment K V) (known : Known) (s : Scene K V) : Type 0 where
-  pub tables : (b len : ℕ) (t : Table) → known.roles b ≡ role.Table t len → s.world.hand b ≡ Handed
+  pub tables : (b len : ℕ) (t : TableId) → known.roles b ≡ role.Table t len → s.world.hand b ≡ Handed
       → (is_stage is_retired t m ≡ true) ⊎ ((i : ℕ) × HasCall s i × IsToRetire b (s.world.row i))
-  pub lengths : (b len : ℕ) (t : Table) → known.roles b ≡ role.Table t len → len ≢ 0
+  pub lengths : (b len : ℕ) (t : TableId) → known.roles b ≡ role.Table t len → len ≢ 0
 
 -- whoever has a call under way has one still, or its row is over
 abbrev pub CallsStay : {K V : Type 0} → Scene K V → Scene K V → Type 0
@@ -95,7 +95,7 @@ module _ (K V : Type 0) (same : K → K → Bool) (hash : ℕ → K → ℕ) whe
   abbrev pub MakingsKeepRetired : Type 0
   MakingsKeepRetired =
       (name : ℕ → List ℕ) (m : Moment K V) (known : Known) (s : Scene K V) (old new : Held K V) → IsAt same hash old s → ShowsWhole same name m known s → OwnAreMade known s.world → ShowsRetired m known s
-      → (i : ℕ) (told : Progress Setting) (leads : MakingLeads same hash i told s old new) (b : Beginning K) (here : s.makers i ≡ Some b) (of : Option ℕ) → WasNew b.map told m
+      → (i : ℕ) (told : Advance Setting) (leads : MakingLeads same hash i told s old new) (b : Beginning K) (here : s.makers i ≡ Some b) (of : Option ℕ) → WasNew b.map told m
       → ShowsRetired (with_effects None of (effects_of (Making b.map) known new.changed) m) (known_after (Making b.map) new.changed known) (record s { world = (leads b here).2.step.w2 })
 
   -- and of a call, of its row, too.

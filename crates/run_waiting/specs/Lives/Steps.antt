@@ -1,6 +1,6 @@
 -- How steps lead on from what waits behind tables: it waits there still, and none of it is reclaimed before the table is.
 use Rattle.std.specs.Prelude.{◌≡◌, ℕ, Bool, List, Option, Some, None}
-use Rattle.run_debts.specs.Given.SeizeDeclared.progress.Progress.{Progress}
+use Rattle.run_debts.specs.Given.SeizeDeclared.advance.Advance.{Advance}
 use Rattle.run_debts.specs.Given.SeizeDeclared.rows.settle.Settled.{Settled}
 use Rattle.run_debts.specs.Given.SeizeWorld.{World, Event, Begin, Step, Runs}
 use Rattle.run_debts.specs.Given.TablesNodes.{deferred_word}
@@ -9,7 +9,7 @@ use Rattle.run_debts.specs.Given.TablesDeclared.setting.Setting.{Setting}
 use Rattle.run_debts.specs.Given.RawDeclared.machines.progress.Progress.{Progress as CallTold}
 use Rattle.run_debts.specs.Given.RunsDeclared.effect.Effect.{Effect}
 use Rattle.run_debts.specs.Given.SchedulesEffects.{with_effects, AtEachEffect}
-use Rattle.run_debts.specs.Given.RunsDeclared.effect.Table.{Table}
+use Rattle.run_debts.specs.Given.RunsDeclared.effect.TableId.{TableId}
 use Rattle.run_debts.specs.Given.SchedulesMoment.{Behind, Moment, start}
 use Rattle.run_debts.specs.Given.RuleInWorld.{AllUsers}
 use Rattle.run_debts.specs.Given.CallersTogether.{CameAbout, UnderWay}
@@ -64,8 +64,8 @@ abbrev pub UsersKeepWaiting : Type 0 → Type 0 → Type 0
 UsersKeepWaiting K V =
     (size : ℕ) (m v : Moment K V) (known known2 : Known) (w w2 : World (Node K V)) → CameAbout size w → ShowsWaiting m known w
     → (events : List (Event (Node K V))) → AllUsers events → Runs deferred_word size events w w2 → v.deferred ≡ m.deferred
-    → ((n : ℕ) (t : Table) → LiesBehind known w n t → m.place n ≡ Behind → v.place n ≡ Behind)
-    → ((b n : ℕ) → known.roles b ≡ role.Pair n → known2.roles b ≡ role.Pair n) → ((b len : ℕ) (t : Table) → known.roles b ≡ role.Table t len → known2.roles b ≡ role.Table t len)
+    → ((n : ℕ) (t : TableId) → LiesBehind known w n t → m.place n ≡ Behind → v.place n ≡ Behind)
+    → ((b n : ℕ) → known.roles b ≡ role.Pair n → known2.roles b ≡ role.Pair n) → ((b len : ℕ) (t : TableId) → known.roles b ≡ role.Table t len → known2.roles b ≡ role.Table t len)
     → ShowsWaiting v known2 w2
 
 module _ (K V : Type 0) (same : K → K → Bool) (hash : ℕ → K → ℕ) where
@@ -94,7 +94,7 @@ module _ (K V : Type 0) (same : K → K → Bool) (hash : ℕ → K → ℕ) whe
   abbrev pub MakingsKeepWaiting : Type 0
   MakingsKeepWaiting =
       (name : ℕ → List ℕ) (m : Moment K V) (known : Known) (s : Scene K V) (old new : Held K V) → IsAt same hash old s → ShowsWhole same name m known s → ShowsWaiting m known s.world
-      → (i : ℕ) (told : Progress Setting) (leads : MakingLeads same hash i told s old new) (b : Beginning K) (here : s.makers i ≡ Some b) (of : Option ℕ) → WasNew b.map told m
+      → (i : ℕ) (told : Advance Setting) (leads : MakingLeads same hash i told s old new) (b : Beginning K) (here : s.makers i ≡ Some b) (of : Option ℕ) → WasNew b.map told m
       → ShowsWaiting (with_effects None of (effects_of (Making b.map) known new.changed) m) (known_after (Making b.map) new.changed known) (leads b here).2.step.w2
 
   -- And after a step of a call that is none of a row.

@@ -3,7 +3,7 @@ use Rattle.std.specs.Prelude.{◌≡◌, ◌<◌, ◌+◌, ℕ, Bool, [], length
 use Rattle.run_debts.specs.Given.SeizeWordsDeclared.at.At.TheVariants.{Slot}
 use Rattle.run_debts.specs.Given.SeizeWordsMem.{Mem, word_at}
 use Rattle.run_debts.specs.Given.SeizeWordsPlace.{capacity}
-use Rattle.run_debts.specs.Given.SeizeDeclared.progress.Progress.{Progress}
+use Rattle.run_debts.specs.Given.SeizeDeclared.advance.Advance.{Advance}
 use Rattle.run_debts.specs.Given.SeizeDeclared.rows.settle.Settled.{Settled}
 use Rattle.run_debts.specs.Given.SeizeDeclared.states.TheConstants.{HEAD}
 use Rattle.run_debts.specs.Given.TablesDeclared.node.Node.{Node}
@@ -53,7 +53,7 @@ module _ (K V : Type 0) (same : K → K → Bool) (hash : ℕ → K → ℕ) whe
   abbrev pub MakingsNoteSlots : Type 0
   MakingsNoteSlots =
       (known : Known) (s : Scene K V) (old new : Held K V) → IsAt same hash old s → SlotsNoted known old.memory
-      → (i : ℕ) (said : Progress Setting) → MakingLeads same hash i said s old new → (b : Beginning K) → s.makers i ≡ Some b → (map : ℕ)
+      → (i : ℕ) (said : Advance Setting) → MakingLeads same hash i said s old new → (b : Beginning K) → s.makers i ≡ Some b → (map : ℕ)
       → SlotsNoted (known_after (acts.Making map) new.changed known) new.memory
 
   abbrev pub EndingsNoteSlots : Type 0

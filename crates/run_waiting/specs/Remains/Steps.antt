@@ -1,7 +1,7 @@
 -- What is promised of each kind of step: what ended maps have left over is behind the roots that the moment after it says. So it is where maps come and go, and once all is reclaimed.
 use Rattle.std.specs.Prelude.{◌≡◌, ◌<◌, ◌≤◌, ℕ, Bool, false, List, [], length, filter, map, Option, Some, None}
 use Rattle.run_debts.specs.Given.SeizeWorld.{Begin, Step, with_at}
-use Rattle.run_debts.specs.Given.SeizeDeclared.progress.Progress.{Progress}
+use Rattle.run_debts.specs.Given.SeizeDeclared.advance.Advance.{Advance}
 use Rattle.run_debts.specs.Given.SeizeDeclared.rows.settle.Settled.{Settled}
 use Rattle.run_debts.specs.Given.TablesDeclared.node.Node.{Node}
 use Rattle.run_debts.specs.Given.TablesDeclared.setting.Setting.{Setting}
@@ -103,7 +103,7 @@ module _ (K V : Type 0) (same : K → K → Bool) (hash : ℕ → K → ℕ) whe
   abbrev pub MakingsKeepRemains : Type 0
   MakingsKeepRemains =
       (m : Moment K V) (known known2 : Known) (s : Scene K V) (old new : Held K V) → IsAt same hash old s → ShowsRemains old.roots m known s
-      → (i : ℕ) (said : Progress Setting) (leads : MakingLeads same hash i said s old new) (b : Beginning K) (here : s.makers i ≡ Some b)
+      → (i : ℕ) (said : Advance Setting) (leads : MakingLeads same hash i said s old new) (b : Beginning K) (here : s.makers i ≡ Some b)
       → (caller : Option (List ℕ)) (acted : Option ℕ) (effects : List Effect)
       → (let to = leads b here in
       let led = making_after same hash s old new i b to.0 to.2.step.w2 said to.3 in

@@ -2,8 +2,8 @@
 ghost use Rattle.std.specs.Prelude.{◌≡◌};
 ghost use Rattle.seize.specs.Defer.{deferring};
 
-use crate::machine::Machine;
-use crate::progress::Progress;
+use crate::advance::Advance;
+use crate::machine::StepMachine;
 use crate::states::NEXT;
 use seize_words::{At, Link, Memory};
 
@@ -44,33 +44,33 @@ impl Defer {
     }
 }
 
-impl<T> Machine<T> for Defer {
+impl<T> StepMachine<T> for Defer {
     ghost use Rattle.seize.specs.Defer.{defer_plan};
 
-    type Progress = Progress<()>;
+    type Progress = Advance<()>;
 
     ghost plan = { defer_plan };
 
-    fn step<M: Memory<T>>(&mut self, memory: &mut M) -> Progress<()> {
+    fn step<M: Memory<T>>(&mut self, memory: &mut M) -> Advance<()> {
         match self.stands {
             Deferring::Reads => {
                 let head = memory.load(self.table_word);
                 self.stands = Deferring::Links { head };
-                Progress::Goes
+                Advance::Goes
             }
             Deferring::Links { head } => {
                 memory.store(At::Entry(Link::block_of(self.block), NEXT), head);
                 self.stands = Deferring::Pushes { head };
-                Progress::Goes
+                Advance::Goes
             }
             Deferring::Pushes { head } => {
                 self.stands = match memory.exchange(self.table_word, head, self.block) {
                     Ok(_) => Deferring::Over,
                     Err(found) => Deferring::Links { head: found },
                 };
-                Progress::Goes
+                Advance::Goes
             }
-            Deferring::Over => Progress::Done(()),
+            Deferring::Over => Advance::Done(()),
         }
     }
 }

@@ -1,6 +1,6 @@
 //! A slot is made active, or given up: one store each.
-use crate::machine::Machine;
-use crate::progress::Progress;
+use crate::advance::Advance;
+use crate::machine::StepMachine;
 use crate::states::{ACTIVE, FREE, HEAD};
 use seize_words::{At, Memory};
 
@@ -12,16 +12,16 @@ pub struct Enter {
     pub slot: u64,
 }
 
-impl<T> Machine<T> for Enter {
+impl<T> StepMachine<T> for Enter {
     ghost use Rattle.seize.specs.Enter.{enter_plan};
 
-    type Progress = Progress<()>;
+    type Progress = Advance<()>;
 
     ghost plan = { enter_plan };
 
-    fn step<M: Memory<T>>(&mut self, memory: &mut M) -> Progress<()> {
+    fn step<M: Memory<T>>(&mut self, memory: &mut M) -> Advance<()> {
         memory.store(At::Slot(self.slot, HEAD), ACTIVE);
-        Progress::Done(())
+        Advance::Done(())
     }
 }
 
@@ -32,15 +32,15 @@ pub struct Unregister {
     pub slot: u64,
 }
 
-impl<T> Machine<T> for Unregister {
+impl<T> StepMachine<T> for Unregister {
     ghost use Rattle.seize.specs.Enter.{unregister_plan};
 
-    type Progress = Progress<()>;
+    type Progress = Advance<()>;
 
     ghost plan = { unregister_plan };
 
-    fn step<M: Memory<T>>(&mut self, memory: &mut M) -> Progress<()> {
+    fn step<M: Memory<T>>(&mut self, memory: &mut M) -> Advance<()> {
         memory.store(At::Slot(self.slot, HEAD), FREE);
-        Progress::Done(())
+        Advance::Done(())
     }
 }

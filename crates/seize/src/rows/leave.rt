@@ -5,7 +5,7 @@ ghost use Rattle.seize.specs.declared.rows.leave.Leaving.TheVariants as at;
 ghost use Rattle.seize.specs.declared.states.TheConstants.{IDLE, ACTIVE};
 ghost use Rattle.seize.specs.Leave.{leaving, counted_down, standing, swaps, settled, frees, leave_plan};
 
-use crate::machine::Machine;
+use crate::machine::StepMachine;
 use crate::rows::settle::{Defers, Settle, Settled};
 use crate::states::{ACTIVE, FREE, HEAD, IDLE};
 use seize_words::{At, Memory};
@@ -137,7 +137,7 @@ impl Leave {
     }
 }
 
-impl<T: Defers> Machine<T> for Leave {
+impl<T: Defers> StepMachine<T> for Leave {
     type Progress = Settled<T>;
 
     ghost plan = { leave_plan T.defers };

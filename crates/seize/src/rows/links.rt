@@ -1,7 +1,7 @@
 //! What a guard does with links, each link a whole word: a machine of one operation each, which ends with its step.
 
-use crate::machine::Machine;
-use crate::progress::Progress;
+use crate::advance::Advance;
+use crate::machine::StepMachine;
 use seize_words::{At, Memory};
 
 /// Reads a link. The block that it names stays as long as the critical section lasts.
@@ -11,15 +11,15 @@ pub struct Protect {
     pub link: At,
 }
 
-impl<T> Machine<T> for Protect {
+impl<T> StepMachine<T> for Protect {
     ghost use Rattle.seize.specs.Links.{protect_plan};
 
-    type Progress = Progress<u64>;
+    type Progress = Advance<u64>;
 
     ghost plan = { protect_plan };
 
-    fn step<M: Memory<T>>(&mut self, memory: &mut M) -> Progress<u64> {
-        Progress::Done(memory.load(self.link))
+    fn step<M: Memory<T>>(&mut self, memory: &mut M) -> Advance<u64> {
+        Advance::Done(memory.load(self.link))
     }
 }
 
@@ -32,15 +32,15 @@ pub struct Swap {
     pub new: u64,
 }
 
-impl<T> Machine<T> for Swap {
+impl<T> StepMachine<T> for Swap {
     ghost use Rattle.seize.specs.Links.{swap_plan};
 
-    type Progress = Progress<u64>;
+    type Progress = Advance<u64>;
 
     ghost plan = { swap_plan };
 
-    fn step<M: Memory<T>>(&mut self, memory: &mut M) -> Progress<u64> {
-        Progress::Done(memory.swap(self.link, self.new))
+    fn step<M: Memory<T>>(&mut self, memory: &mut M) -> Advance<u64> {
+        Advance::Done(memory.swap(self.link, self.new))
     }
 }
 
@@ -56,15 +56,15 @@ pub struct CompareExchange {
     pub new: u64,
 }
 
-impl<T> Machine<T> for CompareExchange {
+impl<T> StepMachine<T> for CompareExchange {
     ghost use Rattle.seize.specs.Links.{compare_exchange_plan};
 
-    type Progress = Progress<Result<u64, u64>>;
+    type Progress = Advance<Result<u64, u64>>;
 
     ghost plan = { compare_exchange_plan };
 
-    fn step<M: Memory<T>>(&mut self, memory: &mut M) -> Progress<Result<u64, u64>> {
-        Progress::Done(memory.exchange(self.link, self.old, self.new))
+    fn step<M: Memory<T>>(&mut self, memory: &mut M) -> Advance<Result<u64, u64>> {
+        Advance::Done(memory.exchange(self.link, self.old, self.new))
     }
 }
 
@@ -77,15 +77,15 @@ pub struct Mark {
     pub marks: u64,
 }
 
-impl<T> Machine<T> for Mark {
+impl<T> StepMachine<T> for Mark {
     ghost use Rattle.seize.specs.Links.{mark_plan};
 
-    type Progress = Progress<u64>;
+    type Progress = Advance<u64>;
 
     ghost plan = { mark_plan };
 
-    fn step<M: Memory<T>>(&mut self, memory: &mut M) -> Progress<u64> {
-        Progress::Done(memory.or(self.link, self.marks))
+    fn step<M: Memory<T>>(&mut self, memory: &mut M) -> Advance<u64> {
+        Advance::Done(memory.or(self.link, self.marks))
     }
 }
 
@@ -99,14 +99,14 @@ pub struct Copy {
     pub word: u64,
 }
 
-impl<T> Machine<T> for Copy {
+impl<T> StepMachine<T> for Copy {
     ghost use Rattle.seize.specs.Links.{copy_plan};
 
-    type Progress = Progress<Result<u64, u64>>;
+    type Progress = Advance<Result<u64, u64>>;
 
     ghost plan = { copy_plan };
 
-    fn step<M: Memory<T>>(&mut self, memory: &mut M) -> Progress<Result<u64, u64>> {
-        Progress::Done(memory.exchange(self.link, 0, self.word))
+    fn step<M: Memory<T>>(&mut self, memory: &mut M) -> Advance<Result<u64, u64>> {
+        Advance::Done(memory.exchange(self.link, 0, self.word))
     }
 }

@@ -3,7 +3,7 @@ ghost use Rattle.std.specs.Prelude.{◌≡◌};
 ghost use Rattle.seize_words.specs.OneMemory.Plan.{May, Steps};
 ghost use Rattle.seize.specs.ReclaimAll.{reclaiming_all, clearing, first_root, next_root, first_batch, next_head, next_batch, next_free, reclaim_all_plan};
 
-use crate::machine::Machine;
+use crate::machine::StepMachine;
 use crate::rows::leave::Leave;
 use crate::rows::settle::{Defers, Settle, Settled};
 use crate::states::LAST_SLOT;
@@ -227,7 +227,7 @@ impl ReclaimAll {
     }
 }
 
-impl<T: Defers + LeftOver> Machine<T> for ReclaimAll {
+impl<T: Defers + LeftOver> StepMachine<T> for ReclaimAll {
     type Progress = Settled<T>;
 
     ghost plan = { reclaim_all_plan T.defers T.left_over };

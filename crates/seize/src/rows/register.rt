@@ -3,8 +3,8 @@ ghost use Rattle.std.specs.Prelude.{◌≡◌};
 ghost use Rattle.seize.specs.Register.{bucket_needed, NeedsEnough, NeedsTheNext, going, refused, registered, further, plan_at};
 ghost use Rattle.seize_words.specs.OneMemory.Plan.{May, Steps};
 
-use crate::machine::Machine;
-use crate::progress::Progress;
+use crate::advance::Advance;
+use crate::machine::StepMachine;
 use crate::states::{ACTIVE, FREE, HEAD, IDLE, LAST_SLOT, NEVER};
 use seize_words::slots::place_of;
 use seize_words::{At, Fault, Memory};
@@ -78,21 +78,21 @@ impl Register {
         }
     }
 
-    fn refuse(&mut self, fault: Fault) -> Progress<u64>
+    fn refuse(&mut self, fault: Fault) -> Advance<u64>
         ensures { (self.new, result) ≡ refused self.old fault }
     {
         self.stands = Registering::Refused(fault);
-        Progress::Refused(fault)
+        Advance::Refused(fault)
     }
 
-    fn go_to(&mut self, stands: Registering) -> Progress<u64>
+    fn go_to(&mut self, stands: Registering) -> Advance<u64>
         ensures { (self.new, result) ≡ going self.old stands }
     {
         self.stands = stands;
-        Progress::Goes
+        Advance::Goes
     }
 
-    fn advance(&mut self) -> Progress<u64>
+    fn advance(&mut self) -> Advance<u64>
         ensures { (self.new, result) ≡ further self.old }
     {
         if self.slot < LAST_SLOT {
@@ -103,14 +103,14 @@ impl Register {
         }
     }
 
-    fn end(&mut self) -> Progress<u64>
+    fn end(&mut self) -> Advance<u64>
         ensures { (self.new, result) ≡ registered self.old }
     {
         self.stands = Registering::Registered;
-        Progress::Done(self.slot)
+        Advance::Done(self.slot)
     }
 
-    fn begin<T, M: Memory<T>>(&mut self, memory: &mut M) -> Progress<u64>
+    fn begin<T, M: Memory<T>>(&mut self, memory: &mut M) -> Advance<u64>
         requires { May M.can M.took M.shown memory.old (plan_at self.old Registering.Begin) }
         ensures { Steps M.took M.shown memory.old (plan_at self.old Registering.Begin) memory.new (self.new, result) }
     {
@@ -120,7 +120,7 @@ impl Register {
         }
     }
 
-    fn look<T, M: Memory<T>>(&mut self, memory: &mut M) -> Progress<u64>
+    fn look<T, M: Memory<T>>(&mut self, memory: &mut M) -> Advance<u64>
         requires { May M.can M.took M.shown memory.old (plan_at self.old Registering.Look) }
         ensures { Steps M.took M.shown memory.old (plan_at self.old Registering.Look) memory.new (self.new, result) }
     {
@@ -135,7 +135,7 @@ impl Register {
         }
     }
 
-    fn widen<T, M: Memory<T>>(&mut self, memory: &mut M, bucket: u64, seen: u64) -> Progress<u64>
+    fn widen<T, M: Memory<T>>(&mut self, memory: &mut M, bucket: u64, seen: u64) -> Advance<u64>
         requires { May M.can M.took M.shown memory.old (plan_at self.old (Registering.Widen bucket seen)) }
         ensures { Steps M.took M.shown memory.old (plan_at self.old (Registering.Widen bucket seen)) memory.new (self.new, result) }
     {
@@ -145,7 +145,7 @@ impl Register {
         }
     }
 
-    fn take<T, M: Memory<T>>(&mut self, memory: &mut M, seen: u64) -> Progress<u64>
+    fn take<T, M: Memory<T>>(&mut self, memory: &mut M, seen: u64) -> Advance<u64>
         requires { May M.can M.took M.shown memory.old (plan_at self.old (Registering.Take seen)) }
         ensures { Steps M.took M.shown memory.old (plan_at self.old (Registering.Take seen)) memory.new (self.new, result) }
     {
@@ -156,7 +156,7 @@ impl Register {
         }
     }
 
-    fn enter<T, M: Memory<T>>(&mut self, memory: &mut M) -> Progress<u64>
+    fn enter<T, M: Memory<T>>(&mut self, memory: &mut M) -> Advance<u64>
         requires { May M.can M.took M.shown memory.old (plan_at self.old Registering.Enter) }
         ensures { Steps M.took M.shown memory.old (plan_at self.old Registering.Enter) memory.new (self.new, result) }
     {
@@ -165,22 +165,22 @@ impl Register {
     }
 }
 
-impl<T> Machine<T> for Register {
+impl<T> StepMachine<T> for Register {
     ghost use Rattle.seize.specs.Register.{register_plan};
 
-    type Progress = Progress<u64>;
+    type Progress = Advance<u64>;
 
     ghost plan = { register_plan };
 
-    fn step<M: Memory<T>>(&mut self, memory: &mut M) -> Progress<u64> {
+    fn step<M: Memory<T>>(&mut self, memory: &mut M) -> Advance<u64> {
         match self.stands {
             Registering::Begin => self.begin(memory),
             Registering::Look => self.look(memory),
             Registering::Widen { bucket, seen } => self.widen(memory, bucket, seen),
             Registering::Take { seen } => self.take(memory, seen),
             Registering::Enter => self.enter(memory),
-            Registering::Registered => Progress::Done(self.slot),
-            Registering::Refused(fault) => Progress::Refused(fault),
+            Registering::Registered => Advance::Done(self.slot),
+            Registering::Refused(fault) => Advance::Refused(fault),
         }
     }
 }

@@ -2,7 +2,7 @@
 ghost use Rattle.std.specs.Prelude.{◌≡◌, Option};
 ghost use Rattle.seize.specs.Settle.{resting, retiring, flushing, counting_down, with_batch, onward, scanning, with_put, behind, pushed_of};
 
-use crate::machine::Machine;
+use crate::machine::StepMachine;
 use crate::states::{ACTIVE, LAST_SLOT};
 use seize_words::Memory;
 
@@ -338,7 +338,7 @@ impl Settling {
     }
 }
 
-impl<T: Defers> Machine<T> for Settle {
+impl<T: Defers> StepMachine<T> for Settle {
     ghost use Rattle.seize.specs.Settle.{settle_plan};
 
     type Progress = Settled<T>;

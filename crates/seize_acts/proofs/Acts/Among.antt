@@ -6,8 +6,8 @@ use Rattle.seize_words.specs.OneMemory.Mem.{Mem, Took, value_at}
 use Rattle.seize_words.specs.OneMemory.Plan.{Steps, Ends, Now}
 use Rattle.seize_words.proofs.OneMemory.OneOwner.Operations.{loaded}
 use Rattle.seize.specs.declared.states.TheConstants.{BATCH, HELD, LAST_SLOT}
-use Rattle.seize.specs.declared.progress.Progress.{Progress}
-use Rattle.seize.specs.declared.progress.Progress.TheVariants as progress
+use Rattle.seize.specs.declared.advance.Advance.{Advance}
+use Rattle.seize.specs.declared.advance.Advance.TheVariants as progress
 use Rattle.seize.specs.declared.rows.settle.Settle.{Settle}
 use Rattle.seize.specs.declared.rows.settle.Settling.{Settling}
 use Rattle.seize.specs.declared.rows.settle.Settling.TheVariants as at
@@ -82,7 +82,7 @@ module _ {T : Type 0} (defers : T → Option ℕ) where
     Further row w v = ((v.row i ≡ row) × (v.memory ≡ w.memory)) ⊎ (row_steps_left defers v.memory (v.row i) < row_steps_left defers w.memory row)
 
     module _ (w : World T) (came : Came defers size i w) where
-      registers_further : (c d : Register) (m : Mem T) (o : Progress ℕ) → Steps Took value_at w.memory (register_plan c) m (d, o) → Further (Registers c) w (registers_on w i c m (d, o))
+      registers_further : (c d : Register) (m : Mem T) (o : Advance ℕ) → Steps Took value_at w.memory (register_plan c) m (d, o) → Further (Registers c) w (registers_on w i c m (d, o))
       registers_further c d m progress.Goes st = inr (here w m (Registers d) _ (more _ _ (register_ends w.memory c m (d, progress.Goes) st tt)))
       registers_further c d m progress.Waits st = inr (here w m (Registers d) _ (more _ _ (register_ends w.memory c m (d, progress.Waits) st tt)))
       registers_further c d m (progress.Done s) st = inr (here w m Rests _ (some_left (register_to_go c)))
@@ -100,7 +100,7 @@ module _ {T : Type 0} (defers : T → Option ℕ) where
       leaves_further c d m (settled.Gave value) is st = inr (here w m (Leaves d) _ (more _ _ (leaves_go_lower defers size i w came c is m d (settled.Gave value) st refl)))
       leaves_further c d m settled.Done is st = inr (here w m Rests _ (some_left (leave_steps_left defers goes_further w.memory c)))
 
-      defers_further : (s : ℕ) (c d : Defer) (m : Mem T) (o : Progress Unit) → Lower (defer_to_go w.memory c) m (d, o) → Further (Defers s c) w (defers_on w i s m (d, o))
+      defers_further : (s : ℕ) (c d : Defer) (m : Mem T) (o : Advance Unit) → Lower (defer_to_go w.memory c) m (d, o) → Further (Defers s c) w (defers_on w i s m (d, o))
       defers_further s c d m progress.Goes (inl k) = inr (here w m (Defers s d) _ (more _ _ k.1))
       defers_further s c d m progress.Goes (inr e) = absurd (cc e)
       defers_further s c d m progress.Waits (inl k) = absurd (let e = k.0 in cc e)

@@ -5,8 +5,8 @@ use Rattle.seize_words.specs.OneMemory.Op.{Op, Out, Load, Store, Swap, Add, Or, 
 use Rattle.seize_words.specs.OneMemory.Mem.{Mem, Can, Took, after, value_at, word_at}
 use Rattle.seize_words.specs.OneMemory.Plan.{Plan, Turn, Do, May, Steps}
 use Rattle.seize.specs.declared.states.TheConstants.{LAST_SLOT}
-use Rattle.seize.specs.declared.progress.Progress.{Progress}
-use Rattle.seize.specs.declared.progress.Progress.TheVariants as progress
+use Rattle.seize.specs.declared.advance.Advance.{Advance}
+use Rattle.seize.specs.declared.advance.Advance.TheVariants as progress
 use Rattle.seize.specs.declared.rows.settle.Settle.{Settle}
 use Rattle.seize.specs.declared.rows.settle.Settled.{Settled}
 use Rattle.seize.specs.declared.rows.settle.Settled.TheVariants as settled
@@ -106,7 +106,7 @@ module _ {T : Type 0} (defers : T → Option ℕ) (size i : ℕ) where
   some_left k = omega arith
 
   module _ (w : World T) (lone : Lone defers (LAST_SLOT + 1) size i w) (held : HeldByRows w) where
-    registers_less : (c d : Register) (m : Mem T) (o : Progress ℕ) → Steps Took value_at w.memory (register_plan c) m (d, o)
+    registers_less : (c d : Register) (m : Mem T) (o : Advance ℕ) → Steps Took value_at w.memory (register_plan c) m (d, o)
         → to_go (registers_on w i c m (d, o)) < suc (register_to_go c)
     registers_less c d m progress.Goes st = here w m (Registers d) _ (more _ _ (register_ends w.memory c m (d, progress.Goes) st tt))
     registers_less c d m progress.Waits st = here w m (Registers d) _ (more _ _ (register_ends w.memory c m (d, progress.Waits) st tt))
@@ -135,7 +135,7 @@ module _ {T : Type 0} (defers : T → Option ℕ) (size i : ℕ) where
         here w m (Leaves d) _ (more _ _ (leaves_lower defers size i w lone held c is m d (settled.Gave value) st refl))
     leaves_less c d m settled.Done is st = here w m Rests _ (some_left (leave_to_go defers w.memory c))
 
-    defers_less : (s : ℕ) (c d : Defer) (m : Mem T) (o : Progress Unit) → w.row i ≡ Defers s c → Lower (defer_to_go w.memory c) m (d, o)
+    defers_less : (s : ℕ) (c d : Defer) (m : Mem T) (o : Advance Unit) → w.row i ≡ Defers s c → Lower (defer_to_go w.memory c) m (d, o)
         → to_go (defers_on w i s m (d, o)) < suc (defer_to_go w.memory c)
     defers_less s c d m progress.Goes is (inl k) = here w m (Defers s d) _ (more _ _ k.1)
     defers_less s c d m progress.Goes is (inr e) = absurd (cc e)

@@ -6,7 +6,7 @@ use Rattle.seize_words.specs.declared.at.At.TheVariants as name
 use Rattle.seize_words.specs.OneMemory.Op.{Op, Out, Load, Store, Swap, Add, Or, Exchange, Make, Take, Rewrite, Room, Found, Stored, Exchanged, Made, Taken, Roomed}
 use Rattle.seize_words.specs.OneMemory.Mem.{Mem, Gives, after, value_at}
 use Rattle.seize.specs.declared.states.TheConstants.{NEXT}
-use Rattle.seize.specs.declared.progress.Progress.{Progress}
+use Rattle.seize.specs.declared.advance.Advance.{Advance}
 use Rattle.seize.specs.declared.rows.enter.Enter.{Enter}
 use Rattle.seize.specs.declared.rows.enter.Unregister.{Unregister}
 use Rattle.seize.specs.Enter.{enter_plan, unregister_plan}
@@ -25,14 +25,14 @@ module _ {T : Type 0} (defers : T → Option ℕ) (size : ℕ) where
   row_stepped i Rests g w n e = absurd (cc e)
   row_stepped i (Registers c) g w n e = let s = some _ _ n e in (s.0.0, s.0.1, was_stepped w.memory g _ s.0 s.1, sym (same_some _ n s.2))
   row_stepped i (Enters c) g w n e =
-      let to = (λ (p : Mem T × (Enter × Progress Unit)). with_use (world.after_step w i p.0 Rests (Entered c.slot ∷ [])) c.slot (Inside 0)) in
+      let to = (λ (p : Mem T × (Enter × Advance Unit)). with_use (world.after_step w i p.0 Rests (Entered c.slot ∷ [])) c.slot (Inside 0)) in
       let s = some (stepped w.memory g (enter_plan c)) (λ p. Some (to p)) n e in
       (s.0.0, s.0.1, was_stepped w.memory g (enter_plan c) s.0 s.1, sym (same_some (to s.0) n s.2))
   row_stepped i (Settles c) g w n e = let s = some _ _ n e in (s.0.0, s.0.1, was_stepped w.memory g _ s.0 s.1, sym (same_some _ n s.2))
   row_stepped i (Leaves c) g w n e = let s = some _ _ n e in (s.0.0, s.0.1, was_stepped w.memory g _ s.0 s.1, sym (same_some _ n s.2))
   row_stepped i (Defers s c) g w n e = let s = some _ _ n e in (s.0.0, s.0.1, was_stepped w.memory g _ s.0 s.1, sym (same_some _ n s.2))
   row_stepped i (Frees c) g w n e =
-      let to = (λ (p : Mem T × (Unregister × Progress Unit)). with_use (world.after_step w i p.0 Rests []) c.slot Vacant) in
+      let to = (λ (p : Mem T × (Unregister × Advance Unit)). with_use (world.after_step w i p.0 Rests []) c.slot Vacant) in
       let s = some (stepped w.memory g (unregister_plan c)) (λ p. Some (to p)) n e in
       (s.0.0, s.0.1, was_stepped w.memory g (unregister_plan c) s.0 s.1, sym (same_some (to s.0) n s.2))
 

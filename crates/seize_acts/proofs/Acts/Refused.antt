@@ -7,7 +7,7 @@ use Rattle.seize_words.specs.declared.fault.Fault.TheVariants.{SlotsUsedUp, Memo
 use Rattle.seize_words.specs.OneMemory.Mem.{Mem}
 use Rattle.seize_words.specs.OneMemory.Place.{capacity}
 use Rattle.seize.specs.declared.states.TheConstants.{LAST_SLOT}
-use Rattle.seize.specs.declared.progress.Progress.TheVariants as progress
+use Rattle.seize.specs.declared.advance.Advance.TheVariants as progress
 use Rattle.seize.specs.Register.{register_plan}
 use Rattle.seize.specs.World.{World, Row, Rests, Registers, Enters, Settles, Leaves, Defers, Frees, Request, at_start}
 use Rattle.seize.specs.World as world

@@ -9,8 +9,8 @@ use Rattle.seize_words.specs.OneMemory.Plan.{Steps, Ends, Now}
 use Rattle.seize_words.specs.declared.fault.Fault.TheVariants.{SlotsUsedUp}
 use Rattle.seize_words.proofs.OneMemory.OneOwner.Operations.{stored, swapped}
 use Rattle.seize.specs.declared.states.TheConstants.{HEAD, BATCH, ACTIVE, FREE, HELD, LAST_SLOT}
-use Rattle.seize.specs.declared.progress.Progress.{Progress}
-use Rattle.seize.specs.declared.progress.Progress.TheVariants as progress
+use Rattle.seize.specs.declared.advance.Advance.{Advance}
+use Rattle.seize.specs.declared.advance.Advance.TheVariants as progress
 use Rattle.seize.specs.declared.rows.settle.Settle.{Settle}
 use Rattle.seize.specs.declared.rows.settle.Settling.{Settling}
 use Rattle.seize.specs.declared.rows.settle.Settling.TheVariants as at
@@ -98,11 +98,11 @@ module _ (n i : ℕ) (f : View) (m : State) (x : Extra) (c : Settle) (held : c.h
 
 -- Rows that never wait.
 
-abbrev IsNoWait : {A : Type 0} → Progress A → Type 0
+abbrev IsNoWait : {A : Type 0} → Advance A → Type 0
 IsNoWait progress.Waits = ⊥
 IsNoWait _ = Unit {0}
 
-abbrev NoWait : {S A : Type 0} → S × Progress A → Type 0
+abbrev NoWait : {S A : Type 0} → S × Advance A → Type 0
 NoWait e = IsNoWait e.1
 
 further_goes : (c : Register) → NoWait (registers.further c)

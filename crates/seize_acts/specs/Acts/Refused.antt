@@ -7,7 +7,7 @@ use Rattle.seize_words.specs.OneMemory.Op.{Roomed}
 use Rattle.seize_words.specs.OneMemory.Mem.{Mem, word_at}
 use Rattle.seize_words.specs.OneMemory.Place.{capacity}
 use Rattle.seize.specs.declared.states.TheConstants.{HEAD, LAST_SLOT}
-use Rattle.seize.specs.declared.progress.Progress.TheVariants as progress
+use Rattle.seize.specs.declared.advance.Advance.TheVariants as progress
 use Rattle.seize.specs.declared.rows.defer.Defer.{Defer}
 use Rattle.seize.specs.declared.rows.register.Register.{Register}
 use Rattle.seize.specs.declared.rows.enter.Enter.{Enter}

@@ -6,7 +6,7 @@ ghost use Rattle.seize_views.specs.Views.Notes.{NotedHolds};
 ghost use Rattle.seize_callers.specs.Owning.{borne_by, brought_by};
 ghost use Rattle.seize_views.specs.Views.Told.{alone_with, cut_in};
 ghost use Rattle.seize_views.specs.declared.view.Deed.TheVariants.{Looked, Wrote};
-ghost use Rattle.seize_views.specs.declared.view.View.TheVariants.{Brings, Rests};
+ghost use Rattle.seize_views.specs.declared.view.SlotView.TheVariants.{Brings, Rests};
 
 use crate::caller::{Caller, words_for};
 use seize::rows::Defers;

@@ -7,7 +7,7 @@ ghost use Rattle.seize_callers.specs.Kept.{is_home};
 ghost use Rattle.seize_views.specs.Views.Notes.{NotedHolds};
 ghost use Rattle.seize_views.specs.Views.Watched.{open_at};
 ghost use Rattle.seize_views.specs.declared.view.Deed.TheVariants.{Looked, Marked};
-ghost use Rattle.seize_views.specs.declared.view.View.TheVariants.{Rests, Under};
+ghost use Rattle.seize_views.specs.declared.view.SlotView.TheVariants.{Rests, Under};
 
 use crate::caller::{Caller, named};
 use seize::rows::Defers;
@@ -18,25 +18,25 @@ use seize_words::At;
 
 /// A seat that takes steps under a caller whose section is open, and who is lent for that: any number of passes may do so at a time. Between two calls it
 /// rests.
-pub struct Pass<T: Defers> {
+pub struct PassSeat<T: Defers> {
     seat: Seat<T, OfRows>,
     ghost rests: { seat.view.knows ≡ Rests },
     ghost home: { is_home seat.away ≡ true },
 }
 
-impl<T: Defers> Pass<T> {
+impl<T: Defers> PassSeat<T> {
     /// One more of this memory.
     pub fn new(blocks: &Blocks<T, OfRows>) -> Self
         ensures { result.seat.base ≡ blocks.now.words.id.views_name }
     {
         let seat = blocks.seat();
-        Pass { seat }
+        PassSeat { seat }
     }
 }
 
-impl<T: Defers> Drop for Pass<T> {
+impl<T: Defers> Drop for PassSeat<T> {
     fn drop(self) {
-        let Pass { seat: _ } = self;
+        let PassSeat { seat: _ } = self;
     }
 }
 
@@ -118,7 +118,7 @@ impl<'a, T: Defers> Caller<'a, T> {
         _slot: u64,
         root: u64,
         bits: Option<u64>,
-        pass: &mut Pass<T>,
+        pass: &mut PassSeat<T>,
     ) -> (u64, Option<&'g T>)
         requires own { pass.old.seat.base ≡ self.now.blocks.now.words.id.views_name }
         requires inside { open_at self.now.seat.view.knows ≡ Some _slot }
@@ -149,7 +149,7 @@ impl<'a, T: Defers> Caller<'a, T> {
         &'g self,
         _slot: u64,
         root: u64,
-        pass: &mut Pass<T>,
+        pass: &mut PassSeat<T>,
     ) -> (u64, Option<&'g T>)
         requires own { pass.old.seat.base ≡ self.now.blocks.now.words.id.views_name }
         requires inside { open_at self.now.seat.view.knows ≡ Some _slot }
@@ -169,7 +169,7 @@ impl<'a, T: Defers> Caller<'a, T> {
         _slot: u64,
         root: u64,
         bits: u64,
-        pass: &mut Pass<T>,
+        pass: &mut PassSeat<T>,
     ) -> (u64, Option<&'g T>)
         requires own { pass.old.seat.base ≡ self.now.blocks.now.words.id.views_name }
         requires inside { open_at self.now.seat.view.knows ≡ Some _slot }

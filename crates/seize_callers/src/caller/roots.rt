@@ -6,7 +6,7 @@ ghost use Rattle.seize_views.specs.Views.Notes.{NotedHolds, looked_at, written_a
 ghost use Rattle.seize_views.specs.Views.Told.{seen_as, seen_in, cut_as, made_beside};
 ghost use Rattle.seize_callers.specs.Owning.{borne_by};
 ghost use Rattle.seize_views.specs.declared.view.Deed.TheVariants.{Looked, Marked};
-ghost use Rattle.seize_views.specs.declared.view.View.TheVariants.{Rests, Outside, Owes, Inside};
+ghost use Rattle.seize_views.specs.declared.view.SlotView.TheVariants.{Rests, Outside, Owes, Inside};
 ghost use Rattle.seize_views.specs.declared.view.Has.{Has};
 ghost use Rattle.seize_views.specs.declared.view.Has.TheVariants.{Nothing, Made, Seen, Cut};
 

@@ -4,7 +4,7 @@ ghost use Rattle.seize_views.specs.Views.Promises.{IsLooking};
 ghost use Rattle.seize_views.specs.declared.view.Began.TheVariants.{Retirement, Section, Trial};
 ghost use Rattle.seize_views.specs.declared.view.Has.{Has};
 ghost use Rattle.seize_views.specs.declared.view.Has.TheVariants.{Nothing, Cut};
-ghost use Rattle.seize_views.specs.declared.view.View.TheVariants.{Outside, Owes, Inside};
+ghost use Rattle.seize_views.specs.declared.view.SlotView.TheVariants.{Outside, Owes, Inside};
 
 use crate::caller::Caller;
 use crate::errands::{Flushes, FlushesIdle, Leaves, Refreshes, Retires, RetiresIdle};

@@ -1,7 +1,7 @@
 //! A seat that watches the open section of a caller's slot.
 ghost use Rattle.std.specs.Prelude.{◌≡◌, ◌+◌, ℕ, Some};
 ghost use Rattle.seize_views.specs.Views.Watched.{open_at};
-ghost use Rattle.seize_views.specs.declared.view.View.TheVariants.{Rests, Watches};
+ghost use Rattle.seize_views.specs.declared.view.SlotView.TheVariants.{Rests, Watches};
 
 use crate::caller::Caller;
 use seize::rows::Defers;

@@ -13,16 +13,16 @@ ghost use Rattle.seize_views.specs.Views.Told.{list_taken};
 ghost use Rattle.seize_views.specs.declared.view.Becomes.{Becomes};
 ghost use Rattle.seize_views.specs.declared.view.Has.{Has};
 ghost use Rattle.seize_views.specs.declared.view.Has.TheVariants.{Nothing, Cut};
-ghost use Rattle.seize_views.specs.declared.view.View.TheVariants.{Outside, Owes, Inside, Left};
+ghost use Rattle.seize_views.specs.declared.view.SlotView.TheVariants.{Outside, Owes, Inside, Left};
 ghost use Rattle.seize_views.specs.declared.view.Why.TheVariants as reason;
 
 use crate::within::Within;
-use seize::Machine;
+use seize::StepMachine;
 use seize::rows::{Defers, Settle, Settled, Settling};
 use seize::states::{ACTIVE, HEAD, IDLE};
 use seize_straight::{Retired, reclaims, retire, settle_of};
 use seize_views::Content;
-use seize_views::turns::{Ending, Flushing, Leaving, Refreshing, Retiring};
+use seize_views::turns::{BegunEnds, Flushing, LeavingBegins, Refreshing, Retiring};
 use seize_words::{At, Fault, Link, Look, Memory};
 
 /// Whether a settling has ended.
@@ -84,7 +84,7 @@ impl<'a, T: Defers + Drop, C: Content<T>> Within<'a, T, C> {
         C::goes_on();
         let mut row = row;
         self.settles(&mut row);
-        self.blocks.part::<Ending<T, C>>(&mut *self.seat);
+        self.blocks.part::<BegunEnds<T, C>>(&mut *self.seat);
     }
 
     /// Retires the block of this link, whose retirement has begun.
@@ -103,7 +103,7 @@ impl<'a, T: Defers + Drop, C: Content<T>> Within<'a, T, C> {
         let size = self.batch_size;
         let retired = retire(self, slot, size, link);
         match retired {
-            Retired::Ended => self.blocks.part::<Ending<T, C>>(&mut *self.seat),
+            Retired::Ended => self.blocks.part::<BegunEnds<T, C>>(&mut *self.seat),
             _ => self.ends(settle_of(slot, size, link, retired)),
         }
     }
@@ -144,7 +144,7 @@ impl<'a, T: Defers + Drop, C: Content<T>> Within<'a, T, C> {
         C::goes_on();
         let mut row = Settle::count_down(slot, self.batch_size, head);
         self.settles(&mut row);
-        self.blocks.part::<Ending<T, C>>(&mut *self.seat);
+        self.blocks.part::<BegunEnds<T, C>>(&mut *self.seat);
     }
 
     /// Ends the section: what its slot's list owes is settled. A value that is reclaimed is dropped.
@@ -158,10 +158,10 @@ impl<'a, T: Defers + Drop, C: Content<T>> Within<'a, T, C> {
         ensures guards { (C.notes self.new.seat.now.view).guards ≡ (C.notes self.old.seat.now.view).guards }
     {
         C::goes_on();
-        self.blocks.part::<Leaving<T, C>>(&mut *self.seat);
+        self.blocks.part::<LeavingBegins<T, C>>(&mut *self.seat);
         let head = self.swap(At::Slot(slot, HEAD), IDLE);
         self.counts_down(slot, head);
-        self.blocks.part::<Ending<T, C>>(&mut *self.seat);
+        self.blocks.part::<BegunEnds<T, C>>(&mut *self.seat);
     }
 
     /// Ends the section and begins the next one, by one step. What it has seen it doesn't know any more. A value that is reclaimed is dropped.
@@ -179,7 +179,7 @@ impl<'a, T: Defers + Drop, C: Content<T>> Within<'a, T, C> {
         self.blocks.part::<Refreshing<T, C>>(&mut *self.seat);
         let head = self.swap(At::Slot(slot, HEAD), ACTIVE);
         self.counts_down(slot, head);
-        self.blocks.part::<Ending<T, C>>(&mut *self.seat);
+        self.blocks.part::<BegunEnds<T, C>>(&mut *self.seat);
     }
 
     /// Tries its batch, whatever its length. A value that is reclaimed is dropped. What it has seen it doesn't know any more.

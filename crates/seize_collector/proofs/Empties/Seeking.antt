@@ -5,7 +5,7 @@ use Rattle.seize_words.specs.OneMemory.Op.{Op, Out, Load, Exchange, Room, Found,
 use Rattle.seize_words.specs.declared.at.At.TheVariants.{Slot}
 use Rattle.seize_words.specs.declared.fault.Fault.{Fault}
 use Rattle.seize_words.specs.declared.fault.Fault.TheVariants.{SlotsUsedUp}
-use Rattle.seize.specs.declared.progress.Progress.{Progress}
+use Rattle.seize.specs.declared.advance.Advance.{Advance}
 use Rattle.seize.specs.declared.states.TheConstants.{HEAD, NEVER, FREE, IDLE, LAST_SLOT}
 use Rattle.seize.specs.declared.rows.register.Register.{Register}
 use Rattle.seize.specs.declared.rows.register.Registering.TheVariants as at
@@ -26,7 +26,7 @@ module _ {T : Type 0} (defers : T → Option ℕ) (left_over : T → Bool) (v w 
   known : (c : Register) (op : Op T) (out : Out T) → v ≡ Registers c size → told defers left_over v op out w → told defers left_over (Registers c size) op out w
   known c op out is so = subst (λ (x : Alone T). told defers left_over x op out w) is so
 
-  abbrev Ended : Register × Progress ℕ → Type 0
+  abbrev Ended : Register × Advance ℕ → Type 0
   Ended end = begun_by size end w
 
   -- the first bucket has its words, or is refused

@@ -14,7 +14,7 @@ use Rattle.seize_seats.specs.Seats.State.{State, view_of}
 use Rattle.seize_seats.specs.Seats.Lendings.{Shown}
 use Rattle.seize_acts.specs.Quiet.Slots.{IsQuiet, StageAt}
 use Rattle.seize_acts.proofs.Quiet.Promised.{nothing_waits}
-use Rattle.seize_views.specs.declared.view.View.{View}
+use Rattle.seize_views.specs.declared.view.SlotView.{SlotView}
 use Rattle.seize_views.specs.declared.view.Fixed.{Fixed}
 use Rattle.seize_views.specs.Views.Rows.{IsInSomeHand}
 use Rattle.seize_views.proofs.Views.Came.{came_then}
@@ -43,7 +43,7 @@ module _ {T : Type 0} (defers : T → Option ℕ) (left_over : T → Bool) where
       rests : (j : ℕ) → s.world.row j ≡ world.Rests
       rests j = by (view_of s j) refl
         where
-          by : (o : Option (View T)) → view_of s j ≡ o → s.world.row j ≡ world.Rests
+          by : (o : Option (SlotView T)) → view_of s j ≡ o → s.world.row j ≡ world.Rests
           by None e = h.unborn j e
           by (Some v) e = (h.seats j v e).row ∙ idle j v e
 
@@ -99,5 +99,5 @@ module _ {T : Type 0} (defers : T → Option ℕ) (left_over : T → Bool) where
   )
     where
       -- no seat is there
-      none_there : State T (View T) (World T)
+      none_there : State T (SlotView T) (World T)
       none_there = record { memory = s.memory; views = []; world = s.world }

@@ -19,8 +19,8 @@ use Rattle.seize_views.specs.Views.Rows.{row_of, IsAtRest}
 use Rattle.seize_views.specs.Views.Watched.{known_by}
 use Rattle.seize_views.specs.declared.view.Fixed.{Fixed}
 use Rattle.seize_views.specs.declared.view.Noted.{Noted}
-use Rattle.seize_views.specs.declared.view.View.{View}
-use Rattle.seize_views.specs.declared.view.View.TheVariants as view
+use Rattle.seize_views.specs.declared.view.SlotView.{SlotView}
+use Rattle.seize_views.specs.declared.view.SlotView.TheVariants as view
 use Rattle.seize_collector.specs.Renews.One.{HoldsOne, OneBegins, OneGoesOn, OneTurns, OneIsShown, OneEnds}
 use Rattle.seize_collector.specs.Renews.Rule.{Stands}
 use Rattle.seize_collector.specs.declared.alone.Alone.{Alone}
@@ -30,7 +30,7 @@ use Rattle.seize_collector.proofs.Renews.Registering.{registering_goes_on}
 use Rattle.seize_collector.proofs.Renews.Steps.{reclaiming_goes_on, reclaiming_turns}
 
 -- who has nothing under way has no row
-no_row : {T : Type 0} (v : View T) → IsAtRest v → row_of v ≡ world.Rests
+no_row : {T : Type 0} (v : SlotView T) → IsAtRest v → row_of v ≡ world.Rests
 no_row view.Rests r = refl
 no_row (view.Registers c) r = absurd r
 no_row (view.Outside t) r = refl
@@ -51,7 +51,7 @@ module _ {T : Type 0} (defers : T → Option ℕ) (left_over : T → Bool) where
   pub one_begins : OneBegins defers left_over
   one_begins fixed s h idle = idle_renew defers left_over fixed (as_known s) h.0 (λ j v at. rest j v (mapped_at known_by s.views j v at))
     where
-      rest : (j : ℕ) (v : View T) → (u : Noted T) × (slice_get s.views j ≡ Some u) × (u.knows ≡ v) → row_of v ≡ world.Rests
+      rest : (j : ℕ) (v : SlotView T) → (u : Noted T) × (slice_get s.views j ≡ Some u) × (u.knows ≡ v) → row_of v ≡ world.Rests
       rest j v u = no_row v (subst IsAtRest u.2 (idle j u.0 u.1))
 
   abbrev Hold : Fixed → State T (Alone T) (World T) → Type 0

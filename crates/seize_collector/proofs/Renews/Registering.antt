@@ -9,8 +9,8 @@ use Rattle.seize_words.specs.OneMemory.Op.{Op, Out, Load, Exchange, Room, Found,
 use Rattle.seize_words.specs.OneMemory.Plan.{Plan, Then, Do, Ends, Steps, May}
 use Rattle.seize_words.specs.declared.at.At.TheVariants.{Slot}
 use Rattle.seize.specs.declared.states.TheConstants.{HEAD, IDLE, LAST_SLOT}
-use Rattle.seize.specs.declared.progress.Progress.{Progress}
-use Rattle.seize.specs.declared.progress.Progress.TheVariants as progress
+use Rattle.seize.specs.declared.advance.Advance.{Advance}
+use Rattle.seize.specs.declared.advance.Advance.TheVariants as progress
 use Rattle.seize.specs.declared.rows.register.Register.{Register}
 use Rattle.seize.specs.declared.rows.register.Registering.{Registering}
 use Rattle.seize.specs.declared.rows.register.Registering.TheVariants as at
@@ -45,13 +45,13 @@ no_word [] none = refl
 no_word (x ∷ slots) none = absurd (omega (arith, none))
 
 -- taking a slot has come so far, in this memory
-abbrev IsWell : {T : Type 0} → Mem T → Register × Progress ℕ → Type 0
+abbrev IsWell : {T : Type 0} → Mem T → Register × Advance ℕ → Type 0
 IsWell m (d, progress.Done t) = Unit {0}
 IsWell m (d, progress.Refused fault) = ((d.slot ≡ 0) × (length m.slots ≡ 0)) ⊎ ((d.slot ≢ 0) × (0 < length m.slots))
 IsWell m (d, _) = (d.enters ≡ false) × IsSeeking d.stands × SeeksAt m d d.stands
 
 module _ {T : Type 0} (m : Mem T) where
-  well_either : (b : Bool) (x y : Register × Progress ℕ) → IsWell m x → IsWell m y → IsWell m (if b then x else y)
+  well_either : (b : Bool) (x y : Register × Advance ℕ) → IsWell m x → IsWell m y → IsWell m (if b then x else y)
   well_either true x y p q = p
   well_either false x y p q = q
 
@@ -81,7 +81,7 @@ module _ {T : Type 0} (defers : T → Option ℕ) (left_over : T → Bool) (fixe
   Gone op out m = Took s.memory op out m → Goes (HoldsAlone defers left_over fixed) KeepsNone s m id (told defers left_over (Registers c size) op out)
 
   -- a step of its plan that ends so
-  module _ (m : Mem T) (d : Register) (o : Progress ℕ) (steps : Steps Took value_at w.memory (register_plan c) m (d, o)) (well : IsWell m (d, o)) where
+  module _ (m : Mem T) (d : Register) (o : Advance ℕ) (steps : Steps Took value_at w.memory (register_plan c) m (d, o)) (well : IsWell m (d, o)) where
     abbrev n : World T
     n = registers_on w id c m (d, o)
 
@@ -156,7 +156,7 @@ module _ {T : Type 0} (defers : T → Option ℕ) (left_over : T → Bool) (fixe
           let used = with_here w.uses t (registered_as c) ∙ outside c.stands stands.4 in
           absurd (cc (vacant, used))
 
-  goes : (op : Op T) (out : Out T) (m : Mem T) (d : Register) (o : Progress ℕ) → Steps Took value_at w.memory (register_plan c) m (d, o) → ComesTo (register_plan {T = T} c) out (d, o)
+  goes : (op : Op T) (out : Out T) (m : Mem T) (d : Register) (o : Advance ℕ) → Steps Took value_at w.memory (register_plan c) m (d, o) → ComesTo (register_plan {T = T} c) out (d, o)
       → IsWell m (d, o) → Goes (HoldsAlone defers left_over fixed) KeepsNone s m id (told defers left_over (Registers c size) op out)
   goes op out m d progress.Goes steps comes well =
       goes_to m d progress.Goes steps well (Registers d size)
@@ -193,7 +193,7 @@ module _ {T : Type 0} (defers : T → Option ℕ) (left_over : T → Bool) (fixe
       ])
 
   module _ (p : Registering) (is : c.stands ≡ p) where
-    abbrev P : Plan T (Register × Progress ℕ)
+    abbrev P : Plan T (Register × Advance ℕ)
     P = plan_at c p
 
     can : May Can Took value_at w.memory P
@@ -202,14 +202,14 @@ module _ {T : Type 0} (defers : T → Option ℕ) (left_over : T → Bool) (fixe
         (row_may defers (LAST_SLOT + 1) fixed.batch_size refl w (reached defers fixed w h.came).good id (world.Registers c) stands.1)
 
     -- the step ends so after this answer
-    goes_at : (op : Op T) (rest : Out T → Then T (Register × Progress ℕ)) (out : Out T) (m : Mem T) (end : Register × Progress ℕ) → P ≡ Do op rest
+    goes_at : (op : Op T) (rest : Out T → Then T (Register × Advance ℕ)) (out : Out T) (m : Mem T) (end : Register × Advance ℕ) → P ≡ Do op rest
         → Took s.memory op out m → ((shown : ℕ → Option T) → Ends shown (rest out) end) → IsWell m end
         → Goes (HoldsAlone defers left_over fixed) KeepsNone s m id (told defers left_over (Registers c size) op out)
     goes_at op rest out m end plan took ends well =
         goes op out m end.0 end.1
-        (subst (λ (q : Plan T (Register × Progress ℕ)). Steps Took value_at w.memory q m end) (sym plan_is)
+        (subst (λ (q : Plan T (Register × Advance ℕ)). Steps Took value_at w.memory q m end) (sym plan_is)
         (out, subst (λ (x : Mem T). Took x op out m) h.memory took, ends (value_at m)))
-        (subst (λ (q : Plan T (Register × Progress ℕ)). ComesTo q out end) (sym plan_is) (s.memory, m, took, ends (value_at m))) well
+        (subst (λ (q : Plan T (Register × Advance ℕ)). ComesTo q out end) (sym plan_is) (s.memory, m, took, ends (value_at m))) well
       where
         plan_is : register_plan {T = T} c ≡ Do op rest
         plan_is = ap (plan_at {T = T} c) is ∙ plan

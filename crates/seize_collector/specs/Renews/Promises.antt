@@ -19,7 +19,7 @@ use Rattle.seize_acts.specs.Quiet.Promises.{IsOnSlots}
 use Rattle.seize_views.specs.Views.Begun.{seeker_at}
 use Rattle.seize_views.specs.Views.Promises.{op_in}
 use Rattle.seize_views.specs.Views.Rows.{row_of, Holds}
-use Rattle.seize_views.specs.declared.view.View.{View}
+use Rattle.seize_views.specs.declared.view.SlotView.{SlotView}
 use Rattle.seize_views.specs.declared.view.Fixed.{Fixed}
 use Rattle.seize_collector.specs.Renews.Rule.{told, HoldsAlone, KeepsNone}
 use Rattle.seize_collector.specs.declared.alone.Alone.{Alone}
@@ -27,15 +27,15 @@ use Rattle.seize_collector.specs.declared.alone.Alone.TheVariants.{Registers, Re
 
 module _ {T : Type 0} (defers : T → Option ℕ) (left_over : T → Bool) where
   -- Where each seat is at rest, one may act alone: it is the only one then, and begins to take a slot.
-  abbrev pub AreIdle : State T (View T) (World T) → Type 0
-  AreIdle s = (j : ℕ) (v : View T) → view_of s j ≡ Some v → row_of v ≡ world.Rests
+  abbrev pub AreIdle : State T (SlotView T) (World T) → Type 0
+  AreIdle s = (j : ℕ) (v : SlotView T) → view_of s j ≡ Some v → row_of v ≡ world.Rests
 
   abbrev pub first_of : Fixed → Alone T
   first_of fixed = Registers (seeker_at 0 register_at.Begin) fixed.batch_size
 
   abbrev pub IdleRenew : Type 0
   IdleRenew =
-      (fixed : Fixed) (s : State T (View T) (World T)) → Holds defers fixed s → AreIdle s
+      (fixed : Fixed) (s : State T (SlotView T) (World T)) → Holds defers fixed s → AreIdle s
       → (w : World T) × HoldsAlone defers left_over fixed record { memory = s.memory; views = (first_of fixed) ∷ []; world = w }
 
   -- it may make its next operation

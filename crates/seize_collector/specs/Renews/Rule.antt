@@ -3,8 +3,8 @@
 use Rattle.std.specs.Prelude.{◌≡◌, ◌≢◌, ℕ, ◌<◌, ◌==◌, Bool, false, Option, Some, None, if◌then◌else◌, length}
 use Rattle.seize_words.specs.OneMemory.Mem.{Mem, value_at}
 use Rattle.seize_words.specs.OneMemory.Op.{Op, Out}
-use Rattle.seize.specs.declared.progress.Progress.{Progress}
-use Rattle.seize.specs.declared.progress.Progress.TheVariants as progress
+use Rattle.seize.specs.declared.advance.Advance.{Advance}
+use Rattle.seize.specs.declared.advance.Advance.TheVariants as progress
 use Rattle.seize.specs.declared.rows.register.Register.{Register}
 use Rattle.seize.specs.declared.rows.register.Registering.{Registering}
 use Rattle.seize.specs.declared.rows.register.Registering.TheVariants as register_at
@@ -52,7 +52,7 @@ abbrev pub over_of : ℕ → ReclaimAll
 over_of size = standing (all_of size) at.Over
 
 -- what is known then
-abbrev pub begun_by : {T : Type 0} → ℕ → Register × Progress ℕ → Alone T → Type 0
+abbrev pub begun_by : {T : Type 0} → ℕ → Register × Advance ℕ → Alone T → Type 0
 begun_by size (c, progress.Done t) w = (left : ℕ) × (w ≡ Reclaims (all_of size) None left)
 begun_by size (c, progress.Refused fault) w = (left : ℕ) × (w ≡ Reclaims (if c.slot == 0 then over_of size else all_of size) None left)
 begun_by size (c, _) w = w ≡ Registers c size
@@ -70,7 +70,7 @@ module _ {T : Type 0} (defers : T → Option ℕ) (left_over : T → Bool) where
 
   -- what an operation tells the seat that makes it
   abbrev pub told : Alone T → Op T → Out T → Alone T → Type 0
-  told (Registers c size) op out w = (end : Register × Progress ℕ) × ComesTo (register_plan {T = T} c) out end × begun_by size end w
+  told (Registers c size) op out w = (end : Register × Advance ℕ) × ComesTo (register_plan {T = T} c) out end × begun_by size end w
   told (Reclaims c seen left) op out w = ReclaimsOn c left out w
 
   module _ (fixed : Fixed) where

@@ -9,8 +9,8 @@ use Rattle.seize_words.specs.OneMemory.Mem.{Mem, Took, value_at, word_at, with_w
 use Rattle.seize_words.specs.OneMemory.Plan.{Steps, Do}
 use Rattle.seize_words.proofs.OneMemory.OneOwner.Operations.{loaded, stored, exchanged}
 use Rattle.seize.specs.declared.states.TheConstants.{NEXT}
-use Rattle.seize.specs.declared.progress.Progress.{Progress}
-use Rattle.seize.specs.declared.progress.Progress.TheVariants.{Goes}
+use Rattle.seize.specs.declared.advance.Advance.{Advance}
+use Rattle.seize.specs.declared.advance.Advance.TheVariants.{Goes}
 use Rattle.seize.specs.declared.rows.defer.Defer.{Defer}
 use Rattle.seize.specs.declared.rows.defer.Deferring.{Deferring}
 use Rattle.seize.specs.declared.rows.defer.Deferring.TheVariants as at
@@ -60,21 +60,21 @@ pub record Deferring_went (n i s : ℕ) (f : View) (m : State) (x : Extra) (g : 
   pub fits : FitsDefer n i g m2 x2 s c.block c.table_word c.stands
   pub told : DeferTold i c0 m c m2
 
-module _ {T : Type 0} (defers : T → Option ℕ) (n i s : ℕ) (mem mem2 : Mem T) (m : State) (x : Extra) (c : Defer) (end : Defer × Progress Unit)
+module _ {T : Type 0} (defers : T → Option ℕ) (n i s : ℕ) (mem mem2 : Mem T) (m : State) (x : Extra) (c : Defer) (end : Defer × Advance Unit)
     (inv : Inv n m) (v : Shows n (view defers mem) m x) where
   -- the row goes on
   abbrev pub DeferWent : Type 0
   DeferWent = Deferring_went n i s (view defers mem) m x (view defers mem2) c end.0 × (end.1 ≡ Goes)
 
   goes_on : (stands : Deferring) → end ≡ (standing c stands, Goes) → end.1 ≡ Goes
-  goes_on stands ends = ap (λ (q : Defer × Progress Unit). q.1) ends
+  goes_on stands ends = ap (λ (q : Defer × Advance Unit). q.1) ends
 
   -- nothing was written
   still : (stands : Deferring) → IsOnWay stands → FitsDefer n i (view defers mem) m x s c.block c.table_word stands → mem2 ≡ mem → end ≡ (standing c stands, Goes)
       → DeferWent
   still stands on fits same ends = (
     subst (λ (q : Mem T). Deferring_went n i s (view defers mem) m x (view defers q) c end.0) (sym same)
-        (subst (λ (d : Defer × Progress Unit). Deferring_went n i s (view defers mem) m x (view defers mem) c d.0) (sym ends)
+        (subst (λ (d : Defer × Advance Unit). Deferring_went n i s (view defers mem) m x (view defers mem) c d.0) (sym ends)
         (record {
           m2 = m;
           x2 = x;
@@ -103,7 +103,7 @@ module _ {T : Type 0} (defers : T → Option ℕ) (n i s : ℕ) (mem mem2 : Mem 
       let e : mem2 ≡ with_word mem (Entry r.b NEXT) head = l.0 ∙ ap (λ u. with_word mem (Entry u NEXT) head) a in
       let seen = view_next defers mem r.b head (with_word mem (Entry r.b NEXT) head) (wrote mem (Entry r.b NEXT) head (subst (λ (u : ℕ). IsSome (word_at mem (Entry u NEXT))) a there)) in (
         subst (λ (q : View). Deferring_went n i s (view defers mem) m x q c end.0) (sym (ap (view defers) e ∙ seen))
-            (subst (λ (d : Defer × Progress Unit). Deferring_went n i s (view defers mem) m x (record (view defers mem) { nexts = put (view defers mem).nexts r.b head }) c d.0) (sym l.1)
+            (subst (λ (d : Defer × Advance Unit). Deferring_went n i s (view defers mem) m x (record (view defers mem) { nexts = put (view defers mem).nexts r.b head }) c d.0) (sym l.1)
             (record {
               m2 = m;
               x2 = x;
@@ -155,7 +155,7 @@ module _ {T : Type 0} (defers : T → Option ℕ) (n i s : ℕ) (mem mem2 : Mem 
       let e2 : mem2 ≡ with_word mem (Word o.t o.d) (link o.b) = e ∙ ap (λ a. with_word mem a c.block) o.at_is ∙ ap (λ a. with_word mem (Word o.t o.d) a) o.block_is in
       let seen = view_own defers mem o.t o.d (link o.b) (with_word mem (Word o.t o.d) (link o.b)) (wrote mem (Word o.t o.d) (link o.b) (rw here refl)) in (
         subst (λ (q : View). Deferring_went n i s (view defers mem) m x q c end.0) (sym (ap (view defers) e2 ∙ seen))
-            (subst (λ (d : Defer × Progress Unit). Deferring_went n i s (view defers mem) m x (record (view defers mem) { own = put_own (view defers mem).own o.t o.d (link o.b) }) c d.0) (sym ends)
+            (subst (λ (d : Defer × Advance Unit). Deferring_went n i s (view defers mem) m x (record (view defers mem) { own = put_own (view defers mem).own o.t o.d (link o.b) }) c d.0) (sym ends)
             (record {
               m2 = deferred_to m i o.b o.t;
               x2 = x;

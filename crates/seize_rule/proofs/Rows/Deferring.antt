@@ -7,8 +7,8 @@ use Rattle.seize_words.specs.OneMemory.Mem.{Mem, Can, Took, value_at, word_at}
 use Rattle.seize_words.specs.OneMemory.Plan.{May, Steps}
 use Rattle.seize_words.proofs.OneMemory.OneOwner.Operations.{may_load, may_store, may_exchange}
 use Rattle.seize.specs.declared.states.TheConstants.{NEXT}
-use Rattle.seize.specs.declared.progress.Progress.{Progress}
-use Rattle.seize.specs.declared.progress.Progress.TheVariants.{Goes, Waits, Done, Refused}
+use Rattle.seize.specs.declared.advance.Advance.{Advance}
+use Rattle.seize.specs.declared.advance.Advance.TheVariants.{Goes, Waits, Done, Refused}
 use Rattle.seize.specs.declared.rows.defer.Defer.{Defer}
 use Rattle.seize.specs.declared.rows.defer.Deferring.{Deferring}
 use Rattle.seize.specs.declared.rows.defer.Deferring.TheVariants as at
@@ -131,7 +131,7 @@ module _ {T : Type 0} {size : ℕ} (defers : T → Option ℕ) (n : ℕ) (w : Wo
         short = still_short n i s size m m2 (w.row i) Rests (ends_call_moves n i s m good.inv r.none).keeps refl (λ t. ap (λ (q : Row). tries_on q t) is);
       }
 
-  goes_on : (c2 : Defer) (mem2 : Mem T) (o : Progress Unit) → o ≡ Goes → defers_on w i s mem2 (c2, o) ≡ after_step w i mem2 (Defers s c2) []
+  goes_on : (c2 : Defer) (mem2 : Mem T) (o : Advance Unit) → o ≡ Goes → defers_on w i s mem2 (c2, o) ≡ after_step w i mem2 (Defers s c2) []
   goes_on c2 mem2 Goes e = refl
   goes_on c2 mem2 Waits e = refl
   goes_on c2 mem2 (Done u) e = absurd (cc)
@@ -145,7 +145,7 @@ module _ {T : Type 0} {size : ℕ} (defers : T → Option ℕ) (n : ℕ) (w : Wo
       DeferPushes s b t d c is (ap (λ (a : Defer). Defers s a) e) (subst (λ (r : Deferring). IsOnWay r) (sym here) way) block word same
 
   -- the row goes on
-  goes_next : (p : Deferring) → c.stands ≡ p → IsOnWay p → (mem2 : Mem T) (end : Defer × Progress Unit) (w2 : World T) → Steps Took value_at w.memory (plan_at c c.stands) mem2 end
+  goes_next : (p : Deferring) → c.stands ≡ p → IsOnWay p → (mem2 : Mem T) (end : Defer × Advance Unit) (w2 : World T) → Steps Took value_at w.memory (plan_at c c.stands) mem2 end
       → Deferring_went n i s (view defers w.memory) good.state good.extra (view defers mem2) c end.0 × (end.1 ≡ Goes) → w2 ≡ defers_on w i s mem2 end → Next defers n size w good.state i w2
   unfolding went
   goes_next p here way mem2 end w2 st g e =
@@ -153,7 +153,7 @@ module _ {T : Type 0} {size : ℕ} (defers : T → Option ℕ) (n : ℕ) (w : Wo
       subst (λ (v : World T). Next defers n size w good.state i v) (sym (e ∙ goes_on end.0 mem2 end.1 g.1))
       (next_after defers n w good i mem2 (Defers s end.0) [] w.uses (went end.0 mem2 g.0 lasts) (row_told p here way end.0 g.0.m2 g.0.told))
 
-  next_at : (p : Deferring) → c.stands ≡ p → (mem2 : Mem T) (end : Defer × Progress Unit) (w2 : World T) → Steps Took value_at w.memory (plan_at c p) mem2 end
+  next_at : (p : Deferring) → c.stands ≡ p → (mem2 : Mem T) (end : Defer × Advance Unit) (w2 : World T) → Steps Took value_at w.memory (plan_at c p) mem2 end
       → w2 ≡ defers_on w i s mem2 end → Next defers n size w good.state i w2
   unfolding over_went
   next_at at.Reads here mem2 end w2 st e =
@@ -166,10 +166,10 @@ module _ {T : Type 0} {size : ℕ} (defers : T → Option ℕ) (n : ℕ) (w : Wo
       goes_next (at.Pushes head) here tt mem2 end w2 (subst (λ (q : Deferring). Steps Took value_at w.memory (plan_at c q) mem2 end) (sym here) st)
       (defer_pushes defers n i s w.memory mem2 good.state good.extra c end good.inv good.shows head (at_point (at.Pushes head) here) st) e
   next_at at.Over here mem2 end w2 st e =
-      subst (λ (v : World T). Next defers n size w good.state i v) (sym (e ∙ ap (λ (q : Mem T). defers_on w i s q end) st.0 ∙ ap (λ (q : Defer × Progress Unit). defers_on w i s w.memory q) st.1))
+      subst (λ (v : World T). Next defers n size w good.state i v) (sym (e ∙ ap (λ (q : Mem T). defers_on w i s q end) st.0 ∙ ap (λ (q : Defer × Advance Unit). defers_on w i s w.memory q) st.1))
       (next_after defers n w good i w.memory Rests [] (with_at w.uses s (one_less (w.uses s))) (over_went (at_point at.Over here))
       (DeferEnds s c is refl here (unmoved_kept n good.state (ends_call good.state i) refl refl refl refl refl refl refl (λ c e. refl) refl)))
 
   pub defers_next : (w2 : World T)
-      → (mem2 : Mem T) × (end : Defer × Progress Unit) × Steps Took value_at w.memory (defer_plan c) mem2 end × (w2 ≡ defers_on w i s mem2 end) → Next defers n size w good.state i w2
+      → (mem2 : Mem T) × (end : Defer × Advance Unit) × Steps Took value_at w.memory (defer_plan c) mem2 end × (w2 ≡ defers_on w i s mem2 end) → Next defers n size w good.state i w2
   defers_next w2 st = next_at c.stands refl st.0 st.1 w2 st.2 st.3

@@ -3,8 +3,8 @@ use Rattle.std.specs.Prelude.{Option, Ok, Err}
 use Rattle.std.proofs.Common.{◌≡◌, ℕ, refl, arith, subst, sym}
 use Rattle.seize_words.specs.OneMemory.Op.{Out, Found, Stored, Exchanged, Made, Taken, Roomed}
 use Rattle.seize_words.specs.OneMemory.Mem.{Mem}
-use Rattle.seize.specs.declared.progress.Progress.{Progress}
-use Rattle.seize.specs.declared.progress.Progress.TheVariants as progress
+use Rattle.seize.specs.declared.advance.Advance.{Advance}
+use Rattle.seize.specs.declared.advance.Advance.TheVariants as progress
 use Rattle.seize.specs.declared.rows.settle.Settle.{Settle}
 use Rattle.seize.specs.declared.rows.settle.Settled.{Settled}
 use Rattle.seize.specs.declared.rows.settle.Settled.TheVariants.{Goes, Waits, Gave, Done}
@@ -44,7 +44,7 @@ module _ {T : Type 0} (defers : T → Option ℕ) (size : ℕ) (w w2 : World T) 
     begins_others (Flush s) b = subst (λ (v : World T). Same i j v) (sym b.1) (other _)
     begins_others (Defer' s c t) b = subst (λ (v : World T). Same i j v) (sym b.7) (other _)
 
-    registers_others : (c d : Register) (m : Mem T) (o : Progress ℕ) → Same i j (registers_on w i c m (d, o))
+    registers_others : (c d : Register) (m : Mem T) (o : Advance ℕ) → Same i j (registers_on w i c m (d, o))
     registers_others c d m progress.Goes = other (Registers d)
     registers_others c d m progress.Waits = other (Registers d)
     registers_others c d m (progress.Done s) = other Rests
@@ -56,7 +56,7 @@ module _ {T : Type 0} (defers : T → Option ℕ) (size : ℕ) (w w2 : World T) 
     settles_others c d m (Gave value) = other (Settles d)
     settles_others c d m Done = other Rests
 
-    defers_others : (s : ℕ) (d : Defer) (m : Mem T) (o : Progress Unit) → Same i j (defers_on w i s m (d, o))
+    defers_others : (s : ℕ) (d : Defer) (m : Mem T) (o : Advance Unit) → Same i j (defers_on w i s m (d, o))
     defers_others s d m progress.Goes = other (Defers s d)
     defers_others s d m progress.Waits = other (Defers s d)
     defers_others s d m (progress.Done u) = other Rests

@@ -17,8 +17,8 @@ use Rattle.seize_words.specs.OneMemory.Plan.{May, Steps, Now}
 use Rattle.seize_words.proofs.OneMemory.OneOwner.Operations.{loaded, may_load, stored, may_store, exchanged, may_exchange, roomed, may_room}
 use Rattle.seize_words.proofs.OneMemory.Places.Words.{with_bucket_next, with_bucket_there}
 use Rattle.seize.specs.declared.states.TheConstants.{HEAD, IDLE, ACTIVE, LAST_SLOT}
-use Rattle.seize.specs.declared.progress.Progress.{Progress}
-use Rattle.seize.specs.declared.progress.Progress.TheVariants.{Goes, Done, Refused}
+use Rattle.seize.specs.declared.advance.Advance.{Advance}
+use Rattle.seize.specs.declared.advance.Advance.TheVariants.{Goes, Done, Refused}
 use Rattle.seize.specs.declared.rows.register.Register.{Register}
 use Rattle.seize.specs.declared.rows.register.Registering.{Registering}
 use Rattle.seize.specs.declared.rows.register.Registering.TheVariants as stands
@@ -140,9 +140,9 @@ module _ {T : Type 0} {size : ℕ} (defers : T → Option ℕ) (n : ℕ) (last :
   looking : (p : Registering) → c.stands ≡ p → IsLooking p → IsLooking c.stands
   looking p e h = subst (λ (q : Registering). IsLooking q) (sym e) h
 
-  ended : (mem mem2 : Mem T) (end want : Register × Progress ℕ) → mem2 ≡ mem → end ≡ want → Next defers n size w good.state i (registers_on w i c mem want) → Next defers n size w good.state i (registers_on w i c mem2 end)
+  ended : (mem mem2 : Mem T) (end want : Register × Advance ℕ) → mem2 ≡ mem → end ≡ want → Next defers n size w good.state i (registers_on w i c mem want) → Next defers n size w good.state i (registers_on w i c mem2 end)
   ended mem mem2 end want a b g =
-      subst (λ (k : Mem T). Next defers n size w good.state i (registers_on w i c k end)) (sym a) (subst (λ (o : Register × Progress ℕ). Next defers n size w good.state i (registers_on w i c mem o)) (sym b) g)
+      subst (λ (k : Mem T). Next defers n size w good.state i (registers_on w i c k end)) (sym a) (subst (λ (o : Register × Advance ℕ). Next defers n size w good.state i (registers_on w i c mem o)) (sym b) g)
 
   on_same : (row : Row) → works_on (w.row i) ≡ 0 → works_on row ≡ 0 → FitsRow n i (view defers w.memory) good.state good.extra (length w.memory.slots) row
       → RowWent defers n size w good.state good.extra i w.memory row [] w.uses
@@ -397,7 +397,7 @@ module _ {T : Type 0} {size : ℕ} (defers : T → Option ℕ) (n : ℕ) (last :
     taken = r.taken;
   }
 
-  steps_at : (p : Registering) → c.stands ≡ p → FitsRegister n i good.state good.extra (length w.memory.slots) c.slot p → (mem2 : Mem T) (end : Register × Progress ℕ)
+  steps_at : (p : Registering) → c.stands ≡ p → FitsRegister n i good.state good.extra (length w.memory.slots) c.slot p → (mem2 : Mem T) (end : Register × Advance ℕ)
       → Steps Took value_at w.memory (plan_at c p) mem2 end → Next defers n size w good.state i (registers_on w i c mem2 end)
   unfolding still_went on_same on_room
   steps_at stands.Begin s r mem2 end st =
@@ -432,7 +432,7 @@ module _ {T : Type 0} {size : ℕ} (defers : T → Option ℕ) (n : ℕ) (last :
         | inr d ↦ ended w.memory mem2 end (further c) d.2 d.3 (lost_good seen d.0 before s r (word_found w.memory (at.Slot c.slot HEAD) d.0 d.1.0) d.1.1)
       ]
   steps_at stands.Enter s r mem2 end st =
-      let d = stored {R = Register × Progress ℕ} w.memory (λ out. Now (registered c)) (at.Slot c.slot HEAD) ACTIVE mem2 end st in
+      let d = stored {R = Register × Advance ℕ} w.memory (λ out. Now (registered c)) (at.Slot c.slot HEAD) ACTIVE mem2 end st in
       ended (with_word w.memory (at.Slot c.slot HEAD) ACTIVE) mem2 end (registered c) d.0 d.1
       (enters_on s r (registered_as c) (ap registered_use s))
   steps_at stands.Registered s r mem2 end st = absurd r
@@ -441,18 +441,18 @@ module _ {T : Type 0} {size : ℕ} (defers : T → Option ℕ) (n : ℕ) (last :
   fits_here : FitsRegister n i good.state good.extra (length w.memory.slots) c.slot c.stands
   fits_here = subst (λ (row : Row). FitsRow n i (view defers w.memory) good.state good.extra (length w.memory.slots) row) is (good.rows i)
 
-  pub registers_next : (w2 : World T) → (mem2 : Mem T) × (end : Register × Progress ℕ) × Steps Took value_at w.memory (register_plan c) mem2 end × (w2 ≡ registers_on w i c mem2 end) → Next defers n size w good.state i w2
+  pub registers_next : (w2 : World T) → (mem2 : Mem T) × (end : Register × Advance ℕ) × Steps Took value_at w.memory (register_plan c) mem2 end × (w2 ≡ registers_on w i c mem2 end) → Next defers n size w good.state i w2
   registers_next w2 s = subst (λ (v : World T). Next defers n size w good.state i v) (sym s.3) (steps_at c.stands refl fits_here s.0 s.1 s.2)
 
   may_at : (p : Registering) → FitsRegister n i good.state good.extra (length w.memory.slots) c.slot p → May Can Took value_at w.memory (plan_at c p)
-  may_at stands.Begin r = may_room {R = Register × Progress ℕ} w.memory (begun c) 0 (first_room w.memory) tt tt
-  may_at stands.Look r = may_load {R = Register × Progress ℕ} w.memory (looked c) (at.Slot c.slot HEAD) (slot_there w.memory c.slot HEAD good.room.bucketed r.here (omega arith)) (λ u h. tt)
-  may_at (stands.Widen bucket seen) r = may_room {R = Register × Progress ℕ} w.memory (widened c seen) bucket (needed_room w.memory c.slot bucket r.sees.looks.here r.needed) tt tt
+  may_at stands.Begin r = may_room {R = Register × Advance ℕ} w.memory (begun c) 0 (first_room w.memory) tt tt
+  may_at stands.Look r = may_load {R = Register × Advance ℕ} w.memory (looked c) (at.Slot c.slot HEAD) (slot_there w.memory c.slot HEAD good.room.bucketed r.here (omega arith)) (λ u h. tt)
+  may_at (stands.Widen bucket seen) r = may_room {R = Register × Advance ℕ} w.memory (widened c seen) bucket (needed_room w.memory c.slot bucket r.sees.looks.here r.needed) tt tt
   may_at (stands.Take seen) r =
-      may_exchange {R = Register × Progress ℕ} w.memory (taken c) (at.Slot c.slot HEAD) seen IDLE (slot_there w.memory c.slot HEAD good.room.bucketed r.sees.looks.here (omega arith)) (λ u h. tt) (λ u h. tt)
+      may_exchange {R = Register × Advance ℕ} w.memory (taken c) (at.Slot c.slot HEAD) seen IDLE (slot_there w.memory c.slot HEAD good.room.bucketed r.sees.looks.here (omega arith)) (λ u h. tt) (λ u h. tt)
   may_at stands.Enter r =
       let h = idle_head (good.state.head c.slot) r.head in
-      may_store {R = Register × Progress ℕ} w.memory (λ out. Now (registered c)) (at.Slot c.slot HEAD) ACTIVE (head_there defers n w good i c.slot r.slot_lt (rw h refl)) tt
+      may_store {R = Register × Advance ℕ} w.memory (λ out. Now (registered c)) (at.Slot c.slot HEAD) ACTIVE (head_there defers n w good i c.slot r.slot_lt (rw h refl)) tt
   may_at stands.Registered r = absurd r
   may_at (stands.Refused fault) r = absurd r
 

@@ -7,8 +7,8 @@ use Rattle.seize_words.specs.OneMemory.Plan.{Steps, Ends, Now}
 use Rattle.seize_words.proofs.OneMemory.OneOwner.Operations.{swapped, stored}
 use Rattle.seize_words.specs.declared.at.At.TheVariants as name
 use Rattle.seize.specs.declared.states.TheConstants.{HEAD, FREE, ACTIVE}
-use Rattle.seize.specs.declared.progress.Progress.{Progress}
-use Rattle.seize.specs.declared.progress.Progress.TheVariants as progress
+use Rattle.seize.specs.declared.advance.Advance.{Advance}
+use Rattle.seize.specs.declared.advance.Advance.TheVariants as progress
 use Rattle.seize.specs.declared.rows.settle.Settle.{Settle}
 use Rattle.seize.specs.declared.rows.settle.Settled.{Settled}
 use Rattle.seize.specs.declared.rows.settle.Settled.TheVariants.{Goes, Waits, Gave, Done}
@@ -42,7 +42,7 @@ module _ {T : Type 0} (defers : T → Option ℕ) (size : ℕ) (w w2 : World T) 
   begins_sized i (Flush s) b = subst (λ (v : World T). AllSized size v.row) (sym b.1) (sized_at size i w.row _ h refl)
   begins_sized i (Defer' s b' t) b = subst (λ (v : World T). AllSized size v.row) (sym b.7) (sized_at size i w.row _ h tt)
 
-  registers_sized : (i : ℕ) (c d : Register) (m : Mem T) (o : Progress ℕ) → AllSized size (registers_on w i c m (d, o)).row
+  registers_sized : (i : ℕ) (c d : Register) (m : Mem T) (o : Advance ℕ) → AllSized size (registers_on w i c m (d, o)).row
   registers_sized i c d m progress.Goes = sized_at size i w.row (Registers d) h tt
   registers_sized i c d m progress.Waits = sized_at size i w.row (Registers d) h tt
   registers_sized i c d m (progress.Done s) = sized_at size i w.row Rests h tt
@@ -60,7 +60,7 @@ module _ {T : Type 0} (defers : T → Option ℕ) (size : ℕ) (w w2 : World T) 
   leaves_sized i c d m (Gave value) e = sized_at size i w.row (Leaves d) h e
   leaves_sized i c d m Done e = sized_at size i w.row Rests h tt
 
-  defers_sized : (i s : ℕ) (d : Defer) (m : Mem T) (o : Progress Unit) → AllSized size (defers_on w i s m (d, o)).row
+  defers_sized : (i s : ℕ) (d : Defer) (m : Mem T) (o : Advance Unit) → AllSized size (defers_on w i s m (d, o)).row
   defers_sized i s d m progress.Goes = sized_at size i w.row (Defers s d) h tt
   defers_sized i s d m progress.Waits = sized_at size i w.row (Defers s d) h tt
   defers_sized i s d m (progress.Done u) = sized_at size i w.row Rests h tt

@@ -8,8 +8,8 @@ use Rattle.seize_words.specs.OneMemory.Mem.{Mem, value_at, word_at, with_word, C
 use Rattle.seize_words.specs.OneMemory.Plan.{May, Steps, Now}
 use Rattle.seize_words.proofs.OneMemory.OneOwner.Operations.{stored, may_store}
 use Rattle.seize.specs.declared.states.TheConstants.{HEAD, ACTIVE, FREE}
-use Rattle.seize.specs.declared.progress.Progress.{Progress}
-use Rattle.seize.specs.declared.progress.Progress.TheVariants.{Done}
+use Rattle.seize.specs.declared.advance.Advance.{Advance}
+use Rattle.seize.specs.declared.advance.Advance.TheVariants.{Done}
 use Rattle.seize.specs.declared.rows.enter.Enter.{Enter}
 use Rattle.seize.specs.declared.rows.enter.Unregister.{Unregister}
 use Rattle.seize.specs.Enter.{enter_plan, unregister_plan}
@@ -135,7 +135,7 @@ module _ {T : Type 0} {size : ℕ} (defers : T → Option ℕ) (n : ℕ) (w : Wo
       (room_heads n m.head m2.head w.memory (λ u e. grind (arith, h, e)) good.room) (λ t. ap (λ (r : Row). tries_on r t) is) refl
 
   pub enters_next : (c : Enter) (w2 : World T) → w.row i ≡ Enters c
-      → (mem2 : Mem T) × (end : Enter × Progress Unit) × Steps Took value_at w.memory (enter_plan c) mem2 end × (w2 ≡ with_use (after_step w i mem2 Rests (Entered c.slot ∷ [])) c.slot (Inside 0))
+      → (mem2 : Mem T) × (end : Enter × Advance Unit) × Steps Took value_at w.memory (enter_plan c) mem2 end × (w2 ≡ with_use (after_step w i mem2 Rests (Entered c.slot ∷ [])) c.slot (Inside 0))
       → Next defers n size w good.state i w2
   unfolding head_went enters_went
   enters_next c w2 is s =
@@ -149,7 +149,7 @@ module _ {T : Type 0} {size : ℕ} (defers : T → Option ℕ) (n : ℕ) (w : Wo
   pub enters_may : (c : Enter) → w.row i ≡ Enters c → May Can Took value_at w.memory (enter_plan c)
   enters_may c is =
       let r : OnSlot n i good.state good.extra c.slot Idle = subst (λ (row : Row). FitsRow n i (view defers w.memory) good.state good.extra (length w.memory.slots) row) is (good.rows i) in
-      may_store {R = Enter × Progress Unit} w.memory (λ out. Now (c, Done tt)) (at.Slot c.slot HEAD) ACTIVE (idle_there c.slot r) tt
+      may_store {R = Enter × Advance Unit} w.memory (λ out. Now (c, Done tt)) (at.Slot c.slot HEAD) ACTIVE (idle_there c.slot r) tt
 
   -- the slot is given up
   frees_went : (c : Unregister) → w.row i ≡ Frees c
@@ -173,7 +173,7 @@ module _ {T : Type 0} {size : ℕ} (defers : T → Option ℕ) (n : ℕ) (w : Wo
       (room_heads n m.head m2.head w.memory (λ u e. grind (arith, h, e)) good.room) (λ t. ap (λ (r : Row). tries_on r t) is) refl
 
   pub frees_next : (c : Unregister) (w2 : World T) → w.row i ≡ Frees c
-      → (mem2 : Mem T) × (end : Unregister × Progress Unit) × Steps Took value_at w.memory (unregister_plan c) mem2 end × (w2 ≡ with_use (after_step w i mem2 Rests []) c.slot Vacant)
+      → (mem2 : Mem T) × (end : Unregister × Advance Unit) × Steps Took value_at w.memory (unregister_plan c) mem2 end × (w2 ≡ with_use (after_step w i mem2 Rests []) c.slot Vacant)
       → Next defers n size w good.state i w2
   unfolding head_went frees_went
   frees_next c w2 is s =
@@ -187,4 +187,4 @@ module _ {T : Type 0} {size : ℕ} (defers : T → Option ℕ) (n : ℕ) (w : Wo
   pub frees_may : (c : Unregister) → w.row i ≡ Frees c → May Can Took value_at w.memory (unregister_plan c)
   frees_may c is =
       let r : OnSlot n i good.state good.extra c.slot Idle = subst (λ (row : Row). FitsRow n i (view defers w.memory) good.state good.extra (length w.memory.slots) row) is (good.rows i) in
-      may_store {R = Unregister × Progress Unit} w.memory (λ out. Now (c, Done tt)) (at.Slot c.slot HEAD) FREE (idle_there c.slot r) tt
+      may_store {R = Unregister × Advance Unit} w.memory (λ out. Now (c, Done tt)) (at.Slot c.slot HEAD) FREE (idle_there c.slot r) tt

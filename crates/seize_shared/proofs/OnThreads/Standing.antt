@@ -5,8 +5,8 @@ use Rattle.std.proofs.lemmas.Bool.{eqb-false}
 use Rattle.seize_views.proofs.Given.SeizeActsAnswers.{same_some}
 use Rattle.seize_shared.specs.OnThreads.Standing.{standing}
 use Rattle.seize_views.specs.Views.Promises.{IsLooking}
-use Rattle.seize_views.specs.declared.view.View.{View}
-use Rattle.seize_views.specs.declared.view.View.TheVariants.{Rests, Registers, Outside, Owes, Enters, Inside, Settles, Leaves, Left, Frees, Brings, Bears, Watches, Under, Busy}
+use Rattle.seize_views.specs.declared.view.SlotView.{SlotView}
+use Rattle.seize_views.specs.declared.view.SlotView.TheVariants.{Rests, Registers, Outside, Owes, Enters, Inside, Settles, Leaves, Left, Frees, Brings, Bears, Watches, Under, Busy}
 use Rattle.seize_views.specs.declared.view.Has.{Has}
 use Rattle.seize_views.specs.declared.view.Has.TheVariants.{Nothing, Made, Seen, Both, Cut}
 
@@ -35,11 +35,11 @@ looking (Both b x a) k knows = knows
 looking (Cut b) k knows = knows
 
 module _ {T : Type 0} (t : ℕ) where
-  inside : (k : ℕ) (v : View T) → standing v ≡ Some (stands t true k) → (has : Has T) × Knows has k × (v ≡ Inside t has)
+  inside : (k : ℕ) (v : SlotView T) → standing v ≡ Some (stands t true k) → (has : Has T) × Knows has k × (v ≡ Inside t has)
   inside k (Inside s Nothing) e = let p = same t s k 0 true true e in (Nothing, sym p.2, ap (λ (n : ℕ). Inside n Nothing) p.0)
   inside k (Inside s (Seen b)) e = by (Inside s (Seen b)) refl (b == 0) refl e
     where
-      by : (v : View T) → v ≡ Inside s (Seen b) → (y : Bool) → (b == 0) ≡ y → (if y then None else Some (stands s true b)) ≡ Some (stands t true k)
+      by : (v : SlotView T) → v ≡ Inside s (Seen b) → (y : Bool) → (b == 0) ≡ y → (if y then None else Some (stands s true b)) ≡ Some (stands t true k)
           → (has : Has T) × Knows has k × (v ≡ Inside t has)
       by v at true is f = absurd (cc f)
       by v at false is f = let p = same t s k b true true f in (Seen b, (p.2, eqb-false b 0 is), at ∙ ap (λ (n : ℕ). Inside n (Seen b)) p.0)
@@ -61,10 +61,10 @@ module _ {T : Type 0} (t : ℕ) where
   inside k (Under n s b) e = absurd (cc e)
   inside k (Busy s) e = absurd (cc e)
 
-  pub is_inside : (k : ℕ) (v : View T) → standing v ≡ Some (stands t true k) → (has : Has T) × IsLooking has × (v ≡ Inside t has)
+  pub is_inside : (k : ℕ) (v : SlotView T) → standing v ≡ Some (stands t true k) → (has : Has T) × IsLooking has × (v ≡ Inside t has)
   is_inside k v e = let i = inside k v e in (i.0, looking i.0 k i.1, i.2)
 
   -- and what is said of who is within a section, or is not, is so of who stands so
 
-  pub takes_inside : (k : ℕ) (v : View T) (X : Type 0) → standing v ≡ Some (stands t true k) → ((has : Has T) → IsLooking has → v ≡ Inside t has → X) → X
+  pub takes_inside : (k : ℕ) (v : SlotView T) (X : Type 0) → standing v ≡ Some (stands t true k) → ((has : Has T) → IsLooking has → v ≡ Inside t has → X) → X
   takes_inside k v X e so = let i = is_inside k v e in so i.0 i.1 i.2

@@ -7,7 +7,7 @@ ghost use Rattle.seize_shared.specs.Guards.Lent.{IsLent};
 ghost use Rattle.seize_views.specs.declared.view.Began.TheVariants.{Retirement};
 ghost use Rattle.seize_views.specs.Views.Notes.{looked_at, written_at};
 ghost use Rattle.seize_views.specs.declared.view.Deed.TheVariants.{Looked, Marked};
-ghost use Rattle.seize_views.specs.declared.view.View.TheVariants.{Brings, Rests, Watches};
+ghost use Rattle.seize_views.specs.declared.view.SlotView.TheVariants.{Brings, Rests, Watches};
 
 use crate::stay::Stay;
 use crate::{Owned, Pass, Protected, Tagged};

@@ -6,12 +6,12 @@ use Rattle.seize.specs.World as world
 use Rattle.seize_acts.specs.Acts.Waits.{SettlesOn}
 use Rattle.seize_acts.specs.Bounds.Bounds.{IsAloneOnSlot}
 use Rattle.seize_views.specs.Views.Rows.{row_of, use_of, used_for}
-use Rattle.seize_views.specs.declared.view.View.{View}
-use Rattle.seize_views.specs.declared.view.View.TheVariants.{Rests, Registers, Outside, Owes, Enters, Inside, Settles, Leaves, Left, Frees, Brings, Bears, Watches, Under, Busy}
+use Rattle.seize_views.specs.declared.view.SlotView.{SlotView}
+use Rattle.seize_views.specs.declared.view.SlotView.TheVariants.{Rests, Registers, Outside, Owes, Enters, Inside, Settles, Leaves, Left, Frees, Brings, Bears, Watches, Under, Busy}
 use Rattle.seize_views.specs.declared.view.Why.TheVariants.{Retiring, Ending}
 
 -- the slot that the row of a seat settles on is the seat's
-pub settles_used : {T : Type 0} (v : View T) (s : ℕ) → SettlesOn s (row_of v) → (a : Use) × (use_of v ≡ Some (s, a))
+pub settles_used : {T : Type 0} (v : SlotView T) (s : ℕ) → SettlesOn s (row_of v) → (a : Use) × (use_of v ≡ Some (s, a))
 settles_used Rests s on = absurd on
 settles_used (Registers c) s on = absurd on
 settles_used (Outside t) s on = absurd on
@@ -29,14 +29,14 @@ settles_used (Watches t b) s on = absurd on
 settles_used (Under n t b) s on = absurd on
 settles_used (Busy t) s on = absurd on
 
-module _ {T : Type 0} (w : World T) (view : ℕ → Option (View T)) (rows : (j : ℕ) (v : View T) → view j ≡ Some v → w.row j ≡ row_of v)
+module _ {T : Type 0} (w : World T) (view : ℕ → Option (SlotView T)) (rows : (j : ℕ) (v : SlotView T) → view j ≡ Some v → w.row j ≡ row_of v)
     (unborn : (j : ℕ) → view j ≡ None → w.row j ≡ world.Rests)
-    (apart : (j k t : ℕ) (a b : Use) (v u : View T) → view j ≡ Some v → view k ≡ Some u → use_of v ≡ Some (t, a) → use_of u ≡ Some (t, b) → j ≡ k) where
+    (apart : (j k t : ℕ) (a b : Use) (v u : SlotView T) → view j ≡ Some v → view k ≡ Some u → use_of v ≡ Some (t, a) → use_of u ≡ Some (t, b) → j ≡ k) where
   -- whose row settles on a slot has it
-  pub has_it : (j s : ℕ) → SettlesOn s (w.row j) → (v : View T) × (a : Use) × (view j ≡ Some v) × (use_of v ≡ Some (s, a))
+  pub has_it : (j s : ℕ) → SettlesOn s (w.row j) → (v : SlotView T) × (a : Use) × (view j ≡ Some v) × (use_of v ≡ Some (s, a))
   has_it j s on = by (view j) refl
     where
-      by : (o : Option (View T)) → view j ≡ o → (v : View T) × (a : Use) × (view j ≡ Some v) × (use_of v ≡ Some (s, a))
+      by : (o : Option (SlotView T)) → view j ≡ o → (v : SlotView T) × (a : Use) × (view j ≡ Some v) × (use_of v ≡ Some (s, a))
       by None e = absurd (subst (λ (r : Row). SettlesOn s r) (unborn j e) on)
       by (Some v) e = let k = settles_used v s (subst (λ (r : Row). SettlesOn s r) (rows j v e) on) in (v, k.0, e, k.1)
 

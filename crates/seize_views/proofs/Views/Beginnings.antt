@@ -12,10 +12,10 @@ use Rattle.seize_seats.specs.Seats.State.{State, view_of, joined, Comes, Starts}
 use Rattle.seize_views.specs.Views.Rows.{TurnsTo, row_of, use_of, hand_of, IsCut, IsKnown, IsInSomeHand, Fits, IsBounded, Holds, Keeps}
 use Rattle.seize_views.specs.Views.Begun.{IsBegun}
 use Rattle.seize_views.specs.Views.Promises.{IsNext, RulesStart, SeatsCome, RowsTurn, SettlingsBegin}
-use Rattle.seize_views.specs.declared.view.View.{View}
+use Rattle.seize_views.specs.declared.view.SlotView.{SlotView}
 use Rattle.seize_views.specs.declared.view.Becomes.{Becomes}
 use Rattle.seize_views.specs.declared.view.Becomes.TheVariants.{Idle, Active}
-use Rattle.seize_views.specs.declared.view.View.TheVariants.{Rests, Registers, Outside, Owes, Enters, Inside, Settles, Leaves, Left, Frees, Brings, Bears, Watches, Under, Busy}
+use Rattle.seize_views.specs.declared.view.SlotView.TheVariants.{Rests, Registers, Outside, Owes, Enters, Inside, Settles, Leaves, Left, Frees, Brings, Bears, Watches, Under, Busy}
 use Rattle.seize_views.specs.declared.view.Has.TheVariants.{Nothing, Made, Seen, Both, Cut}
 use Rattle.seize_views.specs.declared.view.Fixed.{Fixed}
 use Rattle.seize_views.proofs.Views.Found.{found_at}
@@ -34,24 +34,24 @@ zeros (suc n) zero word e = same_some 0 word e
 zeros (suc n) (suc r) word e = zeros n r word e
 
 module _ {T : Type 0} (defers : T → Option ℕ) (fixed : Fixed) where
-  abbrev H : State T (View T) (World T) → Type 0
+  abbrev H : State T (SlotView T) (World T) → Type 0
   H = Holds defers fixed
 
   -- it lets go of what it has seen, or a row begins, or ends
-  turned : (id : ℕ) (v u : View T) → Turning defers fixed IsJustSo just_so id v u → TurnsTo defers fixed id v (λ x. x ≡ u)
+  turned : (id : ℕ) (v u : SlotView T) → Turning defers fixed IsJustSo just_so id v u → TurnsTo defers fixed id v (λ x. x ≡ u)
   turned id v u (inl is) =
-      subst (λ (y : View T). TurnsTo defers fixed id y (λ x. x ≡ u)) (sym is.from)
-      (subst (λ (y : View T). TurnsTo defers fixed id (Inside is.slot is.has) (λ x. x ≡ y)) (sym is.to) (forgets defers fixed id is.slot is.has is.none))
+      subst (λ (y : SlotView T). TurnsTo defers fixed id y (λ x. x ≡ u)) (sym is.from)
+      (subst (λ (y : SlotView T). TurnsTo defers fixed id (Inside is.slot is.has) (λ x. x ≡ y)) (sym is.to) (forgets defers fixed id is.slot is.has is.none))
   turned id v u (inr (inl begins)) =
       λ s h at_id. lifted.begins defers fixed s id v h at_id (λ x. x ≡ u) (begins.1 s.world (lifted.has_row defers fixed s id v h at_id))
   turned id v u (inr (inr ends)) =
       λ s h at_id. lifted.ends defers fixed s id v h at_id (λ x. x ≡ u) (ends s.world (lifted.has_row defers fixed s id v h at_id))
 
-  turns : (id : ℕ) (v u : View T) → IsNext fixed v u → TurnsTo defers fixed id v (λ x. x ≡ u)
+  turns : (id : ℕ) (v u : SlotView T) → IsNext fixed v u → TurnsTo defers fixed id v (λ x. x ≡ u)
   turns id v u is = turned id v u (turning defers fixed IsJustSo just_so id v u is)
 
   -- a block is retired that the seat has unlinked
-  retires : (id t b : ℕ) (way : Becomes) (v : View T) → use_of v ≡ used_as t (resting way) → row_of v ≡ world.Rests
+  retires : (id t b : ℕ) (way : Becomes) (v : SlotView T) → use_of v ≡ used_as t (resting way) → row_of v ≡ world.Rests
       → hand_of v ≡ Some b → ((w : World T) → IsKnown w v → IsCut w b) → TurnsTo defers fixed id v (IsBegun way (retiring t fixed.batch_size (link_to b)))
   retires id t b way v mine rests has cuts s h at_id =
       lifted.begins defers fixed s id v h at_id (IsBegun way (retiring t fixed.batch_size (link_to b)))
@@ -59,7 +59,7 @@ module _ {T : Type 0} (defers : T → Option ℕ) (fixed : Fixed) where
       mine rests b has (cuts s.world (h.seats id v at_id).known))
 
   -- the batch is tried
-  flushes : (id t : ℕ) (way : Becomes) (v : View T) → use_of v ≡ used_as t (resting way) → row_of v ≡ world.Rests
+  flushes : (id t : ℕ) (way : Becomes) (v : SlotView T) → use_of v ≡ used_as t (resting way) → row_of v ≡ world.Rests
       → hand_of v ≡ None → TurnsTo defers fixed id v (IsBegun way (flushing t fixed.batch_size))
   flushes id t way v mine rests empty s h at_id =
       lifted.begins defers fixed s id v h at_id (IsBegun way (flushing t fixed.batch_size))
@@ -67,7 +67,7 @@ module _ {T : Type 0} (defers : T → Option ℕ) (fixed : Fixed) where
       mine rests empty)
 
   -- a seat comes, and knows nothing
-  joins : (s : State T (View T) (World T)) → H s → H (joined s Rests s.world)
+  joins : (s : State T (SlotView T) (World T)) → H s → H (joined s Rests s.world)
   joins s h = record {
     came = h.came;
     memory = h.memory;
@@ -83,32 +83,32 @@ module _ {T : Type 0} (defers : T → Option ℕ) (fixed : Fixed) where
     bounded = λ j x e. bound j x (with_last s.views j Rests x e);
   }
     where
-      fit : (j : ℕ) (x : View T) → (view_of s j ≡ Some x) ⊎ ((view_of s j ≡ None) × (Rests ≡ x)) → Fits s.world j x
+      fit : (j : ℕ) (x : SlotView T) → (view_of s j ≡ Some x) ⊎ ((view_of s j ≡ None) × (Rests ≡ x)) → Fits s.world j x
       fit j x (inl e) = h.seats j x e
-      fit j x (inr e) = subst (λ (y : View T). Fits s.world j y) e.1 (record { row = h.unborn j e.0; slot = tt; short = tt; known = tt })
+      fit j x (inr e) = subst (λ (y : SlotView T). Fits s.world j y) e.1 (record { row = h.unborn j e.0; slot = tt; short = tt; known = tt })
 
-      bound : (j : ℕ) (x : View T) → (view_of s j ≡ Some x) ⊎ ((view_of s j ≡ None) × (Rests ≡ x)) → IsBounded defers fixed s.world j x
+      bound : (j : ℕ) (x : SlotView T) → (view_of s j ≡ Some x) ⊎ ((view_of s j ≡ None) × (Rests ≡ x)) → IsBounded defers fixed s.world j x
       bound j x (inl e) = h.bounded j x e
-      bound j x (inr e) = subst (λ (y : View T). IsBounded defers fixed s.world j y) e.1 tt
+      bound j x (inr e) = subst (λ (y : SlotView T). IsBounded defers fixed s.world j y) e.1 tt
 
       still : (b : ℕ) (k : Hand) → IsInSomeHand s h.life.began b k → IsInSomeHand (joined s Rests s.world) h.life.began b k
       still b k (inl (j, x, e, has)) = inl (j, x, with_more s.views j Rests x e, has)
       still b k (inr was) = inr was
 
-      no_slot : (x : View T) (t : ℕ) (a : Use) → Rests ≡ x → use_of x ≡ used_as t a → ⊥
+      no_slot : (x : SlotView T) (t : ℕ) (a : Use) → Rests ≡ x → use_of x ≡ used_as t a → ⊥
       no_slot x t a e p = cc (ap use_of e, p)
 
-      two : (j k t : ℕ) (a b : Use) (x y : View T) → use_of x ≡ used_as t a → use_of y ≡ used_as t b
+      two : (j k t : ℕ) (a b : Use) (x y : SlotView T) → use_of x ≡ used_as t a → use_of y ≡ used_as t b
           → (view_of s j ≡ Some x) ⊎ ((view_of s j ≡ None) × (Rests ≡ x))
           → (view_of s k ≡ Some y) ⊎ ((view_of s k ≡ None) × (Rests ≡ y)) → j ≡ k
       two j k t a b x y p q (inl e) (inl f) = h.apart j k t a b x y e f p q
       two j k t a b x y p q (inl e) (inr f) = absurd (no_slot y t b f.1 q)
       two j k t a b x y p q (inr e) f = absurd (no_slot x t a e.1 p)
 
-      no_hand : (x : View T) (b : ℕ) → Rests ≡ x → hand_of x ≡ Some b → ⊥
+      no_hand : (x : SlotView T) (b : ℕ) → Rests ≡ x → hand_of x ≡ Some b → ⊥
       no_hand x b e p = cc (ap hand_of e, p)
 
-      one : (j k b : ℕ) (x y : View T) → hand_of x ≡ Some b → hand_of y ≡ Some b
+      one : (j k b : ℕ) (x y : SlotView T) → hand_of x ≡ Some b → hand_of y ≡ Some b
           → (view_of s j ≡ Some x) ⊎ ((view_of s j ≡ None) × (Rests ≡ x))
           → (view_of s k ≡ Some y) ⊎ ((view_of s k ≡ None) × (Rests ≡ y)) → j ≡ k
       one j k b x y p q (inl e) (inl f) = h.sole j k b x y e f p q
@@ -144,7 +144,7 @@ module _ (T : Type 0) (defers : T → Option ℕ) where
   seats_come fixed = comes defers fixed
 
   -- with the world as it is
-  pub seats_join : (fixed : Fixed) (s : State T (View T) (World T)) → Holds defers fixed s → Holds defers fixed (joined s Rests s.world)
+  pub seats_join : (fixed : Fixed) (s : State T (SlotView T) (World T)) → Holds defers fixed s → Holds defers fixed (joined s Rests s.world)
   seats_join fixed = joins defers fixed
 
   pub rows_turn : RowsTurn T defers

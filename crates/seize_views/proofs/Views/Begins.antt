@@ -18,10 +18,10 @@ use Rattle.seize_acts.specs.Bounds.Bounds.{IsToTry, IsAloneOnSlot, TriesWithin}
 use Rattle.seize_acts.proofs.Bounds.Settles.Within.{batches_are_tried}
 use Rattle.seize_views.specs.Views.Begun.{IsBegun}
 use Rattle.seize_views.specs.Views.Rows.{row_of, use_of, used_for, hand_of, had_in, leave_of, IsCut, IsPlain, IsShort, IsKnown, IsBounded}
-use Rattle.seize_views.specs.declared.view.View.{View}
+use Rattle.seize_views.specs.declared.view.SlotView.{SlotView}
 use Rattle.seize_views.specs.declared.view.Becomes.{Becomes}
 use Rattle.seize_views.specs.declared.view.Becomes.TheVariants.{Idle, Active}
-use Rattle.seize_views.specs.declared.view.View.TheVariants.{Rests, Registers, Outside, Enters, Inside, Settles, Leaves, Frees}
+use Rattle.seize_views.specs.declared.view.SlotView.TheVariants.{Rests, Registers, Outside, Enters, Inside, Settles, Leaves, Frees}
 use Rattle.seize_views.specs.declared.view.Has.{Has}
 use Rattle.seize_views.specs.declared.view.Why.TheVariants.{Retiring}
 use Rattle.seize_views.specs.declared.view.Fixed.{Fixed}
@@ -56,10 +56,10 @@ abbrev pub First : Register
 First = record { slot = 0; enters = false; stands = at.Begin }
 
 module _ {T : Type 0} (defers : T → Option ℕ) (fixed : Fixed) (w : World T) (i : ℕ) where
-  abbrev Row' : View T → Type 0
+  abbrev Row' : SlotView T → Type 0
   Row' v = HasRow defers fixed IsJustSo w i v
 
-  abbrev To : View T → (View T → Type 0) → Type 0
+  abbrev To : SlotView T → (SlotView T → Type 0) → Type 0
   To v so = BeginsTo defers fixed w i v so
 
   -- how its slot is used
@@ -67,7 +67,7 @@ module _ {T : Type 0} (defers : T → Option ℕ) (fixed : Fixed) (w : World T) 
   used_so o t a is e = subst (λ (p : Option (ℕ × Use)). IsUsedLike IsJustSo w p) e is
 
   -- a row begins on the slot of a caller that has one, outside of a section or inside
-  begins_on : (t : ℕ) (v u : View T) (a : Use) (row : Row) (request : Request) → Row' v → use_of v ≡ used_as t a → use_of u ≡ used_as t world.Changing
+  begins_on : (t : ℕ) (v u : SlotView T) (a : Use) (row : Row) (request : Request) → Row' v → use_of v ≡ used_as t a → use_of u ≡ used_as t world.Changing
       → row_of v ≡ world.Rests → row_of u ≡ row → slot_in request ≡ Some t → HasNoBlock request
       → (w.uses t ≡ a → world.Begins defers fixed.batch_size i request w (with_use (with_row w i row) t world.Changing))
       → (w.uses t ≡ a → acts.begun defers fixed.batch_size i request w ≡ Some (with_use (with_row w i row) t world.Changing))
@@ -165,7 +165,7 @@ module _ {T : Type 0} (defers : T → Option ℕ) (fixed : Fixed) (w : World T) 
   )
 
   -- a settling that begins on the slot of a caller takes so many steps
-  module _ (t : ℕ) (way : Becomes) (v : View T) (h : Row' v) (lone : (j : ℕ) → (j ≡ i → ⊥) → SettlesOn t (w.row j) → ⊥)
+  module _ (t : ℕ) (way : Becomes) (v : SlotView T) (h : Row' v) (lone : (j : ℕ) → (j ≡ i → ⊥) → SettlesOn t (w.row j) → ⊥)
       (mine : use_of v ≡ used_as t (resting way)) (rests : row_of v ≡ world.Rests) where
     used : w.uses t ≡ resting way
     used = used_so (use_of v) t (resting way) h.used mine

@@ -20,8 +20,8 @@ use Rattle.seize_seats.specs.Seats.State.{State, view_of}
 use Rattle.seize_views.specs.Views.Rows.{Leads, had_in, hand_of, IsMade, IsInHand, Holds}
 use Rattle.seize_views.specs.Views.Told.{alone_with, told}
 use Rattle.seize_views.specs.Views.Promises.{Names, BlocksAreMade, MadeAreTaken, OwnAreMade, OwnAreTaken, OwnAreRewritten, OwnAreShown, BorneAreShown, KnownAreShown}
-use Rattle.seize_views.specs.declared.view.View.{View}
-use Rattle.seize_views.specs.declared.view.View.TheVariants.{Rests, Inside, Brings, Bears}
+use Rattle.seize_views.specs.declared.view.SlotView.{SlotView}
+use Rattle.seize_views.specs.declared.view.SlotView.TheVariants.{Rests, Inside, Brings, Bears}
 use Rattle.seize_views.specs.declared.view.Has.{Has}
 use Rattle.seize_views.specs.declared.view.Has.TheVariants.{Nothing, Made, Seen, Both, Cut}
 use Rattle.seize_views.specs.declared.view.Fixed.{Fixed}
@@ -50,7 +50,7 @@ module _ {T : Type 0} (defers : T → Option ℕ) where
       ap (λ (k : Mem T). value_at k b) took.1 ∙ value_at-with_value m b y b (subst IsSome (sym took.0) refl)
       ∙ ap (λ (q : Bool). if q then Some y else value_at m b) (eq-eqb b b refl)
 
-module _ {T : Type 0} (defers : T → Option ℕ) (fixed : Fixed) (s : State T (View T) (World T)) (id t : ℕ) (place : Has T → View T) (carries : Carries t place)
+module _ {T : Type 0} (defers : T → Option ℕ) (fixed : Fixed) (s : State T (SlotView T) (World T)) (id t : ℕ) (place : Has T → SlotView T) (carries : Carries t place)
     (had : Has T) (h : Holds defers fixed s) (at : view_of s id ≡ Some (place had)) (is_so : IsInHand s.world t had) where
   abbrev w : World T
   w = s.world
@@ -75,13 +75,13 @@ module _ {T : Type 0} (defers : T → Option ℕ) (fixed : Fixed) (s : State T (
       ∙ with_here (value_at w.memory) b (Some value)
 
   -- another one does not have a block that is not there
-  free_of : (j b : ℕ) (x : View T) → j ≢ id → view_of s j ≡ Some x → hand_of x ≡ Some b → value_at w.memory b ≡ None → ⊥
+  free_of : (j b : ℕ) (x : SlotView T) → j ≢ id → view_of s j ≡ Some x → hand_of x ≡ Some b → value_at w.memory b ≡ None → ⊥
   free_of j b x ne e q none =
       let some = kept_there defers fixed.batch_size w r b (IsHad (hand_users w x b (h.seats j x e).known q).0) in cc (some, none)
 
   makes : (value : T) (words : ℕ) → had_in had ≡ None → HasListWord defers (defers value) words → (after : ℕ → Has T) → ((b : ℕ) → had_in (after b) ≡ Some b)
       → ((b : ℕ) (n : World T) → IsMade n b value → ((c : ℕ) → holds t c w.log ≡ true → holds t c n.log ≡ true) → IsInHand n t (after b))
-      → (so : Out T → View T → Type 0) → ((b : ℕ) → b < 2 ^ 53 → so (OutMade (Ok b)) (place (after b)))
+      → (so : Out T → SlotView T → Type 0) → ((b : ℕ) → b < 2 ^ 53 → so (OutMade (Ok b)) (place (after b)))
       → ((back : T) → back ≡ value → so (OutMade (Err back)) (place had)) → (out : Out T) (m : Mem T) → Took s.memory (Make value words) out m
       → Leads defers fixed s m id (so out)
   makes value words empty list after made_hand hand so tells refused (OutMade (Ok b)) m took =
@@ -155,7 +155,7 @@ module _ {T : Type 0} (defers : T → Option ℕ) (fixed : Fixed) (s : State T (
 
   takes : (b : ℕ) (x : T) → IsMade w b x → had_in had ≡ Some b → (after : Has T) → had_in after ≡ None
       → ((n : World T) → ((c : ℕ) → holds t c w.log ≡ true → holds t c n.log ≡ true) → IsInHand n t after)
-      → (so : Out T → View T → Type 0) → ((value : T) → value ≡ x → so (Taken value) (place after)) → (out : Out T) (m : Mem T)
+      → (so : Out T → SlotView T → Type 0) → ((value : T) → value ≡ x → so (Taken value) (place after)) → (out : Out T) (m : Mem T)
       → Took s.memory (Take b) out m
       → Leads defers fixed s m id (so out)
   takes b x made had_it after gone hand so tells (Taken value) m took =
@@ -195,7 +195,7 @@ module _ {T : Type 0} (defers : T → Option ℕ) (fixed : Fixed) (s : State T (
 
   rewrites : (b : ℕ) (x y : T) → IsMade w b x → had_in had ≡ Some b → defers y ≡ defers x → (after : Has T) → had_in after ≡ Some b
       → ((n : World T) → IsMade n b y → ((c : ℕ) → holds t c w.log ≡ true → holds t c n.log ≡ true) → IsInHand n t after)
-      → (so : Out T → View T → Type 0) → ((value : T) → value ≡ x → so (Taken value) (place after)) → (out : Out T) (m : Mem T)
+      → (so : Out T → SlotView T → Type 0) → ((value : T) → value ≡ x → so (Taken value) (place after)) → (out : Out T) (m : Mem T)
       → Took s.memory (Rewrite b y) out m
       → Leads defers fixed s m id (so out)
   rewrites b x y made had_it list after has_it hand so tells (Taken value) m took =

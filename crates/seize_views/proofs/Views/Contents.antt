@@ -16,8 +16,8 @@ use Rattle.seize_views.specs.declared.view.Deed.{Deed}
 use Rattle.seize_views.specs.declared.view.Fixed.{Fixed}
 use Rattle.seize_views.specs.declared.view.Has.TheVariants.{Nothing, Made, Seen, Both, Cut}
 use Rattle.seize_views.specs.declared.view.Noted.{Noted}
-use Rattle.seize_views.specs.declared.view.View.{View}
-use Rattle.seize_views.specs.declared.view.View.TheVariants.{Rests, Registers, Outside, Owes, Enters, Inside, Settles, Leaves, Left, Frees, Brings, Bears, Watches, Under, Busy}
+use Rattle.seize_views.specs.declared.view.SlotView.{SlotView}
+use Rattle.seize_views.specs.declared.view.SlotView.TheVariants.{Rests, Registers, Outside, Owes, Enters, Inside, Settles, Leaves, Left, Frees, Brings, Bears, Watches, Under, Busy}
 use Rattle.seize_views.specs.declared.view.Why.TheVariants.{Retiring, Ending}
 use Rattle.seize_views.proofs.Views.Beginnings.{rows_turn, settlings_begin}
 use Rattle.seize_views.proofs.Views.GoesOn.{rows_go_on}
@@ -25,7 +25,7 @@ use Rattle.seize_views.proofs.Views.Looks.{looked_are_shown}
 use Rattle.seize_views.proofs.Views.Notes.{comings_are_noted, steps_are_noted, turns_are_noted, settlings_are_noted, looks_are_noted}
 
 -- who watches has no row
-own_by_op : {T : Type 0} (defers : T → Option ℕ) (w : View T) (op : Op T) → op_of defers w ≡ Some op → IsOwn w
+own_by_op : {T : Type 0} (defers : T → Option ℕ) (w : SlotView T) (op : Op T) → op_of defers w ≡ Some op → IsOwn w
 own_by_op defers (Watches t b) op e = absurd (cc e)
 own_by_op defers (Under n t b) op e = absurd (cc e)
 own_by_op defers _ op e = tt
@@ -36,11 +36,11 @@ left_own T Active t = tt
 
 -- and begins none
 module _ {T : Type 0} (fixed : Fixed) where
-  free_own : (t : ℕ) (u : View T) → IsFree fixed t u → IsOwn u
+  free_own : (t : ℕ) (u : SlotView T) → IsFree fixed t u → IsOwn u
   free_own t u (inl is) = subst IsOwn (sym is.1) tt
   free_own t u (inr is) = subst IsOwn (sym is) tt
 
-  next_own : (v u : View T) → IsNext fixed v u → IsOwn v × IsOwn u
+  next_own : (v u : SlotView T) → IsNext fixed v u → IsOwn v × IsOwn u
   next_own Rests u is = (tt, subst IsOwn (sym is) tt)
   next_own (Outside t) u (inl is) = (tt, subst IsOwn (sym is) tt)
   next_own (Outside t) u (inr is) = (tt, subst IsOwn (sym is) tt)
@@ -66,7 +66,7 @@ module _ {T : Type 0} (fixed : Fixed) where
 -- notes are the same where each of them is
 same_notes : {T : Type 0} (v u : Noted T) → (v.knows ≡ u.knows) × (v.did ≡ u.did) × (v.began ≡ u.began) × (v.guards ≡ u.guards) → v ≡ u
 same_notes v u is =
-    ap (λ (k : View _). noted k v.did v.began v.guards) is.0 ∙ ap (λ (d : Deed _). noted u.knows d v.began v.guards) is.1
+    ap (λ (k : SlotView _). noted k v.did v.began v.guards) is.0 ∙ ap (λ (d : Deed _). noted u.knows d v.began v.guards) is.1
     ∙ ap (λ (b : Began). noted u.knows u.did b v.guards) is.2 ∙ ap (λ (n : ℕ). noted u.knows u.did u.began n) is.3
 
 module _ (T : Type 0) (defers : T → Option ℕ) where
@@ -99,6 +99,6 @@ module _ (T : Type 0) (defers : T → Option ℕ) where
   pub looked_are_shown_in : LookedAreShownIn (NotedHolds defers) NotedKeeps whole none
   looked_are_shown_in fixed id v c why b left x is =
       let k = looked_are_shown T defers fixed id c why b left x in let n = looks_are_noted T defers fixed id v b in (
-        n.0 (subst (λ (y : View T). Shown (Holds defers fixed) id y b) (sym is) k.0),
-        λ y of. k.1 y (subst (λ (z : View T). IsValueOf (Holds defers fixed) id z b y) is (n.1 y of)),
+        n.0 (subst (λ (y : SlotView T). Shown (Holds defers fixed) id y b) (sym is) k.0),
+        λ y of. k.1 y (subst (λ (z : SlotView T). IsValueOf (Holds defers fixed) id z b y) is (n.1 y of)),
       )

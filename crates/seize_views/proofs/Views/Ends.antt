@@ -18,10 +18,10 @@ use Rattle.seize.specs.World as world
 use Rattle.seize_acts.proofs.Given.SeizeRuleRows.Others.{with_here}
 use Rattle.seize_views.specs.Views.Begun.{left_with}
 use Rattle.seize_views.specs.Views.Rows.{row_of, use_of, used_for, hand_of, leave_of, counting, IsPlain, IsShort, IsKnown, IsBounded}
-use Rattle.seize_views.specs.declared.view.View.{View}
+use Rattle.seize_views.specs.declared.view.SlotView.{SlotView}
 use Rattle.seize_views.specs.declared.view.Becomes.{Becomes}
 use Rattle.seize_views.specs.declared.view.Becomes.TheVariants.{Idle, Active}
-use Rattle.seize_views.specs.declared.view.View.TheVariants.{Outside, Inside, Settles, Left}
+use Rattle.seize_views.specs.declared.view.SlotView.TheVariants.{Outside, Inside, Settles, Left}
 use Rattle.seize_views.specs.declared.view.Has.TheVariants.{Nothing}
 use Rattle.seize_views.specs.declared.view.Why.TheVariants.{Retiring, Ending}
 use Rattle.seize_views.specs.declared.view.Fixed.{Fixed}
@@ -34,7 +34,7 @@ module _ {T : Type 0} (defers : T → Option ℕ) where
   over_step c m end over is = subst (λ (p : Settling). Steps Took value_at m (plan_at defers c p) m end) (sym over) is
 
 module _ {T : Type 0} (defers : T → Option ℕ) (fixed : Fixed) (Is : Use → Use → Type 0) (like : IsLikeness Is) (w : World T) (i : ℕ) where
-  abbrev To : View T → (View T → Type 0) → Type 0
+  abbrev To : SlotView T → (SlotView T → Type 0) → Type 0
   To v so = GoesTo defers fixed Is w i v w.memory so
 
   -- a settling that is over ends, and its caller stands as before

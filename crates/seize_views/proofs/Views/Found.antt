@@ -10,7 +10,7 @@ use Rattle.seize_acts.proofs.Given.SeizeAloneHistories.NotTaken.{IsHad, kept_the
 use Rattle.seize_acts.proofs.Acts.Answers.{same_some}
 use Rattle.seize_seats.specs.Seats.State.{State, view_of, after}
 use Rattle.seize_views.specs.Views.Rows.{hand_of, IsInSomeHand, IsFound, Holds}
-use Rattle.seize_views.specs.declared.view.View.{View}
+use Rattle.seize_views.specs.declared.view.SlotView.{SlotView}
 use Rattle.seize_views.specs.declared.view.Fixed.{Fixed}
 use Rattle.seize_views.proofs.Views.Came.{of_users, reached}
 use Rattle.seize_views.proofs.Views.Lists.{there, elsewhere}
@@ -44,10 +44,10 @@ module _ {T : Type 0} where
   found_as m b has hand world.Handed is so f = tt
   found_as m b has hand (world.LeftTo h) is so f = f
 
-module _ {T : Type 0} (s : State T (View T) (World T)) (id : ℕ) (began : World T) where
+module _ {T : Type 0} (s : State T (SlotView T) (World T)) (id : ℕ) (began : World T) where
   -- another seat has the block in its hand
   abbrev pub IsAnothers : ℕ → Type 0
-  IsAnothers b = (j : ℕ) × (x : View T) × (j ≢ id) × (view_of s j ≡ Some x) × (hand_of x ≡ Some b)
+  IsAnothers b = (j : ℕ) × (x : SlotView T) × (j ≢ id) × (view_of s j ≡ Some x) × (hand_of x ≡ Some b)
 
   -- the seat has it, in whose hand this is, or another one, or it was in this hand already as the present lifetime began
   abbrev pub HasNow : Option ℕ → ℕ → Hand → Type 0
@@ -62,13 +62,13 @@ module _ {T : Type 0} (s : State T (View T) (World T)) (id : ℕ) (began : World
   has_more o p b still k (inr other) = inr other
 
   -- in the hand of some seat it is then
-  pub some_has : (v u : View T) → view_of s id ≡ Some v → (m : Mem T) (n : World T) (b : ℕ) (k : Hand) → HasNow (hand_of u) b k
+  pub some_has : (v u : SlotView T) → view_of s id ≡ Some v → (m : Mem T) (n : World T) (b : ℕ) (k : Hand) → HasNow (hand_of u) b k
       → IsInSomeHand (after s m id u n) began b k
   some_has v u at m n b k (inl mine) = inl (id, u, there s.views id u v at, mine)
   some_has v u at m n b k (inr (inl other)) = inl (other.0, other.1, elsewhere s.views id other.0 u other.2 ∙ other.3, other.4)
   some_has v u at m n b k (inr (inr was)) = inr was
 
-module _ {T : Type 0} (defers : T → Option ℕ) (fixed : Fixed) (s : State T (View T) (World T)) (id : ℕ) (v : View T) (h : Holds defers fixed s)
+module _ {T : Type 0} (defers : T → Option ℕ) (fixed : Fixed) (s : State T (SlotView T) (World T)) (id : ℕ) (v : SlotView T) (h : Holds defers fixed s)
     (at : view_of s id ≡ Some v) where
   abbrev w : World T
   w = s.world

@@ -9,8 +9,8 @@ use Rattle.seize_acts.proofs.Acts.Answers.{same_some}
 use Rattle.seize_views.specs.Views.Rows.{head_of}
 use Rattle.seize_views.specs.Views.Told.{told}
 use Rattle.seize_views.specs.Views.Promises.{op_of, RowsGoOn}
-use Rattle.seize_views.specs.declared.view.View.{View}
-use Rattle.seize_views.specs.declared.view.View.TheVariants.{Rests, Registers, Outside, Owes, Enters, Inside, Settles, Leaves, Left, Frees, Brings, Bears, Watches, Under, Busy}
+use Rattle.seize_views.specs.declared.view.SlotView.{SlotView}
+use Rattle.seize_views.specs.declared.view.SlotView.TheVariants.{Rests, Registers, Outside, Owes, Enters, Inside, Settles, Leaves, Left, Frees, Brings, Bears, Watches, Under, Busy}
 use Rattle.seize_views.specs.declared.view.Fixed.{Fixed}
 use Rattle.seize_views.proofs.Views.InWorld.{IsJustSo, just_so, IsLikeness, HasRow, MayMake}
 use Rattle.seize_views.proofs.Views.Lifted.{has_row, makes}
@@ -20,10 +20,10 @@ use Rattle.seize_views.proofs.Views.Settling.{settles}
 
 -- in a world
 module _ {T : Type 0} (defers : T → Option ℕ) (fixed : Fixed) (Is : Use → Use → Type 0) (like : IsLikeness Is) (w : World T) (i : ℕ) where
-  abbrev May : View T → Op T → Type 0
+  abbrev May : SlotView T → Op T → Type 0
   May v op = MayMake defers fixed Is w i v op (told defers v op)
 
-  pub goes_on : (v : View T) (op : Op T) → HasRow defers fixed Is w i v → op_of defers v ≡ Some op → May v op
+  pub goes_on : (v : SlotView T) (op : Op T) → HasRow defers fixed Is w i v → op_of defers v ≡ Some op → May v op
   goes_on Rests op h e = absurd (cc e)
   goes_on (Registers c) op h e = registers defers fixed Is like w i c h op e
   goes_on (Outside t) op h e = absurd (cc e)

@@ -20,8 +20,8 @@ use Rattle.seize_views.specs.Views.Notes.{noted, as_known, deed, NotedHolds, Not
 use Rattle.seize_views.specs.declared.view.Noted.{Noted}
 use Rattle.seize_views.specs.declared.view.Began.{Began}
 use Rattle.seize_views.specs.declared.view.Deed.{Deed}
-use Rattle.seize_views.specs.declared.view.View.{View}
-use Rattle.seize_views.specs.declared.view.View.TheVariants.{Rests, Watches}
+use Rattle.seize_views.specs.declared.view.SlotView.{SlotView}
+use Rattle.seize_views.specs.declared.view.SlotView.TheVariants.{Rests, Watches}
 use Rattle.seize_views.specs.declared.view.Has.TheVariants.{Nothing}
 use Rattle.seize_views.specs.declared.view.Fixed.{Fixed}
 use Rattle.seize_views.specs.Views.Resting.{open_leans}
@@ -35,7 +35,7 @@ use Rattle.seize_views.proofs.Views.Watched.{some_watch, watches_open}
 use Rattle.seize_views.proofs.Views.Written.{root_can}
 
 module _ {T : Type 0} (defers : T → Option ℕ) (fixed : Fixed) where
-  module _ (s : State T (View T) (World T)) (i j : ℕ) (u : View T) (h : Holds defers fixed s) (at_j : view_of s j ≡ Some u) (apart : i ≢ j) where
+  module _ (s : State T (SlotView T) (World T)) (i j : ℕ) (u : SlotView T) (h : Holds defers fixed s) (at_j : view_of s j ≡ Some u) (apart : i ≢ j) where
     begins_so : (t : ℕ) (at_i : view_of s i ≡ Some Rests) → Meeting defers fixed s i j Rests u h at_i at_j apart (Watches t 0) u
     begins_so t at_i = let f = h.seats i Rests at_i in record {
       one = record { row = f.row; slot = tt; short = tt; known = tt };
@@ -69,9 +69,9 @@ module _ {T : Type 0} (defers : T → Option ℕ) (fixed : Fixed) where
     }
 
   -- a seat that has no row under way and no block in its hand goes on, and the memory stays as it is
-  pub aside_on : (s : State T (View T) (World T)) (id : ℕ) (v x : View T) (h : Holds defers fixed s) (at : view_of s id ≡ Some v) → row_of v ≡ world.Rests
+  pub aside_on : (s : State T (SlotView T) (World T)) (id : ℕ) (v x : SlotView T) (h : Holds defers fixed s) (at : view_of s id ≡ Some v) → row_of v ≡ world.Rests
       → row_of x ≡ world.Rests → use_of x ≡ use_of v → IsShort x → hand_of v ≡ None → hand_of x ≡ None → IsKnown s.world x → IsBounded defers fixed s.world id x
-      → (m : Mem T) → m ≡ s.memory → (so : View T → Type 0) → so x → Leads defers fixed s m id so
+      → (m : Mem T) → m ≡ s.memory → (so : SlotView T → Type 0) → so x → Leads defers fixed s m id so
   aside_on s id v x h at rests still same_use short empty hand known bounded m same so is =
       users_on defers fixed s id 0 v x h at rests still same_use short m s.world Nothing (record {
         since = ([], refl);
@@ -90,11 +90,11 @@ module _ {T : Type 0} (defers : T → Option ℕ) (fixed : Fixed) where
       }) (λ b. found_on defers fixed s id v h at None m (ap (λ (x : Mem T). x.roots) same) b (λ mine. absurd (cc (empty, mine)))) hand known bounded so is
 
   -- who watches sees what a root names
-  looks : (s : State T (View T) (World T)) (id t b c : ℕ) (h : Holds defers fixed s) (at : view_of s id ≡ Some (Watches t b)) (m : Mem T) → m ≡ s.memory
-      → (so : View T → Type 0) → so (Watches t c) → Leads defers fixed s m id so
+  looks : (s : State T (SlotView T) (World T)) (id t b c : ℕ) (h : Holds defers fixed s) (at : view_of s id ≡ Some (Watches t b)) (m : Mem T) → m ≡ s.memory
+      → (so : SlotView T → Type 0) → so (Watches t c) → Leads defers fixed s m id so
   looks s id t b c h at m same so is = aside_on s id (Watches t b) (Watches t c) h at refl refl refl tt refl refl tt tt m same so is
 
-  sees : (s : State T (View T) (World T)) (id t b r : ℕ) (h : Holds defers fixed s) (at : view_of s id ≡ Some (Watches t b)) (out : Out T) (m : Mem T)
+  sees : (s : State T (SlotView T) (World T)) (id t b r : ℕ) (h : Holds defers fixed s) (at : view_of s id ≡ Some (Watches t b)) (out : Out T) (m : Mem T)
       → Took s.memory (Load (Root r)) out m → Leads defers fixed s m id (told defers (Watches t b) (Load (Root r)) out)
   sees s id t b r h at (Found word) m took = looks s id t b (block_in word) h at m took.1 (told defers (Watches t b) (Load (Root r)) (Found word)) refl
   sees s id t b r h at Stored m took = absurd took.0
@@ -107,11 +107,11 @@ module _ {T : Type 0} (defers : T → Option ℕ) (fixed : Fixed) where
   abbrev N : State T (Noted T) (World T) → Type 0
   N = NotedHolds defers fixed
 
-  abbrev slot_in : View T → ℕ
+  abbrev slot_in : SlotView T → ℕ
   slot_in (Watches t b) = t
   slot_in _ = 0
 
-  abbrev block_seen : View T → ℕ
+  abbrev block_seen : SlotView T → ℕ
   block_seen (Watches t b) = b
   block_seen _ = 0
 
@@ -122,7 +122,7 @@ module _ {T : Type 0} (defers : T → Option ℕ) (fixed : Fixed) where
     abbrev load : Op T
     load = Load (Root r)
 
-    still_watches : (out : Out T) (u : View T) → told defers (Watches t b) load out u → (x : ℕ) → is_watching x u ≡ is_watching {T = T} x (Watches t b)
+    still_watches : (out : Out T) (u : SlotView T) → told defers (Watches t b) load out u → (x : ℕ) → is_watching x u ≡ is_watching {T = T} x (Watches t b)
     still_watches (Found word) u is x = ap (is_watching x) is
     still_watches Stored u is x = absurd is
     still_watches (Exchanged y) u is x = absurd is
@@ -130,8 +130,8 @@ module _ {T : Type 0} (defers : T → Option ℕ) (fixed : Fixed) where
     still_watches (Taken y) u is x = absurd is
     still_watches (Roomed y) u is x = absurd is
 
-    no_leaning : (out : Out T) (u : View T) → told defers (Watches t b) load out u → (n : ℕ) → LeansOn u n → ⊥
-    no_leaning (Found word) u is n leans = subst (λ (y : View T). LeansOn y n) is leans
+    no_leaning : (out : Out T) (u : SlotView T) → told defers (Watches t b) load out u → (n : ℕ) → LeansOn u n → ⊥
+    no_leaning (Found word) u is n leans = subst (λ (y : SlotView T). LeansOn y n) is leans
     no_leaning Stored u is n leans = is
     no_leaning (Exchanged y) u is n leans = is
     no_leaning (OutMade y) u is n leans = is
@@ -140,7 +140,7 @@ module _ {T : Type 0} (defers : T → Option ℕ) (fixed : Fixed) where
 
     -- what it has seen the section holds
     seen_held : (s : State T (Noted T) (World T)) (h : N s) (at : view_of (as_known s) id ≡ Some (Watches t b)) (out : Out T) (m : Mem T)
-        → Took s.memory load out m → (u : View T) → told defers (Watches t b) load out u → (x c : ℕ) → u ≡ Watches x c → c ≢ 0
+        → Took s.memory load out m → (u : SlotView T) → told defers (Watches t b) load out u → (x c : ℕ) → u ≡ Watches x c → c ≢ 0
         → (x ≡ t) × (holds t c s.world.log ≡ true)
     seen_held s h at (Found word) m took u is x c e some =
         let f : Watches t (block_in word) ≡ Watches x c = sym is ∙ e in
@@ -168,7 +168,7 @@ module _ {T : Type 0} (defers : T → Option ℕ) (fixed : Fixed) where
               let k = seen_held s h here out m took g.0 g.5 x c e some in
               let inside = watches_open defers fixed s.views (as_known s) h.0 h.1 id t b here in
               subst (λ (y : ℕ). holds y c g.1.log ≡ true) (sym k.0) (g.4 t c inside k.1))
-              (λ n x c e. absurd (no_leaning out g.0 g.5 n (subst (λ (y : View T). LeansOn y n) (sym e) refl))) (inr (inl refl)),
+              (λ n x c e. absurd (no_leaning out g.0 g.5 n (subst (λ (y : SlotView T). LeansOn y n) (sym e) refl))) (inr (inl refl)),
         )
 
   watched_shown : (id t b : ℕ) (v : Noted T) → v.knows ≡ Watches t b → b ≢ 0 → Shown N id v b
@@ -203,7 +203,7 @@ module _ {T : Type 0} (defers : T → Option ℕ) (fixed : Fixed) where
                 other_watch = λ x. refl;
                 beside = λ x other. ne_eqb t x (λ z. other (is_open ∙ ap Some z)) ∙ sym (ap (is_watching x) e);
                 balance = λ x is.
-                    let k : one (is_watching x v.knows) ≡ 0 = ap (λ (y : View T). one (is_watching x y)) e in
+                    let k : one (is_watching x v.knows) ≡ 0 = ap (λ (y : SlotView T). one (is_watching x y)) e in
                     let m : one (t == x) ≡ 1 = ap one (eq-eqb t x (his x is)) in omega (arith, k, m);
                 none = λ none. absurd (cc (none, is_open));
                 one_seen = λ x b f some. absurd (some (sym (ap block_seen f)));
@@ -233,7 +233,7 @@ module _ {T : Type 0} (defers : T → Option ℕ) (fixed : Fixed) where
                 other_watch = λ x. refl;
                 beside = λ x other. sym (ap (is_watching x) e ∙ ne_eqb t x (λ z. other (is_open ∙ ap Some z)));
                 balance = λ x is.
-                    let k : one (is_watching x v.knows) ≡ 1 = ap (λ (y : View T). one (is_watching x y)) e ∙ ap one (eq-eqb t x (his x is)) in omega (arith, k, one_less);
+                    let k : one (is_watching x v.knows) ≡ 1 = ap (λ (y : SlotView T). one (is_watching x y)) e ∙ ap one (eq-eqb t x (his x is)) in omega (arith, k, one_less);
                 none = λ none. absurd (cc (none, is_open));
                 one_seen = λ x c f some. absurd (cc f);
                 other_seen = λ x c f some. f;
@@ -255,7 +255,7 @@ module _ (T : Type 0) (defers : T → Option ℕ) where
 
   pub watchers_see : WatchersSee T defers
   watchers_see fixed id t b r v is lt =
-      subst (λ (x : View T). Allows (NotedHolds defers fixed) NotedKeeps id (noted x v.did v.began v.guards) (Load (Root r))
+      subst (λ (x : SlotView T). Allows (NotedHolds defers fixed) NotedKeeps id (noted x v.did v.began v.guards) (Load (Root r))
       (noted_told defers (noted x v.did v.began v.guards) (Load (Root r)))) (sym is)
       (may_see defers fixed id t b r v.did v.began v.guards lt)
 

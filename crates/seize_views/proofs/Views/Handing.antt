@@ -8,18 +8,18 @@ use Rattle.seize_seats.specs.Seats.State.{State, view_of, Meets}
 use Rattle.seize_views.specs.Views.Begun.{Hands}
 use Rattle.seize_views.specs.Views.Promises.{BorneAreHandedOn}
 use Rattle.seize_views.specs.Views.Rows.{use_of, hand_of, had_in, IsInSomeHand, Fits, IsBounded, Holds}
-use Rattle.seize_views.specs.declared.view.View.{View}
-use Rattle.seize_views.specs.declared.view.View.TheVariants.{Rests, Registers, Outside, Owes, Enters, Inside, Settles, Leaves, Left, Frees, Brings, Bears, Watches, Under, Busy}
+use Rattle.seize_views.specs.declared.view.SlotView.{SlotView}
+use Rattle.seize_views.specs.declared.view.SlotView.TheVariants.{Rests, Registers, Outside, Owes, Enters, Inside, Settles, Leaves, Left, Frees, Brings, Bears, Watches, Under, Busy}
 use Rattle.seize_views.specs.declared.view.Has.{Has}
 use Rattle.seize_views.specs.declared.view.Has.TheVariants.{Nothing, Made, Seen, Both, Cut}
 use Rattle.seize_views.specs.declared.view.Fixed.{Fixed}
 use Rattle.seize_views.proofs.Views.Found.{found_at}
 use Rattle.seize_views.proofs.Views.Lists.{there, elsewhere}
 
-module _ {T : Type 0} (defers : T → Option ℕ) (fixed : Fixed) (s : State T (View T) (World T)) (i j : ℕ) (v u : View T) (h : Holds defers fixed s)
+module _ {T : Type 0} (defers : T → Option ℕ) (fixed : Fixed) (s : State T (SlotView T) (World T)) (i j : ℕ) (v u : SlotView T) (h : Holds defers fixed s)
     (at_i : view_of s i ≡ Some v) (at_j : view_of s j ≡ Some u) (apart : i ≢ j) where
   -- what both know then: the same slots, and the blocks that one of them had in its hand
-  pub record Meeting (p q : View T) : Type 0 where
+  pub record Meeting (p q : SlotView T) : Type 0 where
     pub one : Fits s.world i p
     pub other : Fits s.world j q
     pub one_bound : IsBounded defers fixed s.world i p
@@ -30,20 +30,20 @@ module _ {T : Type 0} (defers : T → Option ℕ) (fixed : Fixed) (s : State T (
     pub hands_on : (b : ℕ) → (hand_of v ≡ Some b) ⊎ (hand_of u ≡ Some b) → hand_of q ≡ Some b
     pub other_hand : (b : ℕ) → hand_of q ≡ Some b → (hand_of v ≡ Some b) ⊎ (hand_of u ≡ Some b)
 
-  module _ (p q : View T) (m : Meeting p q) where
-    abbrev after_meeting : State T (View T) (World T)
+  module _ (p q : SlotView T) (m : Meeting p q) where
+    abbrev after_meeting : State T (SlotView T) (World T)
     after_meeting = record { memory = s.memory; views = slice_set (slice_set s.views i p) j q; world = s.world }
 
-    abbrev views : ℕ → Option (View T)
+    abbrev views : ℕ → Option (SlotView T)
     views k = slice_get (slice_set (slice_set s.views i p) j q) k
 
     -- who it is: one of both, or another one, who knows what it knew
-    data Who (k : ℕ) (x : View T) : Type 0 where
+    data Who (k : ℕ) (x : SlotView T) : Type 0 where
       IsOne : k ≡ i → p ≡ x → Who k x
       IsOther : k ≡ j → q ≡ x → Who k x
       IsThird : k ≢ i → k ≢ j → view_of s k ≡ Some x → Who k x
 
-    who : (k : ℕ) (x : View T) → views k ≡ Some x → Who k x
+    who : (k : ℕ) (x : SlotView T) → views k ≡ Some x → Who k x
     who k x e = by (cases_eq k j) (cases_eq k i)
       where
         at_one : slice_get (slice_set s.views i p) i ≡ Some p
@@ -73,22 +73,22 @@ module _ {T : Type 0} (defers : T → Option ℕ) (fixed : Fixed) (s : State T (
         by (inr ne) (inr ne2) = sym (elsewhere s.views i k p ne2) ∙ sym (elsewhere (slice_set s.views i p) j k q ne) ∙ e
 
     -- whose slot it was before
-    used_before : (k : ℕ) (x : View T) → Who k x → (y : View T) × (view_of s k ≡ Some y) × (use_of x ≡ use_of y)
+    used_before : (k : ℕ) (x : SlotView T) → Who k x → (y : SlotView T) × (view_of s k ≡ Some y) × (use_of x ≡ use_of y)
     used_before k x (IsOne is e) = (v, ap (λ (n : ℕ). view_of s n) is ∙ at_i, ap use_of (sym e) ∙ m.one_use)
     used_before k x (IsOther is e) = (u, ap (λ (n : ℕ). view_of s n) is ∙ at_j, ap use_of (sym e) ∙ m.other_use)
     used_before k x (IsThird ne ne2 e) = (x, e, refl)
 
     -- a block that one of both has is no third one's
-    not_third : (k b : ℕ) (x : View T) → k ≢ i → k ≢ j → view_of s k ≡ Some x → hand_of x ≡ Some b → hand_of q ≡ Some b → ⊥
+    not_third : (k b : ℕ) (x : SlotView T) → k ≢ i → k ≢ j → view_of s k ≡ Some x → hand_of x ≡ Some b → hand_of q ≡ Some b → ⊥
     not_third k b x ne ne2 e has it = elim (m.other_hand b it) as (λ _. ⊥) [
       | inl was ↦ ne (h.sole k i b x v e at_i has was)
       | inr was ↦ ne2 (h.sole k j b x u e at_j has was)
     ]
 
-    none_has : (b : ℕ) (x : View T) → p ≡ x → hand_of x ≡ Some b → ⊥
+    none_has : (b : ℕ) (x : SlotView T) → p ≡ x → hand_of x ≡ Some b → ⊥
     none_has b x e has = let k = m.one_hand in let f = ap hand_of e in cc (k, f, has)
 
-    one_hand : (k l b : ℕ) (x y : View T) → Who k x → Who l y → hand_of x ≡ Some b → hand_of y ≡ Some b → k ≡ l
+    one_hand : (k l b : ℕ) (x y : SlotView T) → Who k x → Who l y → hand_of x ≡ Some b → hand_of y ≡ Some b → k ≡ l
     one_hand k l b x y (IsOne is e) other a c = absurd (none_has b x e a)
     one_hand k l b x y (IsOther is e) (IsOne js f) a c = absurd (none_has b y f c)
     one_hand k l b x y (IsOther is e) (IsOther js f) a c = is ∙ sym js
@@ -102,7 +102,7 @@ module _ {T : Type 0} (defers : T → Option ℕ) (fixed : Fixed) (s : State T (
     has_still b k (inr was) = inr was
     has_still b k (inl (l, x, e, has)) = by (cases_eq l j) (cases_eq l i)
       where
-        is_view : (n : ℕ) (y : View T) → view_of s n ≡ Some y → l ≡ n → hand_of y ≡ Some b
+        is_view : (n : ℕ) (y : SlotView T) → view_of s n ≡ Some y → l ≡ n → hand_of y ≡ Some b
         is_view n y at same = ap hand_of (same_some y x (sym at ∙ ap (λ (a : ℕ). view_of s a) (sym same) ∙ e)) ∙ has
 
         here : views j ≡ Some q
@@ -113,16 +113,16 @@ module _ {T : Type 0} (defers : T → Option ℕ) (fixed : Fixed) (s : State T (
         by (inr ne) (inl is) = inl (j, q, here, m.hands_on b (inl (is_view i v at_i is)))
         by (inr ne) (inr ne2) = inl (l, x, elsewhere (slice_set s.views i p) j l q ne ∙ elsewhere s.views i l p ne2 ∙ e, has)
 
-    fits : (k : ℕ) (x : View T) → Who k x → Fits s.world k x
-    fits k x (IsOne is e) = subst (λ (n : ℕ). Fits s.world n x) (sym is) (subst (λ (y : View T). Fits s.world i y) e m.one)
-    fits k x (IsOther is e) = subst (λ (n : ℕ). Fits s.world n x) (sym is) (subst (λ (y : View T). Fits s.world j y) e m.other)
+    fits : (k : ℕ) (x : SlotView T) → Who k x → Fits s.world k x
+    fits k x (IsOne is e) = subst (λ (n : ℕ). Fits s.world n x) (sym is) (subst (λ (y : SlotView T). Fits s.world i y) e m.one)
+    fits k x (IsOther is e) = subst (λ (n : ℕ). Fits s.world n x) (sym is) (subst (λ (y : SlotView T). Fits s.world j y) e m.other)
     fits k x (IsThird ne ne2 e) = h.seats k x e
 
-    bound : (k : ℕ) (x : View T) → Who k x → IsBounded defers fixed s.world k x
+    bound : (k : ℕ) (x : SlotView T) → Who k x → IsBounded defers fixed s.world k x
     bound k x (IsOne is e) =
-        subst (λ (n : ℕ). IsBounded defers fixed s.world n x) (sym is) (subst (λ (y : View T). IsBounded defers fixed s.world i y) e m.one_bound)
+        subst (λ (n : ℕ). IsBounded defers fixed s.world n x) (sym is) (subst (λ (y : SlotView T). IsBounded defers fixed s.world i y) e m.one_bound)
     bound k x (IsOther is e) =
-        subst (λ (n : ℕ). IsBounded defers fixed s.world n x) (sym is) (subst (λ (y : View T). IsBounded defers fixed s.world j y) e m.other_bound)
+        subst (λ (n : ℕ). IsBounded defers fixed s.world n x) (sym is) (subst (λ (y : SlotView T). IsBounded defers fixed s.world j y) e m.other_bound)
     bound k x (IsThird ne ne2 e) = h.bounded k x e
 
     pub met : Holds defers fixed record { memory = s.memory; views = slice_set (slice_set s.views i p) j q; world = s.world }
@@ -168,7 +168,7 @@ module _ {T : Type 0} (defers : T → Option ℕ) (fixed : Fixed) (i j t b : ℕ
       )
 
   -- who is within one has it in its hand
-  cuts : (has : Has T) → had_in has ≡ None → (s : State T (View T) (World T)) → Holds defers fixed s → view_of s i ≡ Some (Bears b) → view_of s j ≡ Some (Inside t has) → i ≢ j
+  cuts : (has : Has T) → had_in has ≡ None → (s : State T (SlotView T) (World T)) → Holds defers fixed s → view_of s i ≡ Some (Bears b) → view_of s j ≡ Some (Inside t has) → i ≢ j
       → Holds defers fixed record { memory = s.memory; views = slice_set (slice_set s.views i Rests) j (Inside t (Cut b)); world = s.world }
   cuts has empty s h at_i at_j apart =
       let f = h.seats i (Bears b) at_i in let g = h.seats j (Inside t has) at_j in

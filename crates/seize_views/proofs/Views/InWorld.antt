@@ -11,7 +11,7 @@ use Rattle.seize_acts.specs.Acts.Acts.{begun}
 use Rattle.seize_acts.specs.Acts.Waits.{SettlesOn}
 use Rattle.seize_acts.specs.Bounds.Bounds.{IsAloneOnSlot}
 use Rattle.seize_views.specs.Views.Rows.{row_of, use_of, hand_of, IsPlain, IsShort, IsKnown, IsBounded}
-use Rattle.seize_views.specs.declared.view.View.{View}
+use Rattle.seize_views.specs.declared.view.SlotView.{SlotView}
 use Rattle.seize_views.specs.declared.view.Fixed.{Fixed}
 use Rattle.seize_views.proofs.Views.Came.{reached, came_then}
 
@@ -60,7 +60,7 @@ module _ {T : Type 0} (defers : T → Option ℕ) (fixed : Fixed) where
 
   module _ (Is : Use → Use → Type 0) where
     -- the caller has the row under way, of which this is known, and nobody else settles on its slot
-    pub record HasRow (w : World T) (i : ℕ) (v : View T) : Type 0 where
+    pub record HasRow (w : World T) (i : ℕ) (v : SlotView T) : Type 0 where
       pub came : CameAbout w
       pub row : w.row i ≡ row_of v
       pub used : IsUsedLike Is w (use_of v)
@@ -69,7 +69,7 @@ module _ {T : Type 0} (defers : T → Option ℕ) (fixed : Fixed) where
       pub alone : IsAloneOnSlot i w
 
     -- A step of its row has led to this memory, this view and this world. A slot that it has then it had before, or nobody had it; and while its row goes on it has the same one.
-    pub record Went (w : World T) (i : ℕ) (v : View T) (m : Mem T) (u : View T) (n : World T) : Type 0 where
+    pub record Went (w : World T) (i : ℕ) (v : SlotView T) (m : Mem T) (u : SlotView T) (n : World T) : Type 0 where
       pub step : Steps' defers i (row_of v) w n
       pub memory : m ≡ n.memory
       pub row : n.row i ≡ row_of u
@@ -82,15 +82,15 @@ module _ {T : Type 0} (defers : T → Option ℕ) (fixed : Fixed) where
       pub slot : (t : ℕ) (b : Use) → use_of u ≡ Some (t, b) → ((a : Use) × (use_of v ≡ Some (t, a))) ⊎ ((w.uses t ≡ Vacant) × (t < LAST_SLOT + 1))
       pub place : (row_of u ≡ Rests) ⊎ (slot_held (use_of u) ≡ slot_held (use_of v))
 
-    abbrev pub GoesTo : World T → ℕ → View T → Mem T → (View T → Type 0) → Type 0
-    GoesTo w i v m so = (u : View T) × (n : World T) × Went w i v m u n × so u
+    abbrev pub GoesTo : World T → ℕ → SlotView T → Mem T → (SlotView T → Type 0) → Type 0
+    GoesTo w i v m so = (u : SlotView T) × (n : World T) × Went w i v m u n × so u
 
     -- the operation may be made, and whatever it answers it leads on
-    abbrev pub MayMake : World T → ℕ → View T → Op T → (Out T → View T → Type 0) → Type 0
+    abbrev pub MayMake : World T → ℕ → SlotView T → Op T → (Out T → SlotView T → Type 0) → Type 0
     MayMake w i v op so = Can w.memory op × ((out : Out T) (m : Mem T) → Took w.memory op out m → GoesTo w i v m (so out))
 
     -- its row may take its next step
-    pub may : (w : World T) (i : ℕ) (v : View T) → HasRow w i v → MayStep defers (row_of v) w.memory
+    pub may : (w : World T) (i : ℕ) (v : SlotView T) → HasRow w i v → MayStep defers (row_of v) w.memory
     may w i v h = subst (λ (row : Row). MayStep defers row w.memory) h.row (rows_may defers fixed.batch_size h.came.0 h.came.1 w h.came.2 i)
 
 module _ {T : Type 0} where
@@ -119,7 +119,7 @@ HasNoBlock _ = Unit {0}
 
 module _ {T : Type 0} (defers : T → Option ℕ) (fixed : Fixed) where
   -- A row of the caller has begun, and has led to this view and this world. Nobody had the slot but who begins.
-  pub record Began (w : World T) (i : ℕ) (v : View T) (request : Request) (u : View T) (n : World T) : Type 0 where
+  pub record Began (w : World T) (i : ℕ) (v : SlotView T) (request : Request) (u : SlotView T) (n : World T) : Type 0 where
     pub happens : Happens defers fixed.batch_size (Begin i request) w n
     pub computed : begun defers fixed.batch_size i request w ≡ Some n
     pub about : (t : ℕ) → slot_in request ≡ Some t → (a : Use) × (use_of v ≡ Some (t, a))
@@ -141,5 +141,5 @@ module _ {T : Type 0} (defers : T → Option ℕ) (fixed : Fixed) where
     pub slot : (t : ℕ) (b : Use) → use_of u ≡ Some (t, b) → (a : Use) × (use_of v ≡ Some (t, a))
     pub place : slot_held (use_of u) ≡ slot_held (use_of v)
 
-  abbrev pub BeginsTo : World T → ℕ → View T → (View T → Type 0) → Type 0
-  BeginsTo w i v so = (u : View T) × (n : World T) × (request : Request) × Began w i v request u n × so u
+  abbrev pub BeginsTo : World T → ℕ → SlotView T → (SlotView T → Type 0) → Type 0
+  BeginsTo w i v so = (u : SlotView T) × (n : World T) × (request : Request) × Began w i v request u n × so u

@@ -6,11 +6,11 @@ use Rattle.seize.specs.Law.{Effect, holds}
 use Rattle.seize_acts.proofs.Acts.Answers.{same_some}
 use Rattle.seize_views.specs.Views.Watched.{open_at, LeansOn, IsOwn, IsBase, Upholds, AreLeaned}
 use Rattle.seize_views.specs.declared.view.Noted.{Noted}
-use Rattle.seize_views.specs.declared.view.View.{View}
-use Rattle.seize_views.specs.declared.view.View.TheVariants.{Under}
+use Rattle.seize_views.specs.declared.view.SlotView.{SlotView}
+use Rattle.seize_views.specs.declared.view.SlotView.TheVariants.{Under}
 use Rattle.seize_views.proofs.Views.Lists.{there, elsewhere, with_last, with_more}
 
-pub own_under : {T : Type 0} (x : View T) (n t b : ℕ) → IsOwn x → x ≡ Under n t b → ⊥
+pub own_under : {T : Type 0} (x : SlotView T) (n t b : ℕ) → IsOwn x → x ≡ Under n t b → ⊥
 own_under x n t b own e = subst IsOwn e own
 
 module _ {T : Type 0} (seats : List (Noted T)) (log log2 : List Effect) (al : AreLeaned seats log)
@@ -35,7 +35,7 @@ module _ {T : Type 0} (seats : List (Noted T)) (log log2 : List Effect) (al : Ar
         by : Upholds seats id v.knows u.knows → open_at u.knows ≡ Some t
         by (inl same) = same ∙ is_open
         by (inr (inl none)) = absurd (cc (none, is_open))
-        by (inr (inr nobody)) = absurd (nobody j x e (subst (λ (y : View T). LeansOn y id) (sym is) (λ i. id)))
+        by (inr (inr nobody)) = absurd (nobody j x e (subst (λ (y : SlotView T). LeansOn y id) (sym is) (λ i. id)))
 
     pub steps_leaned : AreLeaned seats2 log2
     steps_leaned = record { based = λ j n t b x e is. based j n t b x e is (cases_eq j id); seen = λ j n t b x e is some. seen j n t b x e is some (cases_eq j id) }

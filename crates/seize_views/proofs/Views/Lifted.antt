@@ -7,7 +7,7 @@ use Rattle.seize.specs.World.{World, Use}
 use Rattle.seize_acts.specs.Acts.Waits.{SettlesOn}
 use Rattle.seize_seats.specs.Seats.State.{State, view_of}
 use Rattle.seize_views.specs.Views.Rows.{use_of, IsUsed, Holds, Leads}
-use Rattle.seize_views.specs.declared.view.View.{View}
+use Rattle.seize_views.specs.declared.view.SlotView.{SlotView}
 use Rattle.seize_views.specs.declared.view.Fixed.{Fixed}
 use Rattle.seize_views.proofs.Views.Aside.{has_it, alone_on_slot}
 use Rattle.seize_views.proofs.Views.InWorld.{IsJustSo, IsUsedLike, HasRow, Went, GoesTo, MayMake, BeginsTo}
@@ -23,7 +23,7 @@ module _ {T : Type 0} (w : World T) where
   used_like None is = tt
   used_like (Some slot) is = is
 
-module _ {T : Type 0} (defers : T → Option ℕ) (fixed : Fixed) (s : State T (View T) (World T)) (id : ℕ) (v : View T) (h : Holds defers fixed s)
+module _ {T : Type 0} (defers : T → Option ℕ) (fixed : Fixed) (s : State T (SlotView T) (World T)) (id : ℕ) (v : SlotView T) (h : Holds defers fixed s)
     (at_id : view_of s id ≡ Some v) where
   pub has_row : HasRow defers fixed IsJustSo s.world id v
   has_row =
@@ -42,8 +42,8 @@ module _ {T : Type 0} (defers : T → Option ℕ) (fixed : Fixed) (s : State T (
   lone_on t a mine j ne on =
       let k = has_it s.world (view_of s) (λ i x e. (h.seats i x e).row) h.unborn h.apart j t on in ne (h.apart j id t k.1 a k.0 v k.2 at_id k.3 mine)
 
-  module _ (m : Mem T) (u : View T) (n : World T) (g : Went defers fixed IsJustSo s.world id v m u n) where
-    lone : (j t : ℕ) (x : View T) (a b : Use) → j ≢ id → view_of s j ≡ Some x → use_of x ≡ Some (t, a) → use_of u ≡ Some (t, b) → ⊥
+  module _ (m : Mem T) (u : SlotView T) (n : World T) (g : Went defers fixed IsJustSo s.world id v m u n) where
+    lone : (j t : ℕ) (x : SlotView T) (a b : Use) → j ≢ id → view_of s j ≡ Some x → use_of x ≡ Some (t, a) → use_of u ≡ Some (t, b) → ⊥
     lone j t x a b ne e p q =
         elim (g.slot t b q) as (λ _. ⊥) [
           | inl had ↦ ne (h.apart j id t a had.0 x v e at_id p had.1)
@@ -55,20 +55,20 @@ module _ {T : Type 0} (defers : T → Option ℕ) (fixed : Fixed) (s : State T (
         stepped defers fixed s id v h at_id u m n g.step g.memory
         (record { row = g.row; slot = used_like n (use_of u) g.used; short = g.short; known = g.known }) lone g.none g.bounded
 
-  pub goes : (m : Mem T) (so : View T → Type 0) → GoesTo defers fixed IsJustSo s.world id v m so → Leads defers fixed s m id so
+  pub goes : (m : Mem T) (so : SlotView T → Type 0) → GoesTo defers fixed IsJustSo s.world id v m so → Leads defers fixed s m id so
   goes m so g = moved defers fixed s id v g.0 m g.1 so h at_id (went m g.0 g.1 g.2) g.3
 
-  pub makes : (op : Op T) (so : Out T → View T → Type 0) → MayMake defers fixed IsJustSo s.world id v op so
+  pub makes : (op : Op T) (so : Out T → SlotView T → Type 0) → MayMake defers fixed IsJustSo s.world id v op so
       → Can s.memory op × ((out : Out T) (m : Mem T) → Took s.memory op out m → Leads defers fixed s m id (so out))
   makes op so k = (
     subst (λ (m : Mem T). Can m op) (sym h.memory) k.0,
     λ out m took. goes m (so out) (k.1 out m (subst (λ (x : Mem T). Took x op out m) h.memory took)),
   )
 
-  pub ends : (so : View T → Type 0) → GoesTo defers fixed IsJustSo s.world id v s.world.memory so → Leads defers fixed s s.memory id so
+  pub ends : (so : SlotView T → Type 0) → GoesTo defers fixed IsJustSo s.world id v s.world.memory so → Leads defers fixed s s.memory id so
   ends so g = subst (λ (m : Mem T). Leads defers fixed s m id so) (sym h.memory) (goes s.world.memory so g)
 
-  pub begins : (so : View T → Type 0) → BeginsTo defers fixed s.world id v so → Leads defers fixed s s.memory id so
+  pub begins : (so : SlotView T → Type 0) → BeginsTo defers fixed s.world id v so → Leads defers fixed s s.memory id so
   begins so (u, n, request, g, is) =
       moved defers fixed s id v u s.memory n so h at_id
       (begun defers fixed s id v h at_id request u n g.happens g.memory g.log (λ j b x ne e q. g.hand b (λ k. ne (h.sole j id b x v e at_id q k))) g.none g.linked

@@ -21,8 +21,8 @@ use Rattle.seize_seats.specs.Seats.Lendings.{Shown}
 use Rattle.seize_views.specs.Views.Promises.{LookedAreShown}
 use Rattle.seize_views.specs.Views.Rows.{IsReclaiming, IsLooked, Holds}
 use Rattle.seize_views.specs.Views.Told.{shown_by}
-use Rattle.seize_views.specs.declared.view.View.{View}
-use Rattle.seize_views.specs.declared.view.View.TheVariants.{Settles}
+use Rattle.seize_views.specs.declared.view.SlotView.{SlotView}
+use Rattle.seize_views.specs.declared.view.SlotView.TheVariants.{Settles}
 
 -- it looks at nothing
 abbrev pub IsNow : {T R : Type 0} → Then T R → Type 0
@@ -199,7 +199,7 @@ module _ (T : Type 0) (defers : T → Option ℕ) where
   pub looked_are_shown : LookedAreShown T defers
   looked_are_shown fixed id c why b left x = (there, λ y of. same_some y x (sym of.3 ∙ here of.0 of.1 of.2))
     where
-      here : (t : State T (View T) (World T)) → Holds defers fixed t → view_of t id ≡ Some (Settles c why (Some (b, x)) left) → value_at t.memory b ≡ Some x
+      here : (t : State T (SlotView T) (World T)) → Holds defers fixed t → view_of t id ≡ Some (Settles c why (Some (b, x)) left) → value_at t.memory b ≡ Some x
       here t h at = ap (λ (m : Mem T). value_at m b) h.memory ∙ (h.seats id (Settles c why (Some (b, x)) left) at).known.2
 
       there : Shown (Holds defers fixed) id (Settles c why (Some (b, x)) left) b

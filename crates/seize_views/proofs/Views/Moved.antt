@@ -13,8 +13,8 @@ use Rattle.seize_acts.proofs.Acts.Answers.{same_some}
 use Rattle.seize_seats.specs.Seats.State.{State, view_of, after}
 use Rattle.seize_acts.specs.Bounds.Bounds.{HasCounted, HasTried, IsAloneOnSlot, Meanwhile}
 use Rattle.seize_views.specs.Views.Rows.{Leads, use_of, row_of, hand_of, had_in, settles_for, IsUsed, IsMade, IsInHand, IsKnown, RootsNameLinked, IsInSomeHand, Fits, Since, Came, IsBounded, Holds, Keeps}
-use Rattle.seize_views.specs.declared.view.View.{View}
-use Rattle.seize_views.specs.declared.view.View.TheVariants.{Rests, Registers, Outside, Owes, Enters, Inside, Settles, Leaves, Left, Frees, Brings, Bears, Watches, Under, Busy}
+use Rattle.seize_views.specs.declared.view.SlotView.{SlotView}
+use Rattle.seize_views.specs.declared.view.SlotView.TheVariants.{Rests, Registers, Outside, Owes, Enters, Inside, Settles, Leaves, Left, Frees, Brings, Bears, Watches, Under, Busy}
 use Rattle.seize_views.specs.declared.view.Has.{Has}
 use Rattle.seize_views.specs.declared.view.Has.TheVariants.{Nothing, Made, Seen, Both, Cut}
 use Rattle.seize_views.specs.declared.view.Why.TheVariants.{Retiring, Ending}
@@ -28,13 +28,13 @@ use Rattle.seize_views.proofs.Views.Lists.{there, elsewhere}
 use Rattle.seize_views.proofs.Views.Reclaims.{reclaiming_there, reclaiming_handed}
 
 -- a slot that a seat has is not vacant
-pub not_vacant : {T : Type 0} (x : View T) (t : ℕ) (a : Use) → use_of x ≡ Some (t, a) → a ≡ Vacant → ⊥
+pub not_vacant : {T : Type 0} (x : SlotView T) (t : ℕ) (a : Use) → use_of x ≡ Some (t, a) → a ≡ Vacant → ⊥
 not_vacant {T} x t a e v = by x e
   where
     so : (p q : ℕ × Use) → Some p ≡ Some q → p.1 ≡ q.1
     so p q f = ap (λ (r : ℕ × Use). r.1) (same_some p q f)
 
-    by : (y : View T) → use_of y ≡ Some (t, a) → ⊥
+    by : (y : SlotView T) → use_of y ≡ Some (t, a) → ⊥
     by Rests f = cc f
     by (Registers c) f = cc f
     by (Outside s) f = let k = so (s, world.Outside 0) (t, a) f in cc (k, v)
@@ -75,7 +75,7 @@ module _ {T : Type 0} where
   had_users w t Nothing b is e = absurd (cc e)
   had_users w t (Seen a) b is e = absurd (cc e)
 
-  pub hand_users : (w : World T) (v : View T) (b : ℕ) → IsKnown w v → hand_of v ≡ Some b → IsAside (w.hand b)
+  pub hand_users : (w : World T) (v : SlotView T) (b : ℕ) → IsKnown w v → hand_of v ≡ Some b → IsAside (w.hand b)
   hand_users w (Owes t c) b is e = had_users w t (Cut c) b is e
   hand_users w (Inside t has) b is e = had_users w t has b is e
   hand_users w (Brings c x) b is e = had_users w 0 (Made c x) b is e
@@ -96,14 +96,14 @@ module _ {T : Type 0} where
   pub inside_of : (w : World T) (t : ℕ) (has : Has T) → IsUsed w (use_of {T = T} (Inside t has)) → IsInside (w.uses t)
   inside_of w t has is = subst (λ (a : Use). IsInside a) (sym is) tt
 
-module _ {T : Type 0} (defers : T → Option ℕ) (fixed : Fixed) (s : State T (View T) (World T)) (id : ℕ) where
+module _ {T : Type 0} (defers : T → Option ℕ) (fixed : Fixed) (s : State T (SlotView T) (World T)) (id : ℕ) where
   -- what the others have in their hands they have still
   abbrev pub StillHave : World T → Type 0
-  StillHave n = (j b : ℕ) (x : View T) → j ≢ id → view_of s j ≡ Some x → hand_of x ≡ Some b → n.hand b ≡ s.world.hand b
+  StillHave n = (j b : ℕ) (x : SlotView T) → j ≢ id → view_of s j ≡ Some x → hand_of x ≡ Some b → n.hand b ≡ s.world.hand b
 
   -- and none of them has this block
   abbrev pub IsSole : Option ℕ → Type 0
-  IsSole o = (j b : ℕ) (x : View T) → j ≢ id → view_of s j ≡ Some x → hand_of x ≡ Some b → o ≡ Some b → ⊥
+  IsSole o = (j b : ℕ) (x : SlotView T) → j ≢ id → view_of s j ≡ Some x → hand_of x ≡ Some b → o ≡ Some b → ⊥
 
   -- for each other seat it has passed meanwhile, and nobody settles on that one's slot
   abbrev pub Passes : World T → Type 0
@@ -113,16 +113,16 @@ module _ {T : Type 0} (defers : T → Option ℕ) (fixed : Fixed) (s : State T (
 
   -- another seat has the block in its hand, or the collector has it
   abbrev pub IsOthers : ℕ → Type 0
-  IsOthers b = ((j : ℕ) × (x : View T) × (j ≢ id) × (view_of s j ≡ Some x) × (hand_of x ≡ Some b)) ⊎ (s.world.hand b ≡ world.Handed)
+  IsOthers b = ((j : ℕ) × (x : SlotView T) × (j ≢ id) × (view_of s j ≡ Some x) × (hand_of x ≡ Some b)) ⊎ (s.world.hand b ≡ world.Handed)
 
   -- The seat has come to this view, this memory and this world, and the others know what they knew. The present lifetime began with that world.
-  pub record Moved (began : World T) (u : View T) (m : Mem T) (n : World T) : Type 0 where
+  pub record Moved (began : World T) (u : SlotView T) (m : Mem T) (n : World T) : Type 0 where
     pub since : Since defers fixed s.world n
     pub memory : m ≡ n.memory
     pub rows : (j : ℕ) → j ≢ id → n.row j ≡ s.world.row j
     pub own : Fits n id u
-    pub others : (j : ℕ) (x : View T) → j ≢ id → view_of s j ≡ Some x → IsUsed n (use_of x)
-    pub alone : (j t : ℕ) (x : View T) (a b : Use) → j ≢ id → view_of s j ≡ Some x → use_of x ≡ Some (t, a) → use_of u ≡ Some (t, b) → ⊥
+    pub others : (j : ℕ) (x : SlotView T) → j ≢ id → view_of s j ≡ Some x → IsUsed n (use_of x)
+    pub alone : (j t : ℕ) (x : SlotView T) (a b : Use) → j ≢ id → view_of s j ≡ Some x → use_of x ≡ Some (t, a) → use_of u ≡ Some (t, b) → ⊥
     pub hands : StillHave n
     pub sole : IsSole (hand_of u)
     pub values : (b : ℕ) → IsOthers b → IsSome (value_at s.world.memory b) → IsSome (value_at n.memory b) → value_at n.memory b ≡ value_at s.world.memory b
@@ -134,7 +134,7 @@ module _ {T : Type 0} (defers : T → Option ℕ) (fixed : Fixed) (s : State T (
     pub passes : Passes n
     pub bounded : IsBounded defers fixed n id u
 
-  module _ (v u : View T) (m : Mem T) (n : World T) (so : View T → Type 0) (h : Holds defers fixed s) (at : view_of s id ≡ Some v) (mo : Moved h.life.began u m n) where
+  module _ (v u : SlotView T) (m : Mem T) (n : World T) (so : SlotView T → Type 0) (h : Holds defers fixed s) (at : view_of s id ≡ Some v) (mo : Moved h.life.began u m n) where
     came_now : Came defers fixed n
     came_now = since_both defers fixed (at_start defers fixed.roots) s.world n h.came mo.since
 
@@ -145,7 +145,7 @@ module _ {T : Type 0} (defers : T → Option ℕ) (fixed : Fixed) (s : State T (
         let there = kept_there defers fixed.batch_size n (reached defers fixed n came_now) b (IsHad (of_users n.hand b (world.Making is.0.0) tt mine)) in
         ((is.0.0, mine), mo.values b its (subst IsSome (sym is.1) refl) there ∙ is.1)
 
-    known : (j : ℕ) (x : View T) → j ≢ id → view_of s j ≡ Some x → n.row j ≡ row_of x → Fits s.world j x → IsKnown n x
+    known : (j : ℕ) (x : SlotView T) → j ≢ id → view_of s j ≡ Some x → n.row j ≡ row_of x → Fits s.world j x → IsKnown n x
     known j (Inside t Nothing) ne e row f = tt
     known j (Inside t (Made b x)) ne e row f =
         made b x (inl (j, Inside t (Made b x), ne, e, refl)) (mo.hands j b (Inside t (Made b x)) ne e refl) f.known
@@ -178,7 +178,7 @@ module _ {T : Type 0} (defers : T → Option ℕ) (fixed : Fixed) (s : State T (
     known j (Under n t b) ne e row f = tt
     known j (Busy t) ne e row f = f.known
 
-    bound : (j : ℕ) (x : View T) → j ≢ id → IsAloneOnSlot j n → IsBounded defers fixed s.world j x → IsBounded defers fixed n j x
+    bound : (j : ℕ) (x : SlotView T) → j ≢ id → IsAloneOnSlot j n → IsBounded defers fixed s.world j x → IsBounded defers fixed n j x
     bound j (Settles c (Retiring way) seen left) ne after b =
         let p = mo.passes j ne (alone_on_slot s.world (view_of s) (λ i y e. (h.seats i y e).row) h.unborn h.apart j) after in
         still_within defers (IsAloneOnSlot j) HasTried fixed.batch_size j left s.world n p.0 p.1 b
@@ -231,15 +231,15 @@ module _ {T : Type 0} (defers : T → Option ℕ) (fixed : Fixed) (s : State T (
         here : (j : ℕ) → j ≡ id → slice_get (slice_set s.views id u) j ≡ Some u
         here j e = subst (λ (k : ℕ). slice_get (slice_set s.views id u) k ≡ Some u) (sym e) (there s.views id u v at)
 
-        own : (j : ℕ) (x : View T) → j ≡ id → slice_get (slice_set s.views id u) j ≡ Some x → u ≡ x
+        own : (j : ℕ) (x : SlotView T) → j ≡ id → slice_get (slice_set s.views id u) j ≡ Some x → u ≡ x
         own j x e f = same_some u x (sym (here j e) ∙ f)
 
-        before : (j : ℕ) (x : View T) → j ≢ id → slice_get (slice_set s.views id u) j ≡ Some x → view_of s j ≡ Some x
+        before : (j : ℕ) (x : SlotView T) → j ≢ id → slice_get (slice_set s.views id u) j ≡ Some x → view_of s j ≡ Some x
         before j x ne e = sym (elsewhere s.views id j u ne) ∙ e
 
-        fit : (j : ℕ) (x : View T) → slice_get (slice_set s.views id u) j ≡ Some x → (j ≡ id) ⊎ (j ≢ id) → Fits n j x
+        fit : (j : ℕ) (x : SlotView T) → slice_get (slice_set s.views id u) j ≡ Some x → (j ≡ id) ⊎ (j ≢ id) → Fits n j x
         fit j x e (inl same) =
-            subst (λ (y : View T). Fits n j y) (own j x same e) (subst (λ (k : ℕ). Fits n k u) (sym same) mo.own)
+            subst (λ (y : SlotView T). Fits n j y) (own j x same e) (subst (λ (k : ℕ). Fits n k u) (sym same) mo.own)
         fit j x e (inr ne) =
             let f = h.seats j x (before j x ne e) in
             let row = mo.rows j ne ∙ f.row in
@@ -249,14 +249,14 @@ module _ {T : Type 0} (defers : T → Option ℕ) (fixed : Fixed) (s : State T (
         none j e (inl same) = let f = here j same in absurd (cc (e, f))
         none j e (inr ne) = mo.rows j ne ∙ h.unborn j (sym (elsewhere s.views id j u ne) ∙ e)
 
-        two : (j k t : ℕ) (a b : Use) (x y : View T) → slice_get (slice_set s.views id u) j ≡ Some x → slice_get (slice_set s.views id u) k ≡ Some y
+        two : (j k t : ℕ) (a b : Use) (x y : SlotView T) → slice_get (slice_set s.views id u) j ≡ Some x → slice_get (slice_set s.views id u) k ≡ Some y
             → use_of x ≡ Some (t, a) → use_of y ≡ Some (t, b) → (j ≡ id) ⊎ (j ≢ id) → (k ≡ id) ⊎ (k ≢ id) → j ≡ k
         two j k t a b x y e f p q (inl i) (inl l) = i ∙ sym l
         two j k t a b x y e f p q (inl i) (inr ne) = absurd (mo.alone k t y b a ne (before k y ne f) q (ap use_of (own j x i e) ∙ p))
         two j k t a b x y e f p q (inr ne) (inl l) = absurd (mo.alone j t x a b ne (before j x ne e) p (ap use_of (own k y l f) ∙ q))
         two j k t a b x y e f p q (inr ne) (inr ne2) = h.apart j k t a b x y (before j x ne e) (before k y ne2 f) p q
 
-        one : (j k b : ℕ) (x y : View T) → slice_get (slice_set s.views id u) j ≡ Some x → slice_get (slice_set s.views id u) k ≡ Some y
+        one : (j k b : ℕ) (x y : SlotView T) → slice_get (slice_set s.views id u) j ≡ Some x → slice_get (slice_set s.views id u) k ≡ Some y
             → hand_of x ≡ Some b → hand_of y ≡ Some b → (j ≡ id) ⊎ (j ≢ id) → (k ≡ id) ⊎ (k ≢ id) → j ≡ k
         one j k b x y e f p q (inl i) (inl l) = i ∙ sym l
         one j k b x y e f p q (inl i) (inr ne) = absurd (mo.sole k b y ne (before k y ne f) q (ap hand_of (own j x i e) ∙ p))
@@ -268,12 +268,12 @@ module _ {T : Type 0} (defers : T → Option ℕ) (fixed : Fixed) (s : State T (
         alone_then j = alone_on_slot n (slice_get (slice_set s.views id u)) (λ i x e. (fit i x e (cases_eq i id)).row) (λ i e. none i e (cases_eq i id))
             (λ i k t a b x y e f p q. two i k t a b x y e f p q (cases_eq i id) (cases_eq k id)) j
 
-        bound_at : (j : ℕ) (x : View T) → slice_get (slice_set s.views id u) j ≡ Some x → (j ≡ id) ⊎ (j ≢ id) → IsBounded defers fixed n j x
+        bound_at : (j : ℕ) (x : SlotView T) → slice_get (slice_set s.views id u) j ≡ Some x → (j ≡ id) ⊎ (j ≢ id) → IsBounded defers fixed n j x
         bound_at j x e (inl same) =
-            subst (λ (y : View T). IsBounded defers fixed n j y) (own j x same e) (subst (λ (k : ℕ). IsBounded defers fixed n k u) (sym same) mo.bounded)
+            subst (λ (y : SlotView T). IsBounded defers fixed n j y) (own j x same e) (subst (λ (k : ℕ). IsBounded defers fixed n k u) (sym same) mo.bounded)
         bound_at j x e (inr ne) = bound j x ne (alone_then j) (h.bounded j x (before j x ne e))
 
-        still : (j b : ℕ) (x o : View T) → j ≢ id → view_of s j ≡ Some x → Keeps x o s.world b → Keeps x o n b
+        still : (j b : ℕ) (x o : SlotView T) → j ≢ id → view_of s j ≡ Some x → Keeps x o s.world b → Keeps x o n b
         still j b x o ne e keeps =
-            let slot = subst (λ (y : View T). IsUsed s.world (use_of y)) keeps.2 (h.seats j x e).slot in
+            let slot = subst (λ (y : SlotView T). IsUsed s.world (use_of y)) keeps.2 (h.seats j x e).slot in
             (keeps.0, keeps.1, keeps.2, mo.held keeps.0 b (inside_of s.world keeps.0 keeps.1 slot) keeps.3, mo.over keeps.0 b keeps.3 ∙ keeps.4)

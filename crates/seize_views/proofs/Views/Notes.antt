@@ -26,8 +26,8 @@ use Rattle.seize_views.specs.Views.Told.{told}
 use Rattle.seize_views.specs.declared.view.Noted.{Noted}
 use Rattle.seize_views.specs.declared.view.Deed.{Deed}
 use Rattle.seize_views.specs.declared.view.Began.{Began}
-use Rattle.seize_views.specs.declared.view.View.{View}
-use Rattle.seize_views.specs.declared.view.View.TheVariants.{Rests, Registers, Outside, Owes, Enters, Inside, Settles, Leaves, Left, Frees, Brings, Bears, Watches, Under, Busy}
+use Rattle.seize_views.specs.declared.view.SlotView.{SlotView}
+use Rattle.seize_views.specs.declared.view.SlotView.TheVariants.{Rests, Registers, Outside, Owes, Enters, Inside, Settles, Leaves, Left, Frees, Brings, Bears, Watches, Under, Busy}
 use Rattle.seize_views.specs.declared.view.Has.TheVariants.{Nothing, Made, Seen, Both, Cut}
 use Rattle.seize_views.specs.declared.view.Becomes.{Becomes}
 use Rattle.seize_views.specs.declared.view.Becomes.TheVariants.{Idle, Active}
@@ -43,7 +43,7 @@ module _ {X Y : Type 0} (f : X → Y) where
   get_known l i x e = slice_get-map f l i ∙ ap (option_map f) e
 
 module _ {T : Type 0} (defers : T → Option ℕ) (fixed : Fixed) where
-  abbrev H : State T (View T) (World T) → Type 0
+  abbrev H : State T (SlotView T) (World T) → Type 0
   H = Holds defers fixed
 
   abbrev N : State T (Noted T) (World T) → Type 0
@@ -53,16 +53,16 @@ module _ {T : Type 0} (defers : T → Option ℕ) (fixed : Fixed) where
   seen_at s j v e = get_known known_by s.views j v e
 
   -- with these views
-  abbrev with_views : Mem T → World T → List (View T) → State T (View T) (World T)
+  abbrev with_views : Mem T → World T → List (SlotView T) → State T (SlotView T) (World T)
   with_views m w views = record { memory = m; views = views; world = w }
 
   -- the rule of what is known, and of who watches, by these views
-  abbrev both : Mem T → World T → List (Noted T) → List (View T) → Type 0
+  abbrev both : Mem T → World T → List (Noted T) → List (SlotView T) → Type 0
   both m w seats views = H (with_views m w views) × AreWatched seats views w.log
 
   -- the seat goes on as it may by what it knows, and notes this
-  pub goes : (s : State T (Noted T) (World T)) (h : N s) (m : Mem T) (id : ℕ) (v : Noted T) (at : view_of s id ≡ Some v) (so : View T → Type 0) (did : Deed T)
-      (began : Began) → ((u : View T) → so u → (t : ℕ) → is_watching t u ≡ is_watching t v.knows) → ((u : View T) → so u → Stays v.guards v.knows u)
+  pub goes : (s : State T (Noted T) (World T)) (h : N s) (m : Mem T) (id : ℕ) (v : Noted T) (at : view_of s id ≡ Some v) (so : SlotView T → Type 0) (did : Deed T)
+      (began : Began) → ((u : SlotView T) → so u → (t : ℕ) → is_watching t u ≡ is_watching t v.knows) → ((u : SlotView T) → so u → Stays v.guards v.knows u)
       → (g : Leads defers fixed (as_known s) m id so) → ((t b : ℕ) → g.0 ≡ Watches t b → b ≢ 0 → holds t b g.1.log ≡ true)
       → ((n t b : ℕ) → g.0 ≡ Under n t b → (n ≢ id) × IsBase s.views n t × (b ≢ 0 → holds t b g.1.log ≡ true)) → Upholds s.views id v.knows g.0
       → Goes N NotedKeeps s m id (λ u. so u.knows × (u.did ≡ did) × (u.began ≡ began) × (u.guards ≡ v.guards))
@@ -77,7 +77,7 @@ module _ {T : Type 0} (defers : T → Option ℕ) (fixed : Fixed) where
       )
 
   -- who watches none does not so afterwards
-  own_same : (v u : View T) → IsOwn v → IsOwn u → (t : ℕ) → is_watching t u ≡ is_watching t v
+  own_same : (v u : SlotView T) → IsOwn v → IsOwn u → (t : ℕ) → is_watching t u ≡ is_watching t v
   own_same v u a b t = own_watches u t b ∙ sym (own_watches v t a)
 
   pub allows : (id : ℕ) (v : Noted T) (op : Op T) → IsOwn v.knows → Permits defers fixed id v.knows op (told defers v.knows op)
@@ -87,29 +87,29 @@ module _ {T : Type 0} (defers : T → Option ℕ) (fixed : Fixed) where
         k.0,
         λ out m took.
             let g = k.1 out m took in
-            let still : (u : View T) → told defers v.knows op out u → Still v.knows u = λ u is. told_still defers v.knows op out u own is in
+            let still : (u : SlotView T) → told defers v.knows op out u → Still v.knows u = λ u is. told_still defers v.knows op out u own is in
             goes s h m id v at (told defers v.knows op out) (deed v.knows v.did op out) v.began (λ u is. own_same v.knows u own (still u is).own)
             (λ u is. as_stays v.guards v.knows u (still u is).section) g (λ t b e some. absurd (own_not g.0 t b (still g.0 g.5).own e))
             (λ n t b e. absurd (own_under g.0 n t b (still g.0 g.5).own e)) (as_upheld s.views v.knows g.0 (still g.0 g.5).section),
       )
     where
-      as_stays : (n : ℕ) (v u : View T) → (open_at u ≡ open_at v) ⊎ (open_at v ≡ None) → Stays n v u
+      as_stays : (n : ℕ) (v u : SlotView T) → (open_at u ≡ open_at v) ⊎ (open_at v ≡ None) → Stays n v u
       as_stays n v u (inl e) = inl e
       as_stays n v u (inr e) = inr (inl e)
 
-      as_upheld : (seats : List (Noted T)) (v u : View T) → (open_at u ≡ open_at v) ⊎ (open_at v ≡ None) → Upholds seats id v u
+      as_upheld : (seats : List (Noted T)) (v u : SlotView T) → (open_at u ≡ open_at v) ⊎ (open_at v ≡ None) → Upholds seats id v u
       as_upheld seats v u (inl e) = inl e
       as_upheld seats v u (inr e) = inr (inl e)
 
-  pub turns : (id : ℕ) (v : Noted T) (so : View T → Type 0) (did : Deed T) (began : Began) → IsOwn v.knows → ((u : View T) → so u → IsOwn u)
-      → ((u : View T) → so u → Stays v.guards v.knows u) → TurnsTo defers fixed id v.knows so
+  pub turns : (id : ℕ) (v : Noted T) (so : SlotView T → Type 0) (did : Deed T) (began : Began) → IsOwn v.knows → ((u : SlotView T) → so u → IsOwn u)
+      → ((u : SlotView T) → so u → Stays v.guards v.knows u) → TurnsTo defers fixed id v.knows so
       → TurnsUnlent N NotedKeeps Leans id v (λ u. so u.knows × (u.did ≡ did) × (u.began ≡ began) × (u.guards ≡ v.guards))
   turns id v so did began own owns stays may s h at unlent =
       let g = may (as_known s) h.0 (seen_at s id v at) in
       goes s h s.memory id v at so did began (λ u is. own_same v.knows u own (owns u is)) stays g (λ t b e some. absurd (own_not g.0 t b (owns g.0 g.5) e))
       (λ n t b e. absurd (own_under g.0 n t b (owns g.0 g.5) e)) (by g.0 (stays g.0 g.5))
     where
-      by : (u : View T) → Stays v.guards v.knows u → Upholds s.views id v.knows u
+      by : (u : SlotView T) → Stays v.guards v.knows u → Upholds s.views id v.knows u
       by u (inl e) = inl e
       by u (inr (inl none)) = inr (inl none)
       by u (inr (inr ends)) = inr (inr unlent)
@@ -129,7 +129,7 @@ module _ {T : Type 0} (defers : T → Option ℕ) (fixed : Fixed) where
       → N record { memory = s.memory; views = slice_set (slice_set s.views i p) j q; world = s.world }
   meets s h i j v u p q at_i at_j ne known c =
       let same : map known_by (slice_set (slice_set s.views i p) j q) ≡ slice_set (slice_set (map known_by s.views) i p.knows) j q.knows =
-      set_known known_by (slice_set s.views i p) j q ∙ ap (λ (l : List (View T)). slice_set l j q.knows) (set_known known_by s.views i p) in
+      set_known known_by (slice_set s.views i p) j q ∙ ap (λ (l : List (SlotView T)). slice_set l j q.knows) (set_known known_by s.views i p) in
       subst (both s.memory s.world (slice_set (slice_set s.views i p) j q)) (sym same)
       (known, meets_watched defers fixed s.views (as_known s) h.0 h.1 i j v u p q ne at_i at_j (seen_at s i v at_i) (seen_at s j u at_j) (seen_at s) c)
 
@@ -140,7 +140,7 @@ module _ {T : Type 0} (defers : T → Option ℕ) (fixed : Fixed) where
   value_of id v b x is = (as_known is.0, is.1.0, seen_at is.0 id v is.2, is.3)
 
 -- what is handed on changes no section, and no watch
-pub handed : {T : Type 0} (fixed : Fixed) (b : ℕ) (u p q : View T) → IsTaker u → Hands fixed (Bears b) u p q
+pub handed : {T : Type 0} (fixed : Fixed) (b : ℕ) (u p q : SlotView T) → IsTaker u → Hands fixed (Bears b) u p q
     → (open_at q ≡ open_at u) × IsOwn u × IsOwn q × (p ≡ Rests)
 handed fixed b (Outside t) p q takes is = (ap open_at is.1, tt, subst IsOwn (sym is.1) tt, is.0)
 handed fixed b (Inside t Nothing) p q takes is = (ap open_at is.1, tt, subst IsOwn (sym is.1) tt, is.0)
@@ -163,7 +163,7 @@ handed fixed b (Under n t c) p q takes is = absurd takes
 handed fixed b (Busy t) p q takes is = absurd takes
 
 -- a settling begins where no section ends
-pub settles_open : {T : Type 0} (fixed : Fixed) (v u : View T) (way : Becomes) (c : Settle) → IsToSettle fixed v way c → IsBegun way c u
+pub settles_open : {T : Type 0} (fixed : Fixed) (v u : SlotView T) (way : Becomes) (c : Settle) → IsToSettle fixed v way c → IsBegun way c u
     → IsOwn v × IsOwn u × (open_at u ≡ open_at v)
 settles_open fixed (Inside t (Cut b)) u Active c to is = (tt, subst IsOwn (sym is.1) tt, ap open_at is.1 ∙ ap (λ (k : Settle). Some k.slot) to)
 settles_open fixed (Inside t Nothing) u Active c to is = (tt, subst IsOwn (sym is.1) tt, ap open_at is.1 ∙ ap (λ (k : Settle). Some k.slot) to)
@@ -228,7 +228,7 @@ module _ (T : Type 0) (defers : T → Option ℕ) where
   meetings_are_noted fixed i j b v u bears takes may s h at_i at_j ne =
       let k = may (as_known s) h.0 (seen_at defers fixed s i v at_i) (seen_at defers fixed s j u at_j) ne in
       let p : Noted T = noted k.0 v.did v.began v.guards in let q : Noted T = noted k.1 u.did u.began u.guards in
-      let to = handed fixed b u.knows k.0 k.1 takes (subst (λ (x : View T). Hands fixed x u.knows k.0 k.1) bears k.3) in
+      let to = handed fixed b u.knows k.0 k.1 takes (subst (λ (x : SlotView T). Hands fixed x u.knows k.0 k.1) bears k.3) in
       let own : IsOwn v.knows = subst IsOwn (sym bears) tt in let own2 : IsOwn k.0 = subst IsOwn (sym to.3) tt in
       let watch : (x : ℕ) → is_watching x k.0 ≡ is_watching x v.knows = own_same defers fixed v.knows k.0 own own2 in (
         p,

@@ -5,7 +5,7 @@ use Rattle.seize_words.specs.OneMemory.Mem.{Mem, Took}
 use Rattle.seize_words.specs.OneMemory.Op.{Out, Store, Swap, Found, Stored, Exchanged, Made, Taken, Roomed}
 use Rattle.seize_words.specs.declared.at.At.TheVariants.{Slot}
 use Rattle.seize.specs.declared.states.TheConstants.{HEAD, FREE, ACTIVE}
-use Rattle.seize.specs.declared.progress.Progress.TheVariants.{Done}
+use Rattle.seize.specs.declared.advance.Advance.TheVariants.{Done}
 use Rattle.seize.specs.declared.rows.leave.Leave.{Leave}
 use Rattle.seize.specs.declared.rows.leave.Leaving.TheVariants as leaving_at
 use Rattle.seize.specs.declared.rows.settle.Settled.TheVariants as settled
@@ -18,7 +18,7 @@ use Rattle.seize_acts.proofs.Given.SeizeRuleRows.Others.{with_here, with_other}
 use Rattle.seize_views.specs.Views.Rows.{row_of, leave_of, head_of}
 use Rattle.seize_views.specs.Views.Told.{list_taken, told}
 use Rattle.seize_views.specs.declared.view.Becomes.{Becomes}
-use Rattle.seize_views.specs.declared.view.View.TheVariants.{Rests, Enters, Inside, Settles, Leaves, Left, Frees}
+use Rattle.seize_views.specs.declared.view.SlotView.TheVariants.{Rests, Enters, Inside, Settles, Leaves, Left, Frees}
 use Rattle.seize_views.specs.declared.view.Has.TheVariants.{Nothing}
 use Rattle.seize_views.specs.declared.view.Why.TheVariants.{Ending}
 use Rattle.seize_views.specs.declared.view.Fixed.{Fixed}

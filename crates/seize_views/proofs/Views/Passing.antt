@@ -18,8 +18,8 @@ use Rattle.seize_views.specs.Views.Notes.{noted, as_known, deed, NotedHolds, Not
 use Rattle.seize_views.specs.declared.view.Noted.{Noted}
 use Rattle.seize_views.specs.declared.view.Began.{Began}
 use Rattle.seize_views.specs.declared.view.Deed.{Deed}
-use Rattle.seize_views.specs.declared.view.View.{View}
-use Rattle.seize_views.specs.declared.view.View.TheVariants.{Rests, Watches, Under}
+use Rattle.seize_views.specs.declared.view.SlotView.{SlotView}
+use Rattle.seize_views.specs.declared.view.SlotView.TheVariants.{Rests, Watches, Under}
 use Rattle.seize_views.specs.declared.view.Has.TheVariants.{Nothing}
 use Rattle.seize_views.specs.declared.view.Fixed.{Fixed}
 use Rattle.seize_views.proofs.Views.Came.{reached}
@@ -32,20 +32,20 @@ use Rattle.seize_views.proofs.Views.Written.{rooted_still, root_can}
 
 module _ {T : Type 0} where
   -- of a view that leans on a seat: which one, of which slot, and what it has seen
-  abbrev seat_in : View T → ℕ
+  abbrev seat_in : SlotView T → ℕ
   seat_in (Under n t b) = n
   seat_in _ = 0
 
-  abbrev slot_in : View T → ℕ
+  abbrev slot_in : SlotView T → ℕ
   slot_in (Under n t b) = t
   slot_in _ = 0
 
-  abbrev block_seen : View T → ℕ
+  abbrev block_seen : SlotView T → ℕ
   block_seen (Under n t b) = b
   block_seen _ = 0
 
   -- it watches nothing
-  not_watching : (x : View T) (n t b s c : ℕ) → x ≡ Under n t b → x ≡ Watches s c → ⊥
+  not_watching : (x : SlotView T) (n t b s c : ℕ) → x ≡ Under n t b → x ≡ Watches s c → ⊥
   not_watching x n t b s c e f = let k : Under n t b ≡ Watches s c = sym e ∙ f in cc k
 
 module _ {T : Type 0} (defers : T → Option ℕ) (fixed : Fixed) where
@@ -64,7 +64,7 @@ module _ {T : Type 0} (defers : T → Option ℕ) (fixed : Fixed) where
         let shut = ap (λ (x : Noted T). open_at x.knows) e ∙ none in let found = base.2 in cc (shut, found)
 
   -- what a root names is seen
-  sees : (s : State T (View T) (World T)) (id n t b r : ℕ) (h : Holds defers fixed s) (at : view_of s id ≡ Some (Under n t b)) (out : Out T) (m : Mem T)
+  sees : (s : State T (SlotView T) (World T)) (id n t b r : ℕ) (h : Holds defers fixed s) (at : view_of s id ≡ Some (Under n t b)) (out : Out T) (m : Mem T)
       → Took s.memory (Load (Root r)) out m → Leads defers fixed s m id (told defers (Under n t b) (Load (Root r)) out)
   sees s id n t b r h at (Found word) m took =
       aside_on defers fixed s id (Under n t b) (Under n t (block_in word)) h at refl refl refl tt refl refl tt tt m took.1
@@ -76,10 +76,10 @@ module _ {T : Type 0} (defers : T → Option ℕ) (fixed : Fixed) where
   sees s id n t b r h at (Roomed x) m took = absurd took.0
 
   -- its word is marked, and what that names is seen
-  marks : (s : State T (View T) (World T)) (id n t b r bits : ℕ) → bits < 2 ^ 11 → (h : Holds defers fixed s) (at : view_of s id ≡ Some (Under n t b)) (out : Out T) (m : Mem T)
+  marks : (s : State T (SlotView T) (World T)) (id n t b r bits : ℕ) → bits < 2 ^ 11 → (h : Holds defers fixed s) (at : view_of s id ≡ Some (Under n t b)) (out : Out T) (m : Mem T)
       → Took s.memory (Or (Root r) bits) out m → Leads defers fixed s m id (told defers (Under n t b) (Or (Root r) bits) out)
   marks s id n t b r bits small h at (Found word) m took =
-      let v : View T = Under n t b in let over = marked defers fixed s id v h at r bits word m small took in
+      let v : SlotView T = Under n t b in let over = marked defers fixed s id v h at r bits word m small took in
       users_on defers fixed s id 0 v (Under n t (block_in word)) h at refl refl refl tt m (record s.world { memory = m }) Nothing (record {
         since = over.since;
         memory = refl;
@@ -104,15 +104,15 @@ module _ {T : Type 0} (defers : T → Option ℕ) (fixed : Fixed) where
   -- an operation at a root by which a seat that leans sees what that names
   record Sees (id n t b r : ℕ) (op : Op T) : Type 0 where
     pub can : (m : Mem T) → IsSome (word_at m (Root r)) → Can m op
-    pub leads : (s : State T (View T) (World T)) → Holds defers fixed s → view_of s id ≡ Some (Under n t b) → (out : Out T) (m : Mem T) → Took s.memory op out m
+    pub leads : (s : State T (SlotView T) (World T)) → Holds defers fixed s → view_of s id ≡ Some (Under n t b) → (out : Out T) (m : Mem T) → Took s.memory op out m
         → Leads defers fixed s m id (told defers (Under n t b) op out)
-    pub tells : (m m2 : Mem T) (out : Out T) → Took m op out m2 → (u : View T) → told defers (Under n t b) op out u
+    pub tells : (m m2 : Mem T) (out : Out T) → Took m op out m2 → (u : SlotView T) → told defers (Under n t b) op out u
         → (word : ℕ) × (word_at m (Root r) ≡ Some word) × (u ≡ Under n t (block_in word))
 
   by_load : (id n t b r : ℕ) → Sees id n t b r (Load (Root r))
   by_load id n t b r = record { can = λ m some. some; leads = λ s h at out m took. sees s id n t b r h at out m took; tells = λ m m2 out took u is. tells m m2 out took u is }
     where
-      tells : (m m2 : Mem T) (out : Out T) → Took m (Load (Root r)) out m2 → (u : View T) → told defers (Under n t b) (Load (Root r)) out u
+      tells : (m m2 : Mem T) (out : Out T) → Took m (Load (Root r)) out m2 → (u : SlotView T) → told defers (Under n t b) (Load (Root r)) out u
           → (word : ℕ) × (word_at m (Root r) ≡ Some word) × (u ≡ Under n t (block_in word))
       tells m m2 (Found word) took u is = (word, took.0, is)
       tells m m2 Stored took u is = absurd is
@@ -124,7 +124,7 @@ module _ {T : Type 0} (defers : T → Option ℕ) (fixed : Fixed) where
   by_or : (id n t b r bits : ℕ) → bits < 2 ^ 11 → Sees id n t b r (Or (Root r) bits)
   by_or id n t b r bits small = record { can = λ m some. some; leads = λ s h at out m took. marks s id n t b r bits small h at out m took; tells = λ m m2 out took u is. tells m m2 out took u is }
     where
-      tells : (m m2 : Mem T) (out : Out T) → Took m (Or (Root r) bits) out m2 → (u : View T) → told defers (Under n t b) (Or (Root r) bits) out u
+      tells : (m m2 : Mem T) (out : Out T) → Took m (Or (Root r) bits) out m2 → (u : SlotView T) → told defers (Under n t b) (Or (Root r) bits) out u
           → (word : ℕ) × (word_at m (Root r) ≡ Some word) × (u ≡ Under n t (block_in word))
       tells m m2 (Found word) took u is = (word, took.0, is)
       tells m m2 Stored took u is = absurd is
@@ -138,13 +138,13 @@ module _ {T : Type 0} (defers : T → Option ℕ) (fixed : Fixed) where
     me = noted (Under n t b) did began guards
 
     -- it is under that seat still, and has seen this
-    record Saw (s : State T (Noted T) (World T)) (u : View T) : Type 0 where
+    record Saw (s : State T (Noted T) (World T)) (u : SlotView T) : Type 0 where
       pub block : ℕ
       pub view : u ≡ Under n t block
       pub held : block ≢ 0 → holds t block s.world.log ≡ true
 
     saw : (s : State T (Noted T) (World T)) (h : N s) (at : view_of s id ≡ Some me) (out : Out T) (m : Mem T) → Took s.memory op out m
-        → (u : View T) → told defers (Under n t b) op out u → Saw s u
+        → (u : SlotView T) → told defers (Under n t b) op out u → Saw s u
     saw s h at out m took u is =
         let k = by.tells s.memory m out took u is in
         record {
@@ -175,7 +175,7 @@ module _ {T : Type 0} (defers : T → Option ℕ) (fixed : Fixed) where
         )
 
   -- what it notes then is what it has noted before
-  noted_so : (s : State T (Noted T) (World T)) (i : ℕ) (v : Noted T) (x : View T)
+  noted_so : (s : State T (Noted T) (World T)) (i : ℕ) (v : Noted T) (x : SlotView T)
       → Goes N NotedKeeps s s.memory i (λ w. (w.knows ≡ x) × (w.did ≡ v.did) × (w.began ≡ v.began) × (w.guards ≡ v.guards))
       → Goes N NotedKeeps s s.memory i (λ w. (w.knows ≡ x) × SameNotes v w)
   noted_so s i v x g = (g.0, g.1, g.2, g.3, (g.4.0, (g.4.1, g.4.2, g.4.3)))
@@ -215,13 +215,13 @@ module _ (T : Type 0) (defers : T → Option ℕ) where
 
   pub leanings_see : LeaningsSee T defers
   leanings_see fixed id n t b r v is lt =
-      subst (λ (x : View T). Allows (NotedHolds defers fixed) NotedKeeps id (noted x v.did v.began v.guards) (Load (Root r))
+      subst (λ (x : SlotView T). Allows (NotedHolds defers fixed) NotedKeeps id (noted x v.did v.began v.guards) (Load (Root r))
       (noted_told defers (noted x v.did v.began v.guards) (Load (Root r)))) (sym is)
       (may_see defers fixed id n t b r (Load (Root r)) (by_load defers fixed id n t b r) v.did v.began v.guards lt)
 
   pub leanings_mark : LeaningsMark T defers
   leanings_mark fixed id n t b r bits v is small lt =
-      subst (λ (x : View T). Allows (NotedHolds defers fixed) NotedKeeps id (noted x v.did v.began v.guards) (Or (Root r) bits)
+      subst (λ (x : SlotView T). Allows (NotedHolds defers fixed) NotedKeeps id (noted x v.did v.began v.guards) (Or (Root r) bits)
       (noted_told defers (noted x v.did v.began v.guards) (Or (Root r) bits))) (sym is)
       (may_see defers fixed id n t b r (Or (Root r) bits) (by_or defers fixed id n t b r bits small) v.did v.began v.guards lt)
 

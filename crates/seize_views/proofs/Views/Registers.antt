@@ -6,8 +6,8 @@ use Rattle.seize_words.specs.OneMemory.Op.{Op, Out, Load, Exchange, Room, Found,
 use Rattle.seize_words.specs.OneMemory.Plan.{Plan, Then, Do, Ends, Steps, May}
 use Rattle.seize_words.specs.declared.at.At.TheVariants.{Slot}
 use Rattle.seize.specs.declared.states.TheConstants.{HEAD, IDLE, LAST_SLOT}
-use Rattle.seize.specs.declared.progress.Progress.{Progress}
-use Rattle.seize.specs.declared.progress.Progress.TheVariants as progress
+use Rattle.seize.specs.declared.advance.Advance.{Advance}
+use Rattle.seize.specs.declared.advance.Advance.TheVariants as progress
 use Rattle.seize.specs.declared.rows.register.Register.{Register}
 use Rattle.seize.specs.declared.rows.register.Registering.{Registering}
 use Rattle.seize.specs.declared.rows.register.Registering.TheVariants as at
@@ -25,17 +25,17 @@ use Rattle.seize_acts.proofs.Acts.Answers.{same_some}
 use Rattle.seize_views.specs.Views.Rows.{hand_of, use_of, row_of, IsSeeking, IsPlain, IsShort, IsKnown, IsBounded}
 use Rattle.seize_views.specs.Views.Told.{left_by, ComesTo, told}
 use Rattle.seize_views.specs.Views.Promises.{op_in}
-use Rattle.seize_views.specs.declared.view.View.TheVariants.{Registers}
+use Rattle.seize_views.specs.declared.view.SlotView.TheVariants.{Registers}
 use Rattle.seize_views.specs.declared.view.Fixed.{Fixed}
 use Rattle.seize_views.proofs.Views.InWorld.{slot_held, IsLikeness, IsUsedLike, HasRow, GoesTo, MayMake, is_reached, may, slot_of}
 
 -- registering that has come so far goes on without entering, or the slot that it has taken was nobody's
-abbrev pub IsWell : (ℕ → Use) → Register × Progress ℕ → Type 0
+abbrev pub IsWell : (ℕ → Use) → Register × Advance ℕ → Type 0
 IsWell uses (d, progress.Done t) = (uses t ≡ Vacant) × (t < LAST_SLOT + 1)
 IsWell uses (d, progress.Refused fault) = Unit {0}
 IsWell uses (d, _) = (d.enters ≡ false) × IsSeeking d.stands
 
-well_either : (uses : ℕ → Use) (b : Bool) (x y : Register × Progress ℕ) → IsWell uses x → IsWell uses y → IsWell uses (if b then x else y)
+well_either : (uses : ℕ → Use) (b : Bool) (x y : Register × Advance ℕ) → IsWell uses x → IsWell uses y → IsWell uses (if b then x else y)
 well_either uses true x y p q = p
 well_either uses false x y p q = q
 
@@ -51,7 +51,7 @@ module _ {T : Type 0} (defers : T → Option ℕ) (fixed : Fixed) (Is : Use → 
   r : Reached defers fixed.batch_size w
   r = is_reached defers fixed w h.came
 
-  abbrev n : Mem T → Register × Progress ℕ → World T
+  abbrev n : Mem T → Register × Advance ℕ → World T
   n m end = registers_on w i c m end
 
   -- so it is registered, and no section is open
@@ -64,63 +64,63 @@ module _ {T : Type 0} (defers : T → Option ℕ) (fixed : Fixed) (Is : Use → 
   outside at.Registered seeks = absurd seeks
   outside (at.Refused fault) seeks = absurd seeks
 
-  row : (m : Mem T) (d : Register) (o : Progress ℕ) → (n m (d, o)).row i ≡ row_of {T = T} (left_by (d, o))
+  row : (m : Mem T) (d : Register) (o : Advance ℕ) → (n m (d, o)).row i ≡ row_of {T = T} (left_by (d, o))
   row m d progress.Goes = with_here w.row i (world.Registers d)
   row m d progress.Waits = with_here w.row i (world.Registers d)
   row m d (progress.Done t) = with_here w.row i world.Rests
   row m d (progress.Refused fault) = with_here w.row i world.Rests
 
-  used : (m : Mem T) (d : Register) (o : Progress ℕ) → IsUsedLike Is (n m (d, o)) (use_of {T = T} (left_by (d, o)))
+  used : (m : Mem T) (d : Register) (o : Advance ℕ) → IsUsedLike Is (n m (d, o)) (use_of {T = T} (left_by (d, o)))
   used m d progress.Goes = tt
   used m d progress.Waits = tt
   used m d (progress.Done t) = subst (λ (u : Use). Is (world.Outside 0) u) (sym (with_here w.uses t (registered_as c) ∙ outside c.stands h.short.1)) (like.same (world.Outside 0))
   used m d (progress.Refused fault) = tt
 
-  short : (d : Register) (o : Progress ℕ) → IsWell w.uses (d, o) → IsShort {T = T} (left_by (d, o))
+  short : (d : Register) (o : Advance ℕ) → IsWell w.uses (d, o) → IsShort {T = T} (left_by (d, o))
   short d progress.Goes well = well
   short d progress.Waits well = well
   short d (progress.Done t) well = tt
   short d (progress.Refused fault) well = tt
 
-  plain : (d : Register) (o : Progress ℕ) → IsPlain {T = T} (left_by (d, o))
+  plain : (d : Register) (o : Advance ℕ) → IsPlain {T = T} (left_by (d, o))
   plain d progress.Goes = tt
   plain d progress.Waits = tt
   plain d (progress.Done t) = tt
   plain d (progress.Refused fault) = tt
 
-  known : (v : World T) (d : Register) (o : Progress ℕ) → IsKnown {T = T} v (left_by (d, o))
+  known : (v : World T) (d : Register) (o : Advance ℕ) → IsKnown {T = T} v (left_by (d, o))
   known v d progress.Goes = tt
   known v d progress.Waits = tt
   known v d (progress.Done t) = tt
   known v d (progress.Refused fault) = tt
 
-  slot : (d : Register) (o : Progress ℕ) → IsWell w.uses (d, o) → (t : ℕ) (b : Use) → use_of {T = T} (left_by (d, o)) ≡ Some (t, b)
+  slot : (d : Register) (o : Advance ℕ) → IsWell w.uses (d, o) → (t : ℕ) (b : Use) → use_of {T = T} (left_by (d, o)) ≡ Some (t, b)
       → ((a : Use) × (use_of {T = T} (Registers c) ≡ Some (t, a))) ⊎ ((w.uses t ≡ Vacant) × (t < LAST_SLOT + 1))
   slot d progress.Goes well t b e = absurd (cc e)
   slot d progress.Waits well t b e = absurd (cc e)
   slot d (progress.Done k) well t b e = subst (λ (a : ℕ). ((x : Use) × (use_of {T = T} (Registers c) ≡ Some (a, x))) ⊎ ((w.uses a ≡ Vacant) × (a < LAST_SLOT + 1))) (slot_of (k, world.Outside 0) (t, b) e) (inr well)
   slot d (progress.Refused fault) well t b e = absurd (cc e)
 
-  place : (d : Register) (o : Progress ℕ) → (row_of {T = T} (left_by (d, o)) ≡ world.Rests) ⊎ (slot_held (use_of {T = T} (left_by (d, o))) ≡ None)
+  place : (d : Register) (o : Advance ℕ) → (row_of {T = T} (left_by (d, o)) ≡ world.Rests) ⊎ (slot_held (use_of {T = T} (left_by (d, o))) ≡ None)
   place d progress.Goes = inr refl
   place d progress.Waits = inr refl
   place d (progress.Done t) = inl refl
   place d (progress.Refused fault) = inl refl
 
-  no_hand : (d : Register) (o : Progress ℕ) → hand_of {T = T} (left_by (d, o)) ≡ None
+  no_hand : (d : Register) (o : Advance ℕ) → hand_of {T = T} (left_by (d, o)) ≡ None
   no_hand d progress.Goes = refl
   no_hand d progress.Waits = refl
   no_hand d (progress.Done k) = refl
   no_hand d (progress.Refused fault) = refl
 
-  bound : (v : World T) (d : Register) (o : Progress ℕ) → IsBounded defers fixed v i (left_by (d, o))
+  bound : (v : World T) (d : Register) (o : Advance ℕ) → IsBounded defers fixed v i (left_by (d, o))
   bound v d progress.Goes = tt
   bound v d progress.Waits = tt
   bound v d (progress.Done k) = tt
   bound v d (progress.Refused fault) = tt
 
   -- a step of its plan that ends so
-  goes : (op : Op T) (out : Out T) (m : Mem T) (end : Register × Progress ℕ) → Steps Took value_at w.memory (register_plan c) m end
+  goes : (op : Op T) (out : Out T) (m : Mem T) (end : Register × Advance ℕ) → Steps Took value_at w.memory (register_plan c) m end
       → ComesTo (register_plan {T = T} c) out end → IsWell w.uses end → GoesTo defers fixed Is w i (Registers c) m (told defers (Registers c) op out)
   goes op out m end steps comes well = (
     left_by end,
@@ -142,22 +142,22 @@ module _ {T : Type 0} (defers : T → Option ℕ) (fixed : Fixed) (Is : Use → 
   )
 
   module _ (p : Registering) (stands : c.stands ≡ p) where
-    abbrev P : Plan T (Register × Progress ℕ)
+    abbrev P : Plan T (Register × Advance ℕ)
     P = plan_at c p
 
     can : May Can Took value_at w.memory P
     can = subst (λ (q : Registering). May Can Took value_at w.memory (plan_at c q)) stands (may defers fixed Is w i (Registers c) h)
 
     -- the step ends so after this answer
-    goes_at : (op : Op T) (rest : Out T → Then T (Register × Progress ℕ)) (out : Out T) (m : Mem T) (end : Register × Progress ℕ) → P ≡ Do op rest
+    goes_at : (op : Op T) (rest : Out T → Then T (Register × Advance ℕ)) (out : Out T) (m : Mem T) (end : Register × Advance ℕ) → P ≡ Do op rest
         → Took w.memory op out m
         → ((shown : ℕ → Option T) → Ends shown (rest out) end) → IsWell w.uses end
         → GoesTo defers fixed Is w i (Registers c) m (told defers (Registers c) op out)
     goes_at op rest out m end is took ends well =
         goes op out m end
-        (subst (λ (q : Plan T (Register × Progress ℕ)). Steps Took value_at w.memory q m end) (sym plan_is)
+        (subst (λ (q : Plan T (Register × Advance ℕ)). Steps Took value_at w.memory q m end) (sym plan_is)
         (out, took, ends (value_at m)))
-        (subst (λ (q : Plan T (Register × Progress ℕ)). ComesTo q out end) (sym plan_is) (w.memory, m, took, ends (value_at m))) well
+        (subst (λ (q : Plan T (Register × Advance ℕ)). ComesTo q out end) (sym plan_is) (w.memory, m, took, ends (value_at m))) well
       where
         plan_is : register_plan {T = T} c ≡ Do op rest
         plan_is = ap (plan_at {T = T} c) stands ∙ is

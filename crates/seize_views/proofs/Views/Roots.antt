@@ -23,8 +23,8 @@ use Rattle.seize_seats.specs.Seats.State.{State, view_of}
 use Rattle.seize_views.specs.Views.Rows.{Leads, TurnsTo, had_in, hand_of, IsMade, IsInHand, RootsNameLinked, Holds}
 use Rattle.seize_views.specs.Views.Told.{seen_in, cut_in, made_beside, alone_with, told}
 use Rattle.seize_views.specs.Views.Promises.{MadeAreLinked, MadeAreExchanged, OwnAreLinked, OwnAreExchanged, RootsAreSeen, RootsAreMarked, RootsAreCleared, RootsAreWithdrawn}
-use Rattle.seize_views.specs.declared.view.View.{View}
-use Rattle.seize_views.specs.declared.view.View.TheVariants.{Outside, Owes, Inside, Brings}
+use Rattle.seize_views.specs.declared.view.SlotView.{SlotView}
+use Rattle.seize_views.specs.declared.view.SlotView.TheVariants.{Outside, Owes, Inside, Brings}
 use Rattle.seize_views.specs.declared.view.Has.{Has}
 use Rattle.seize_views.specs.declared.view.Has.TheVariants.{Nothing, Made, Seen, Both, Cut}
 use Rattle.seize_views.specs.declared.view.Fixed.{Fixed}
@@ -39,7 +39,7 @@ marked_block : (word bits : ℕ) → bits < 2 ^ 11 → block_in (bit_or word bit
 marked_block word bits lt =
     let none : bits / 2 ^ 11 ≡ 0 = omega (arith, lt) in or_shr word bits 11 ∙ ap (bit_or (word / 2 ^ 11)) none ∙ or_zero_r (word / 2 ^ 11)
 
-module _ {T : Type 0} (defers : T → Option ℕ) (fixed : Fixed) (s : State T (View T) (World T)) (t : ℕ) (h : Holds defers fixed s)
+module _ {T : Type 0} (defers : T → Option ℕ) (fixed : Fixed) (s : State T (SlotView T) (World T)) (t : ℕ) (h : Holds defers fixed s)
     (open_here : IsInside (s.world.uses t)) where
   abbrev here : World T
   here = s.world
@@ -98,7 +98,7 @@ seen_hand T b true = refl
 seen_hand T b false = refl
 
 -- bits of the tag of the word at a root are set
-module _ {T : Type 0} (defers : T → Option ℕ) (fixed : Fixed) (s : State T (View T) (World T)) (id : ℕ) (v : View T) (h : Holds defers fixed s)
+module _ {T : Type 0} (defers : T → Option ℕ) (fixed : Fixed) (s : State T (SlotView T) (World T)) (id : ℕ) (v : SlotView T) (h : Holds defers fixed s)
     (at : view_of s id ≡ Some v) (a bits word : ℕ) (m : Mem T) (small : bits < 2 ^ 11) (took : Took s.memory (Or (Root a) bits) (Found word) m) where
   abbrev marked_word : ℕ
   marked_word = bit_or word bits
@@ -126,7 +126,7 @@ module _ {T : Type 0} (defers : T → Option ℕ) (fixed : Fixed) (s : State T (
           subst (λ (k : Hand). FoundIn defers fixed s id v h at m o b k) (sym is.1)
           (marked_word, written defers fixed s id v h at a marked_word word m marked, marked_block word bits small ∙ is.0)
 
-module _ {T : Type 0} (defers : T → Option ℕ) (fixed : Fixed) (s : State T (View T) (World T)) (id t : ℕ) (place : Has T → View T) (carries : Carries t place)
+module _ {T : Type 0} (defers : T → Option ℕ) (fixed : Fixed) (s : State T (SlotView T) (World T)) (id t : ℕ) (place : Has T → SlotView T) (carries : Carries t place)
     (had : Has T) (h : Holds defers fixed s) (at : view_of s id ≡ Some (place had)) where
   abbrev w : World T
   w = s.world
@@ -138,7 +138,7 @@ module _ {T : Type 0} (defers : T → Option ℕ) (fixed : Fixed) (s : State T (
   IsFoundIn m o b k = FoundIn defers fixed s id (place had) h at m o b k
 
   -- what is known of blocks changes, and nothing else
-  looks : (m : Mem T) (has : Has T) → m ≡ s.memory → IsInHand w t has → had_in has ≡ had_in had → (so : View T → Type 0) → so (place has)
+  looks : (m : Mem T) (has : Has T) → m ≡ s.memory → IsInHand w t has → had_in has ≡ had_in had → (so : SlotView T → Type 0) → so (place has)
       → Leads defers fixed s m id so
   looks m has same known still so is =
       users defers fixed s id t h place carries had at m w has (record {
@@ -158,7 +158,7 @@ module _ {T : Type 0} (defers : T → Option ℕ) (fixed : Fixed) (s : State T (
       }) (λ b. found_on defers fixed s id (place had) h at (had_in has) m (ap (λ (x : Mem T). x.roots) same) b (λ mine. still ∙ sym (carries.hand had) ∙ mine)) so is
 
   -- the block that is taken from a root is in the seat's hand
-  cuts : (a old : ℕ) (m : Mem T) (so : View T → Type 0) → so (place (cut_in old)) → Cuts defers fixed s id h.life.began t m old so
+  cuts : (a old : ℕ) (m : Mem T) (so : SlotView T → Type 0) → so (place (cut_in old)) → Cuts defers fixed s id h.life.began t m old so
   cuts a old m so is = record {
     none = λ e n u found. users defers fixed s id t h place carries had at m n Nothing u found so (at_view true e);
     cut = λ e n u found. users defers fixed s id t h place carries had at m n (Cut (block_in old)) u found so (at_view false e);
@@ -169,7 +169,7 @@ module _ {T : Type 0} (defers : T → Option ℕ) (fixed : Fixed) (s : State T (
 
   -- the block that was made is put at a root, by a word that links to it
   links : (b a i word : ℕ) → block_in word ≡ b → w.hand b ≡ world.Making i → had_in had ≡ Some b → (old : ℕ) (m : Mem T)
-      → Wrote defers fixed s id a word old m → (so : View T → Type 0) → so (place (cut_in old)) → Leads defers fixed s m id so
+      → Wrote defers fixed s id a word old m → (so : SlotView T → Type 0) → so (place (cut_in old)) → Leads defers fixed s m id so
   links b a i word names mine had_it old m wrote so tells =
       let n : World T = with_effect (with_hand (record w { memory = m }) b (world.InUse a)) (Linked b a) in
       let other : (c : ℕ) (k : Hand) → (k ≡ world.Making i → ⊥) → w.hand c ≡ k → n.hand c ≡ k =
@@ -217,7 +217,7 @@ module _ {T : Type 0} (defers : T → Option ℕ) (fixed : Fixed) (s : State T (
       new_block old mine (inr linked) (inr nz) = inr (λ e. making_use i a (sym mine ∙ ap w.hand (sym names ∙ e) ∙ linked))
 
   -- the block that was made is put at a root in place of this word, or what is there is seen
-  exchanges : (b : ℕ) (x : T) (a old link : ℕ) → block_in link ≡ b → IsMade w b x → had_in had ≡ Some b → (so : Out T → View T → Type 0)
+  exchanges : (b : ℕ) (x : T) (a old link : ℕ) → block_in link ≡ b → IsMade w b x → had_in had ≡ Some b → (so : Out T → SlotView T → Type 0)
       → so (Exchanged (Ok old)) (place (cut_in old))
       → ((word : ℕ) → word_at s.memory (Root a) ≡ Some word → word ≢ old
       → (has : Has T) × IsInHand w t has × (had_in has ≡ had_in had) × so (Exchanged (Err word)) (place has))
@@ -236,7 +236,7 @@ module _ {T : Type 0} (defers : T → Option ℕ) (fixed : Fixed) (s : State T (
   exchanges b x a old link names made had_it so cut other (Roomed y) m took = absurd took.0
 
   -- or whatever is there
-  swaps : (b : ℕ) (x : T) (a link : ℕ) → block_in link ≡ b → IsMade w b x → had_in had ≡ Some b → (so : Out T → View T → Type 0)
+  swaps : (b : ℕ) (x : T) (a link : ℕ) → block_in link ≡ b → IsMade w b x → had_in had ≡ Some b → (so : Out T → SlotView T → Type 0)
       → ((old : ℕ) → so (Found old) (place (cut_in old))) → (out : Out T) (m : Mem T) → Took s.memory (Swap (Root a) link) out m
       → Leads defers fixed s m id (so out)
   swaps b x a link names made had_it so tells (Found old) m took =
@@ -250,7 +250,7 @@ module _ {T : Type 0} (defers : T → Option ℕ) (fixed : Fixed) (s : State T (
 
   -- bits of the tag of the word at a root are set, and the block that it names is seen
   marks : (a bits word : ℕ) (m : Mem T) → bits < 2 ^ 11 → had_in had ≡ None → IsInside (w.uses t) → Took s.memory (Or (Root a) bits) (Found word) m
-      → (so : View T → Type 0) → so (place (seen_in word)) → Leads defers fixed s m id so
+      → (so : SlotView T → Type 0) → so (place (seen_in word)) → Leads defers fixed s m id so
   marks a bits word m small none inside took so is =
       let over = marked defers fixed s id (place had) h at a bits word m small took in
       let still : had_in (seen_in word) ≡ had_in had = seen_hand T (block_in word) (block_in word == 0) ∙ sym none in
@@ -278,9 +278,9 @@ pub beside_alone : {T : Type 0} (b : ℕ) (x : T) (a : ℕ) (y : Bool) → Bring
 beside_alone b x a true = refl
 beside_alone b x a false = refl
 
-module _ {T : Type 0} (defers : T → Option ℕ) (fixed : Fixed) (s : State T (View T) (World T)) (id t : ℕ) (had : Has T) (none : had_in had ≡ None)
+module _ {T : Type 0} (defers : T → Option ℕ) (fixed : Fixed) (s : State T (SlotView T) (World T)) (id t : ℕ) (had : Has T) (none : had_in had ≡ None)
     (h : Holds defers fixed s) (at : view_of s id ≡ Some (Inside t had)) where
-  sees : (a : ℕ) (out : Out T) (m : Mem T) → Took s.memory (Load (Root a)) out m → (so : View T → Type 0)
+  sees : (a : ℕ) (out : Out T) (m : Mem T) → Took s.memory (Load (Root a)) out m → (so : SlotView T → Type 0)
       → ((word : ℕ) → out ≡ Found word → so (Inside t (seen_in word))) → Leads defers fixed s m id so
   sees a (Found word) m took so is =
       looks defers fixed s id t (Inside t) (within t) had h at m (seen_in word) took.1
@@ -292,7 +292,7 @@ module _ {T : Type 0} (defers : T → Option ℕ) (fixed : Fixed) (s : State T (
   sees a (Taken x) m took so is = absurd took.0
   sees a (Roomed x) m took so is = absurd took.0
 
-  marks_there : (a bits : ℕ) → bits < 2 ^ 11 → (out : Out T) (m : Mem T) → Took s.memory (Or (Root a) bits) out m → (so : View T → Type 0)
+  marks_there : (a bits : ℕ) → bits < 2 ^ 11 → (out : Out T) (m : Mem T) → Took s.memory (Or (Root a) bits) out m → (so : SlotView T → Type 0)
       → ((word : ℕ) → out ≡ Found word → so (Inside t (seen_in word))) → Leads defers fixed s m id so
   marks_there a bits small (Found word) m took so is =
       marks defers fixed s id t (Inside t) (within t) had h at a bits word m small none (inside_of s.world t had (h.seats id (Inside t had) at).slot) took so (is word refl)
@@ -355,8 +355,8 @@ module _ (T : Type 0) (defers : T → Option ℕ) where
 
   -- within a section what is there instead is seen
 
-  exchanged_there : (b c : ℕ) (x : T) (a old link : ℕ) → block_in link ≡ b → (fixed : Fixed) (id t : ℕ) (had : Has T) → had_in had ≡ Some c → c ≡ b → (s : State T (View T) (World T))
-      → (h : Holds defers fixed s) → view_of s id ≡ Some (Inside t had) → IsMade s.world c x → (so : Out T → View T → Type 0)
+  exchanged_there : (b c : ℕ) (x : T) (a old link : ℕ) → block_in link ≡ b → (fixed : Fixed) (id t : ℕ) (had : Has T) → had_in had ≡ Some c → c ≡ b → (s : State T (SlotView T) (World T))
+      → (h : Holds defers fixed s) → view_of s id ≡ Some (Inside t had) → IsMade s.world c x → (so : Out T → SlotView T → Type 0)
       → so (Exchanged (Ok old)) (Inside t (cut_in old)) → ((word : ℕ) → word ≢ old → so (Exchanged (Err word)) (Inside t (made_beside b x (block_in word))))
       → (out : Out T) (m : Mem T) → Took s.memory (Exchange (Root a) old link) out m → Leads defers fixed s m id (so out)
   exchanged_there b c x a old link names fixed id t had has is s h at made so cut other =

@@ -14,8 +14,8 @@ use Rattle.seize_seats.specs.Seats.State.{State}
 use Rattle.seize_views.specs.Reaches.Reached.{words_of_row, LeadsBy, OneLeadsTo}
 use Rattle.seize_views.specs.Views.Rows.{hand_of, row_of, IsSomeones}
 use Rattle.seize_views.specs.Views.Values.{IsAtARoot, IsReached, WasKept}
-use Rattle.seize_views.specs.declared.view.View.{View}
-use Rattle.seize_views.specs.declared.view.View.TheVariants.{Inside}
+use Rattle.seize_views.specs.declared.view.SlotView.{SlotView}
+use Rattle.seize_views.specs.declared.view.SlotView.TheVariants.{Inside}
 use Rattle.seize_views.specs.declared.view.Has.{Has}
 use Rattle.seize_views.specs.declared.view.Has.TheVariants.{Nothing, Cut}
 use Rattle.seize_views.proofs.Reaches.Samples.{one_such, row_such, AllBare, no_words}
@@ -25,7 +25,7 @@ abbrev cut : World ℕ
 cut = after plain 1 (enters ++ links ++ Operate 0 (Store (Root 0) 0) None (Unlinks 1 ∷ []) ∷ []) (at_start plain 1)
 
 -- its seat knows this
-abbrev knowing : Has ℕ → State ℕ (View ℕ) (World ℕ)
+abbrev knowing : Has ℕ → State ℕ (SlotView ℕ) (World ℕ)
 knowing has = record { memory = cut.memory; views = Inside 0 has ∷ []; world = cut }
 
 none_has : IsSomeones (knowing Nothing) 1 → ⊥
@@ -60,7 +60,7 @@ none_reaches : IsReached (knowing Nothing) 1 → ⊥
 none_reaches (inl (s, field, word, at, way)) =
     leads_not way.0 word (one_such none (slice_index_or cut.memory.slots s []) field word (row_such none cut.memory.slots s refl) at) way.1
 none_reaches (inr (inl (zero, v, at, way))) =
-    subst (λ (x : View ℕ). OneLeadsTo cut.memory 1 (words_of_row (row_of x))) (sym (same_some (Inside 0 Nothing) v at)) way
+    subst (λ (x : SlotView ℕ). OneLeadsTo cut.memory 1 (words_of_row (row_of x))) (sym (same_some (Inside 0 Nothing) v at)) way
 none_reaches (inr (inl (suc j, v, at, way))) = cc at
 none_reaches (inr (inr (t, field, word, there, at, way))) = no_words cut.memory bare t field word at
 

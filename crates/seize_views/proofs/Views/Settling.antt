@@ -33,9 +33,9 @@ use Rattle.seize_acts.specs.Bounds.Bounds.{HasCounted, HasTried, IsAloneOnSlot, 
 use Rattle.seize_views.specs.Views.Rows.{settles_for, used_for, leave_of, counting, IsLooked, IsBounded}
 use Rattle.seize_views.specs.Views.Told.{shown_by, FollowsBy, told}
 use Rattle.seize_views.specs.Views.Promises.{op_in}
-use Rattle.seize_views.specs.declared.view.View.{View}
+use Rattle.seize_views.specs.declared.view.SlotView.{SlotView}
 use Rattle.seize_views.specs.declared.view.Becomes.{Becomes}
-use Rattle.seize_views.specs.declared.view.View.TheVariants.{Settles}
+use Rattle.seize_views.specs.declared.view.SlotView.TheVariants.{Settles}
 use Rattle.seize_views.specs.declared.view.Why.{Why}
 use Rattle.seize_views.specs.declared.view.Why.TheVariants.{Retiring, Ending}
 use Rattle.seize_views.specs.declared.view.Fixed.{Fixed}
@@ -81,7 +81,7 @@ module _ {T : Type 0} (defers : T → Option ℕ) where
 
 module _ {T : Type 0} (defers : T → Option ℕ) (fixed : Fixed) (Is : Use → Use → Type 0) (like : IsLikeness Is) (w : World T) (i : ℕ) (c : Settle) (why : Why)
     (seen : Option (ℕ × T)) (left : ℕ) (h : HasRow defers fixed Is w i (Settles c why seen left)) where
-  abbrev v : View T
+  abbrev v : SlotView T
   v = Settles c why seen left
 
   r : Reached defers fixed.batch_size w

@@ -19,8 +19,8 @@ use Rattle.seize_acts.proofs.Given.SeizeAloneHistories.NotTaken.{IsHad, still_he
 use Rattle.seize_acts.proofs.Given.SeizeAloneHistories.Uses.{uses_kept}
 use Rattle.seize_seats.specs.Seats.State.{State, view_of}
 use Rattle.seize_views.specs.Views.Rows.{row_of, use_of, hand_of, used_for, IsSeeking, IsShort, IsUsed, RootsNameLinked, IsFound, Fits, IsBounded, Holds}
-use Rattle.seize_views.specs.declared.view.View.{View}
-use Rattle.seize_views.specs.declared.view.View.TheVariants.{Rests, Registers, Outside, Owes, Enters, Inside, Settles, Leaves, Left, Frees, Brings, Bears, Watches, Under, Busy}
+use Rattle.seize_views.specs.declared.view.SlotView.{SlotView}
+use Rattle.seize_views.specs.declared.view.SlotView.TheVariants.{Rests, Registers, Outside, Owes, Enters, Inside, Settles, Leaves, Left, Frees, Brings, Bears, Watches, Under, Busy}
 use Rattle.seize_views.specs.declared.view.Why.TheVariants.{Retiring, Ending}
 use Rattle.seize_views.specs.declared.view.Fixed.{Fixed}
 use Rattle.seize_views.proofs.Views.Came.{of_users, reached, since_one}
@@ -44,7 +44,7 @@ not_over b (Ended o ∷ []) log one = absurd one
 not_over b (LeftOver c further ∷ []) log one = absurd one
 
 -- a row of a seat works on no slot but the seat's
-pub works_on_own : {T : Type 0} (v : View T) → IsShort v → (t : ℕ) → works_on (row_of v) ≡ t + 1 → (a : Use) × (use_of v ≡ Some (t, a))
+pub works_on_own : {T : Type 0} (v : SlotView T) → IsShort v → (t : ℕ) → works_on (row_of v) ≡ t + 1 → (a : Use) × (use_of v ≡ Some (t, a))
 works_on_own Rests short t e = absurd (omega (arith, e))
 works_on_own (Registers c) short t e = absurd (by c.stands short.1 e)
   where
@@ -72,7 +72,7 @@ works_on_own (Under n s b) short t e = absurd (omega (arith, e))
 works_on_own (Busy s) short t e = absurd (omega (arith, e))
 
 -- who has a row under way has no block in its hand
-no_hand : {T : Type 0} (defers : T → Option ℕ) (id : ℕ) (v : View T) (w n : World T) → Steps' defers id (row_of v) w n → hand_of v ≡ None
+no_hand : {T : Type 0} (defers : T → Option ℕ) (id : ℕ) (v : SlotView T) (w n : World T) → Steps' defers id (row_of v) w n → hand_of v ≡ None
 no_hand defers id Rests w n step = absurd step
 no_hand defers id (Registers c) w n step = refl
 no_hand defers id (Outside t) w n step = absurd step
@@ -111,26 +111,26 @@ step_keeps {T} defers size w n i r step b some = by (cases_eq (times b (taken_in
     by (inl e) = d.frames.values b e
     by (inr ne) = let none = taken_gone defers size w r i n step b ne in absurd (cc (some, none))
 
-module _ {T : Type 0} (defers : T → Option ℕ) (fixed : Fixed) (s : State T (View T) (World T)) (id : ℕ) (v : View T) (h : Holds defers fixed s)
+module _ {T : Type 0} (defers : T → Option ℕ) (fixed : Fixed) (s : State T (SlotView T) (World T)) (id : ℕ) (v : SlotView T) (h : Holds defers fixed s)
     (at_id : view_of s id ≡ Some v) where
   abbrev w : World T
   w = s.world
 
   -- who has a block then, or had it
-  abbrev Now : View T → ℕ → Hand → Type 0
+  abbrev Now : SlotView T → ℕ → Hand → Type 0
   Now u b k = HasNow s id h.life.began (hand_of u) b k
 
   -- the other seats have their slots as before
   pub others : (n : World T) → ((t : ℕ) → (w.uses t ≡ Vacant → ⊥) → ((a : Use) → use_of v ≡ Some (t, a) → ⊥) → n.uses t ≡ w.uses t)
-      → (j : ℕ) (x : View T) → j ≢ id → view_of s j ≡ Some x → IsUsed n (use_of x)
+      → (j : ℕ) (x : SlotView T) → j ≢ id → view_of s j ≡ Some x → IsUsed n (use_of x)
   others n same j x ne e =
       let f = h.seats j x e in
       still_used w n (use_of x) f.slot (λ t a k. same t (λ z. not_vacant x t a k (sym (used_so w (use_of x) t a f.slot k)
       ∙ z)) (λ b l. ne (h.apart j id t a b x v e at_id k l)))
 
   -- a slot that is the seat's already is nobody else's
-  pub alone : (u : View T) → ((t : ℕ) (b : Use) → use_of u ≡ Some (t, b) → (a : Use) × (use_of v ≡ Some (t, a)))
-      → (j t : ℕ) (x : View T) (a b : Use) → j ≢ id → view_of s j ≡ Some x → use_of x ≡ Some (t, a) → use_of u ≡ Some (t, b) → ⊥
+  pub alone : (u : SlotView T) → ((t : ℕ) (b : Use) → use_of u ≡ Some (t, b) → (a : Use) × (use_of v ≡ Some (t, a)))
+      → (j t : ℕ) (x : SlotView T) (a b : Use) → j ≢ id → view_of s j ≡ Some x → use_of x ≡ Some (t, a) → use_of u ≡ Some (t, b) → ⊥
   alone u stays j t x a b ne e p q = let k = stays t b q in ne (h.apart j id t a k.0 x v e at_id p k.1)
 
   -- the roots are in the world what they are in the memory
@@ -144,8 +144,8 @@ module _ {T : Type 0} (defers : T → Option ℕ) (fixed : Fixed) (s : State T (
   pub step_of : (n : World T) → Steps' defers id (row_of v) w n → Steps' defers id (w.row id) w n
   step_of n taken = subst (λ (row : Row). Steps' defers id row w n) (sym (h.seats id v at_id).row) taken
 
-  pub begun : (request : Request) (u : View T) (n : World T) → Happens defers fixed.batch_size (Begin id request) w n → n.memory ≡ w.memory → n.log ≡ w.log
-      → ((j b : ℕ) (x : View T) → j ≢ id → view_of s j ≡ Some x → hand_of x ≡ Some b → n.hand b ≡ w.hand b) → hand_of u ≡ None
+  pub begun : (request : Request) (u : SlotView T) (n : World T) → Happens defers fixed.batch_size (Begin id request) w n → n.memory ≡ w.memory → n.log ≡ w.log
+      → ((j b : ℕ) (x : SlotView T) → j ≢ id → view_of s j ≡ Some x → hand_of x ≡ Some b → n.hand b ≡ w.hand b) → hand_of u ≡ None
       → ((b r : ℕ) → w.hand b ≡ world.InUse r → n.hand b ≡ world.InUse r)
       → ((j : ℕ) → j ≢ id → n.row j ≡ w.row j) → ((t : ℕ) → ((a : Use) → use_of v ≡ Some (t, a) → ⊥) → n.uses t ≡ w.uses t) → Fits n id u
       → ((t : ℕ) (b : Use) → use_of u ≡ Some (t, b) → (a : Use) × (use_of v ≡ Some (t, a))) → IsBounded defers fixed n id u
@@ -174,8 +174,8 @@ module _ {T : Type 0} (defers : T → Option ℕ) (fixed : Fixed) (s : State T (
     bounded = bounded;
   }
 
-  pub stepped : (u : View T) (m : Mem T) (n : World T) → Steps' defers id (row_of v) w n → m ≡ n.memory → Fits n id u
-      → ((j t : ℕ) (x : View T) (a b : Use) → j ≢ id → view_of s j ≡ Some x → use_of x ≡ Some (t, a) → use_of u ≡ Some (t, b) → ⊥)
+  pub stepped : (u : SlotView T) (m : Mem T) (n : World T) → Steps' defers id (row_of v) w n → m ≡ n.memory → Fits n id u
+      → ((j t : ℕ) (x : SlotView T) (a b : Use) → j ≢ id → view_of s j ≡ Some x → use_of x ≡ Some (t, a) → use_of u ≡ Some (t, b) → ⊥)
       → hand_of u ≡ None → IsBounded defers fixed n id u → Moved defers fixed s id h.life.began u m n
   stepped u m n taken memory own lone none bounded = record {
     since = since_one defers fixed w n (Step id) step;

@@ -5,8 +5,8 @@ use Rattle.seize.specs.World as world
 use Rattle.seize.specs.World.{World, Use}
 use Rattle.seize_views.specs.Views.Rows.{row_of, had_in}
 use Rattle.seize_views.specs.Views.Promises.{IsNext, IsFree}
-use Rattle.seize_views.specs.declared.view.View.{View}
-use Rattle.seize_views.specs.declared.view.View.TheVariants.{Rests, Registers, Outside, Owes, Enters, Inside, Settles, Leaves, Left, Frees, Brings, Bears, Watches, Under, Busy}
+use Rattle.seize_views.specs.declared.view.SlotView.{SlotView}
+use Rattle.seize_views.specs.declared.view.SlotView.TheVariants.{Rests, Registers, Outside, Owes, Enters, Inside, Settles, Leaves, Left, Frees, Brings, Bears, Watches, Under, Busy}
 use Rattle.seize_views.specs.declared.view.Has.{Has}
 use Rattle.seize_views.specs.declared.view.Has.TheVariants.{Nothing, Made, Seen, Both, Cut}
 use Rattle.seize_views.specs.declared.view.Why.TheVariants.{Retiring, Ending}
@@ -16,7 +16,7 @@ use Rattle.seize_views.proofs.Views.Begins.{enters, frees, leaves, registers}
 use Rattle.seize_views.proofs.Views.Ends.{settled_ends, counted_ends, left_ends}
 
 -- it lets go of what it has seen
-pub record Forgets {T : Type 0} (v u : View T) : Type 0 where
+pub record Forgets {T : Type 0} (v u : SlotView T) : Type 0 where
   pub slot : ℕ
   pub has : Has T
   pub from : v ≡ Inside slot has
@@ -25,24 +25,24 @@ pub record Forgets {T : Type 0} (v u : View T) : Type 0 where
 
 module _ {T : Type 0} (defers : T → Option ℕ) (fixed : Fixed) (Is : Use → Use → Type 0) (like : IsLikeness Is) (i : ℕ) where
   -- where none is under way a row begins, whatever the world is; or it ends
-  abbrev pub AlwaysBegins : View T → (View T → Type 0) → Type 0
+  abbrev pub AlwaysBegins : SlotView T → (SlotView T → Type 0) → Type 0
   AlwaysBegins v so = (row_of v ≡ world.Rests) × ((w : World T) → HasRow defers fixed IsJustSo w i v → BeginsTo defers fixed w i v so)
 
-  abbrev pub AlwaysEnds : View T → (View T → Type 0) → Type 0
+  abbrev pub AlwaysEnds : SlotView T → (SlotView T → Type 0) → Type 0
   AlwaysEnds v so = (w : World T) → HasRow defers fixed Is w i v → GoesTo defers fixed Is w i v w.memory so
 
-  abbrev pub Turning : View T → View T → Type 0
+  abbrev pub Turning : SlotView T → SlotView T → Type 0
   Turning v u = Forgets v u ⊎ AlwaysBegins v (λ x. x ≡ u) ⊎ AlwaysEnds v (λ x. x ≡ u)
 
   -- to the view that it is
-  to_is : (v x u : View T) → u ≡ x → Turning v x → Turning v u
-  to_is v x u is t = subst (λ (y : View T). Turning v y) (sym is) t
+  to_is : (v x u : SlotView T) → u ≡ x → Turning v x → Turning v u
+  to_is v x u is t = subst (λ (y : SlotView T). Turning v y) (sym is) t
 
-  goes_free : (t : ℕ) (has : Has T) (u : View T) → had_in has ≡ None → IsFree fixed t u → Turning (Inside t has) u
+  goes_free : (t : ℕ) (has : Has T) (u : SlotView T) → had_in has ≡ None → IsFree fixed t u → Turning (Inside t has) u
   goes_free t has u none (inl is) = to_is (Inside t has) (Leaves t fixed.batch_size is.0) u is.1 (inr (inl (refl, λ w h. leaves defers fixed w i t has is.0 none h)))
   goes_free t has u none (inr is) = inl (record { slot = t; has = has; from = refl; none = none; to = is })
 
-  pub turning : (v u : View T) → IsNext fixed v u → Turning v u
+  pub turning : (v u : SlotView T) → IsNext fixed v u → Turning v u
   turning Rests u is = to_is Rests _ u is (inr (inl (refl, λ w h. registers defers fixed w i h)))
   turning (Registers c) u is = absurd is
   turning (Outside t) u (inl is) = to_is (Outside t) (Enters t) u is (inr (inl (refl, λ w h. enters defers fixed w i t h)))

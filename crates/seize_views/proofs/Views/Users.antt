@@ -17,8 +17,8 @@ use Rattle.seize_seats.specs.Seats.State.{State, view_of}
 use Rattle.seize_acts.specs.Bounds.Bounds.{IsOfOthers, IsAloneOnSlot}
 use Rattle.seize_views.specs.Views.Rows.{Leads, row_of, use_of, hand_of, had_in, IsShort, IsUsed, IsKnown, IsBounded, IsMade, IsInHand, RootsNameLinked, Fits, Since, Holds}
 use Rattle.seize_views.specs.Views.Told.{alone_with}
-use Rattle.seize_views.specs.declared.view.View.{View}
-use Rattle.seize_views.specs.declared.view.View.TheVariants.{Outside, Owes, Inside}
+use Rattle.seize_views.specs.declared.view.SlotView.{SlotView}
+use Rattle.seize_views.specs.declared.view.SlotView.TheVariants.{Outside, Owes, Inside}
 use Rattle.seize_views.specs.declared.view.Has.{Has}
 use Rattle.seize_views.specs.declared.view.Has.TheVariants.{Nothing, Made, Seen, Both, Cut}
 use Rattle.seize_views.specs.declared.view.Fixed.{Fixed}
@@ -44,7 +44,7 @@ module _ {T : Type 0} where
   beside w b c k l ne is = with_other w.hand b c k (λ e. ne (sym is ∙ ap w.hand e)) ∙ is
 
   -- an operation of the memory is one of the world's
-  pub world_took : (s : State T (View T) (World T)) → s.memory ≡ s.world.memory → (op : Op T) (out : Out T) (m : Mem T) → Took s.memory op out m
+  pub world_took : (s : State T (SlotView T) (World T)) → s.memory ≡ s.world.memory → (op : Op T) (out : Out T) (m : Mem T) → Took s.memory op out m
       → Took s.world.memory op out m
   world_took s is op out m took = subst (λ (x : Mem T). Took x op out m) is took
 
@@ -68,7 +68,7 @@ module _ {T : Type 0} where
       let none = never_held (LAST_SLOT + 1) id r.good.state b r.good.inv life a in
       cc (subst (λ (l : List Effect). holds a b l ≡ false) r.good.logged none, subst (λ (k : ℕ). holds a k w.log ≡ true) e held)
 
-module _ {T : Type 0} (defers : T → Option ℕ) (fixed : Fixed) (s : State T (View T) (World T)) (id t : ℕ) where
+module _ {T : Type 0} (defers : T → Option ℕ) (fixed : Fixed) (s : State T (SlotView T) (World T)) (id t : ℕ) where
   abbrev w : World T
   w = s.world
 
@@ -100,7 +100,7 @@ module _ {T : Type 0} (defers : T → Option ℕ) (fixed : Fixed) (s : State T (
       let p = before j ne was mid in
       (p.0 ++ e ∷ [], both defers (IsAloneOnSlot j) fixed.batch_size j p.0 (e ∷ []) w n v p.1 (v, is j, happens, now, refl))
 
-module _ {T : Type 0} (defers : T → Option ℕ) (fixed : Fixed) (s : State T (View T) (World T)) (id t : ℕ) (v x : View T) (h : Holds defers fixed s)
+module _ {T : Type 0} (defers : T → Option ℕ) (fixed : Fixed) (s : State T (SlotView T) (World T)) (id t : ℕ) (v x : SlotView T) (h : Holds defers fixed s)
     (at : view_of s id ≡ Some v) (rests : row_of v ≡ world.Rests) (still : row_of x ≡ world.Rests) (same : use_of x ≡ use_of v) (short : IsShort x) where
   fit : Fits s.world id v
   fit = h.seats id v at
@@ -108,7 +108,7 @@ module _ {T : Type 0} (defers : T → Option ℕ) (fixed : Fixed) (s : State T (
   -- the seat goes on from one view to another, of the same slot
   pub users_on : (m : Mem T) (n : World T) (has : Has T) → Users defers fixed s id t m n has → AreFound s id h.life.began (had_in has) m n.hand
       → hand_of x ≡ had_in has → IsKnown n x → IsBounded defers fixed n id x
-      → (so : View T → Type 0) → so x → Leads defers fixed s m id so
+      → (so : SlotView T → Type 0) → so x → Leads defers fixed s m id so
   users_on m n has u found hand known bounded so is =
       moved defers fixed s id v x m n so h at (record {
         since = u.since;
@@ -137,7 +137,7 @@ module _ {T : Type 0} (defers : T → Option ℕ) (fixed : Fixed) (s : State T (
 
 module _ {T : Type 0} where
   -- a view for each thing that is known of a block, of a seat that stays where it is, and has no row under way
-  pub record Carries (t : ℕ) (place : Has T → View T) : Type 0 where
+  pub record Carries (t : ℕ) (place : Has T → SlotView T) : Type 0 where
     pub rests : (has : Has T) → row_of (place has) ≡ world.Rests
     pub stays : (has other : Has T) → use_of (place has) ≡ use_of (place other)
     pub short : (has : Has T) → IsShort (place has)
@@ -202,10 +202,10 @@ module _ {T : Type 0} where
       bounded defers fixed w j (Both b x a) = tt
       bounded defers fixed w j (Cut b) = tt
 
-module _ {T : Type 0} (defers : T → Option ℕ) (fixed : Fixed) (s : State T (View T) (World T)) (id t : ℕ) (h : Holds defers fixed s) where
+module _ {T : Type 0} (defers : T → Option ℕ) (fixed : Fixed) (s : State T (SlotView T) (World T)) (id t : ℕ) (h : Holds defers fixed s) where
   -- where it is, it knows something else of a block
-  pub users : (place : Has T → View T) → Carries t place → (had : Has T) → view_of s id ≡ Some (place had) → (m : Mem T) (n : World T) (has : Has T)
-      → Users defers fixed s id t m n has → AreFound s id h.life.began (had_in has) m n.hand → (so : View T → Type 0) → so (place has)
+  pub users : (place : Has T → SlotView T) → Carries t place → (had : Has T) → view_of s id ≡ Some (place had) → (m : Mem T) (n : World T) (has : Has T)
+      → Users defers fixed s id t m n has → AreFound s id h.life.began (had_in has) m n.hand → (so : SlotView T → Type 0) → so (place has)
       → Leads defers fixed s m id so
   users place c had at m n has u found so is =
       users_on defers fixed s id t (place had) (place has) h at (c.rests had) (c.rests has) (c.stays has had) (c.short has) m n has u found (c.hand has)
@@ -213,10 +213,10 @@ module _ {T : Type 0} (defers : T → Option ℕ) (fixed : Fixed) (s : State T (
 
   -- or outside of one, where it knows of no block, or of one that it has unlinked
   pub users_outside : view_of s id ≡ Some (Outside t) → (m : Mem T) (n : World T) → Users defers fixed s id t m n Nothing
-      → AreFound s id h.life.began None m n.hand → (so : View T → Type 0) → so (Outside t) → Leads defers fixed s m id so
+      → AreFound s id h.life.began None m n.hand → (so : SlotView T → Type 0) → so (Outside t) → Leads defers fixed s m id so
   users_outside at m n u found so is = users_on defers fixed s id t (Outside t) (Outside t) h at refl refl refl tt m n Nothing u found refl tt tt so is
 
   pub users_owe : view_of s id ≡ Some (Outside t) → (m : Mem T) (n : World T) (b : ℕ) → Users defers fixed s id t m n (Cut b)
-      → AreFound s id h.life.began (Some b) m n.hand → (so : View T → Type 0) → so (Owes t b) → Leads defers fixed s m id so
+      → AreFound s id h.life.began (Some b) m n.hand → (so : SlotView T → Type 0) → so (Owes t b) → Leads defers fixed s m id so
   users_owe at m n b u found so is =
       users_on defers fixed s id t (Outside t) (Owes t b) h at refl refl refl tt m n (Cut b) u found refl u.in_hand tt so is

@@ -9,12 +9,12 @@ use Rattle.seize_seats.specs.Seats.State.{State, view_of}
 use Rattle.seize_views.specs.Reaches.Reached.{words_of_row, OneLeadsTo, IsOfASlot, IsOfARow, IsOfABlock}
 use Rattle.seize_views.specs.Views.Rows.{row_of, IsSomeones, IsInSomeHand, IsFound, Holds}
 use Rattle.seize_views.specs.Views.Values.{IsAtARoot, IsOfASeat, IsReached, WasKept, ValuesAreFound}
-use Rattle.seize_views.specs.declared.view.View.{View}
+use Rattle.seize_views.specs.declared.view.SlotView.{SlotView}
 use Rattle.seize_views.specs.declared.view.Fixed.{Fixed}
 use Rattle.seize_views.proofs.Reaches.Reached.{handed_are_reached}
 use Rattle.seize_views.proofs.Views.Came.{reached}
 
-module _ (T : Type 0) (defers : T → Option ℕ) (fixed : Fixed) (s : State T (View T) (World T)) (h : Holds defers fixed s) (b : ℕ) where
+module _ (T : Type 0) (defers : T → Option ℕ) (fixed : Fixed) (s : State T (SlotView T) (World T)) (h : Holds defers fixed s) (b : ℕ) where
   abbrev FoundSo : Type 0
   FoundSo = IsSomeones s b ⊎ IsAtARoot s.memory b ⊎ IsReached s b ⊎ WasKept h.life.began s.world b
 
@@ -22,7 +22,7 @@ module _ (T : Type 0) (defers : T → Option ℕ) (fixed : Fixed) (s : State T (
   of_a_seat : IsOfARow s.world b → IsOfASeat s b
   of_a_seat (i, way) = by (view_of s i) refl
     where
-      by : (o : Option (View T)) → view_of s i ≡ o → IsOfASeat s b
+      by : (o : Option (SlotView T)) → view_of s i ≡ o → IsOfASeat s b
       by None e = absurd (subst (λ (row : Row). OneLeadsTo s.world.memory b (words_of_row row)) (h.unborn i e) way)
       by (Some v) e = (
         i,

@@ -10,8 +10,8 @@ use Rattle.seize_seats.specs.Seats.State.{State, view_of}
 use Rattle.seize_views.specs.Views.Rows.{Holds, HeldStay, IsUsed, use_of}
 use Rattle.seize_views.specs.Views.Watched.{one, open_at, is_watching, LeansOn, IsOwn, watchers, watching, Stays, IsBase, Upholds, AreLeaned, AreWatched}
 use Rattle.seize_views.specs.declared.view.Noted.{Noted}
-use Rattle.seize_views.specs.declared.view.View.{View}
-use Rattle.seize_views.specs.declared.view.View.TheVariants.{Rests, Registers, Outside, Owes, Enters, Inside, Settles, Leaves, Left, Frees, Brings, Bears, Watches, Under, Busy}
+use Rattle.seize_views.specs.declared.view.SlotView.{SlotView}
+use Rattle.seize_views.specs.declared.view.SlotView.TheVariants.{Rests, Registers, Outside, Owes, Enters, Inside, Settles, Leaves, Left, Frees, Brings, Bears, Watches, Under, Busy}
 use Rattle.seize_views.specs.declared.view.Why.TheVariants.{Retiring, Ending}
 use Rattle.seize_views.specs.declared.view.Becomes.TheVariants.{Idle, Active}
 use Rattle.seize_views.specs.declared.view.Fixed.{Fixed}
@@ -20,26 +20,26 @@ use Rattle.seize_views.proofs.Views.Leaned.{steps_leaned, joins_leaned}
 
 -- ---- how many there are
 module _ {T : Type 0} (t : ℕ) where
-  pub set_watchers : (l : List (View T)) (i : ℕ) (x y : View T) → slice_get l i ≡ Some x
+  pub set_watchers : (l : List (SlotView T)) (i : ℕ) (x y : SlotView T) → slice_get l i ≡ Some x
       → watchers t (slice_set l i y) + one (is_watching t x) ≡ watchers t l + one (is_watching t y)
   set_watchers [] i x y e = absurd (cc e)
-  set_watchers (a ∷ l) zero x y e = let k = ap (λ (v : View T). one (is_watching t v)) (same_some a x e) in omega (arith, k)
+  set_watchers (a ∷ l) zero x y e = let k = ap (λ (v : SlotView T). one (is_watching t v)) (same_some a x e) in omega (arith, k)
   set_watchers (a ∷ l) (suc i) x y e = let k = set_watchers l i x y e in omega (arith, k)
 
-  pub as_many : (l : List (View T)) (i : ℕ) (x y : View T) → slice_get l i ≡ Some x → is_watching t y ≡ is_watching t x
+  pub as_many : (l : List (SlotView T)) (i : ℕ) (x y : SlotView T) → slice_get l i ≡ Some x → is_watching t y ≡ is_watching t x
       → watchers t (slice_set l i y) ≡ watchers t l
   as_many l i x y e same = let k = set_watchers l i x y e in let m = ap one same in omega (arith, k, m)
 
-  pub some_watch : (l : List (View T)) (i : ℕ) (x : View T) → slice_get l i ≡ Some x → is_watching t x ≡ true → watchers t l ≢ 0
+  pub some_watch : (l : List (SlotView T)) (i : ℕ) (x : SlotView T) → slice_get l i ≡ Some x → is_watching t x ≡ true → watchers t l ≢ 0
   some_watch [] i x e is none = cc e
   some_watch (a ∷ l) zero x e is none =
-      let k : one (is_watching t a) ≡ 1 = ap (λ (v : View T). one (is_watching t v)) (same_some a x e) ∙ ap one is in omega (arith, k, none)
+      let k : one (is_watching t a) ≡ 1 = ap (λ (v : SlotView T). one (is_watching t v)) (same_some a x e) ∙ ap one is in omega (arith, k, none)
   some_watch (a ∷ l) (suc i) x e is none = some_watch l i x e is (omega (arith, none))
 
 -- ---- an open section
 module _ {T : Type 0} where
   -- its slot is the seat's
-  pub open_used : (x : View T) (t : ℕ) → open_at x ≡ Some t → (a : Use) × (use_of x ≡ Some (t, a))
+  pub open_used : (x : SlotView T) (t : ℕ) → open_at x ≡ Some t → (a : Use) × (use_of x ≡ Some (t, a))
   open_used (Inside u has) t e = (world.Inside 0, ap (λ (k : ℕ). Some (k, world.Inside 0)) (same_some u t e))
   open_used (Settles c (Retiring Active) seen left) t e = (world.Inside 1, ap (λ (k : ℕ). Some (k, world.Inside 1)) (same_some c.slot t e))
   open_used (Settles c (Retiring Idle) seen left) t e = absurd (cc e)
@@ -60,7 +60,7 @@ module _ {T : Type 0} where
   open_used (Busy (Some u)) t e = (world.Inside 0, ap (λ (k : ℕ). Some (k, world.Inside 0)) (same_some u t e))
 
   -- and is open in the world
-  pub open_inside : (w : World T) (x : View T) (t : ℕ) → open_at x ≡ Some t → IsUsed w (use_of x) → IsInside (w.uses t)
+  pub open_inside : (w : World T) (x : SlotView T) (t : ℕ) → open_at x ≡ Some t → IsUsed w (use_of x) → IsInside (w.uses t)
   open_inside w (Inside u has) t e is = subst (λ (k : ℕ). IsInside (w.uses k)) (same_some u t e) (subst (λ (a : Use). IsInside a) (sym is) tt)
   open_inside w (Settles c (Retiring Active) seen left) t e is =
       subst (λ (k : ℕ). IsInside (w.uses k)) (same_some c.slot t e) (subst (λ (a : Use). IsInside a) (sym is) tt)
@@ -82,7 +82,7 @@ module _ {T : Type 0} where
   open_inside w (Busy (Some u)) t e is = subst (λ (k : ℕ). IsInside (w.uses k)) (same_some u t e) (subst (λ (a : Use). IsInside a) (sym is) tt)
 
 -- a seat that watches none
-pub own_watches : {T : Type 0} (x : View T) (t : ℕ) → IsOwn x → is_watching t x ≡ false
+pub own_watches : {T : Type 0} (x : SlotView T) (t : ℕ) → IsOwn x → is_watching t x ≡ false
 own_watches Rests t own = refl
 own_watches (Registers c) t own = refl
 own_watches (Outside u) t own = refl
@@ -99,10 +99,10 @@ own_watches (Watches u b) t own = absurd own
 own_watches (Under n u b) t own = absurd own
 own_watches (Busy u) t own = refl
 
-pub own_not : {T : Type 0} (x : View T) (t b : ℕ) → IsOwn x → x ≡ Watches t b → ⊥
+pub own_not : {T : Type 0} (x : SlotView T) (t b : ℕ) → IsOwn x → x ≡ Watches t b → ⊥
 own_not x t b own e = subst IsOwn e own
 
-module _ {T : Type 0} (defers : T → Option ℕ) (fixed : Fixed) (seats : List (Noted T)) (s : State T (View T) (World T)) (h : Holds defers fixed s)
+module _ {T : Type 0} (defers : T → Option ℕ) (fixed : Fixed) (seats : List (Noted T)) (s : State T (SlotView T) (World T)) (h : Holds defers fixed s)
     (aw : AreWatched seats s.views s.world.log) where
   -- a section that somebody watches is open
   pub watched_open : (t : ℕ) → watchers t s.views ≢ 0 → IsInside (s.world.uses t)
@@ -113,7 +113,7 @@ module _ {T : Type 0} (defers : T → Option ℕ) (fixed : Fixed) (seats : List 
 
   -- ---- a step
   module _ (id : ℕ) (v u : Noted T) (n : World T) (at : slice_get seats id ≡ Some v) (at_view : view_of s id ≡ Some v.knows) (stay : HeldStay s.world n)
-      (apart : (j k t : ℕ) (a b : Use) (x y : View T) → slice_get (slice_set s.views id u.knows) j ≡ Some x → slice_get (slice_set s.views id u.knows) k ≡ Some y
+      (apart : (j k t : ℕ) (a b : Use) (x y : SlotView T) → slice_get (slice_set s.views id u.knows) j ≡ Some x → slice_get (slice_set s.views id u.knows) k ≡ Some y
       → use_of x ≡ Some (t, a) → use_of y ≡ Some (t, b) → j ≡ k)
       (known : (k : ℕ) (x : Noted T) → slice_get seats k ≡ Some x → view_of s k ≡ Some x.knows)
       (guards : u.guards ≡ v.guards) (same : (t : ℕ) → is_watching t u.knows ≡ is_watching t v.knows)
@@ -123,7 +123,7 @@ module _ {T : Type 0} (defers : T → Option ℕ) (fixed : Fixed) (seats : List 
     abbrev seats2 : List (Noted T)
     seats2 = slice_set seats id u
 
-    abbrev views2 : List (View T)
+    abbrev views2 : List (SlotView T)
     views2 = slice_set s.views id u.knows
 
     many : (o : Option ℕ) → watching views2 o ≡ watching s.views o
@@ -181,8 +181,8 @@ module _ {T : Type 0} (defers : T → Option ℕ) (fixed : Fixed) (seats : List 
             (same_some u x (sym (there seats id u v at) ∙ ap (slice_get seats2) (sym is) ∙ e)) counted_here
         counted k x e (inr ne) = aw.counted k x (sym (elsewhere seats id k u ne) ∙ e) ∙ sym (many (open_at x.knows))
 
-        opened : (t : ℕ) → (k : ℕ) × (y : View T) × (view_of s k ≡ Some y) × (open_at y ≡ Some t) → watchers t views2 ≢ 0
-            → (k : ℕ) × (y : View T) × (slice_get views2 k ≡ Some y) × (open_at y ≡ Some t)
+        opened : (t : ℕ) → (k : ℕ) × (y : SlotView T) × (view_of s k ≡ Some y) × (open_at y ≡ Some t) → watchers t views2 ≢ 0
+            → (k : ℕ) × (y : SlotView T) × (slice_get views2 k ≡ Some y) × (open_at y ≡ Some t)
         opened t k some = by (cases_eq k.0 id)
           where
             mine_then : open_at v.knows ≡ Some t → Stays v.guards v.knows u.knows → open_at u.knows ≡ Some t
@@ -191,14 +191,14 @@ module _ {T : Type 0} (defers : T → Option ℕ) (fixed : Fixed) (seats : List 
             mine_then e (inr (inr none)) =
                 absurd (some (many (Some t) ∙ ap (watching s.views) (sym e) ∙ sym own_counted ∙ none.0))
 
-            by : (k.0 ≡ id) ⊎ (k.0 ≢ id) → (k : ℕ) × (y : View T) × (slice_get views2 k ≡ Some y) × (open_at y ≡ Some t)
+            by : (k.0 ≡ id) ⊎ (k.0 ≢ id) → (k : ℕ) × (y : SlotView T) × (slice_get views2 k ≡ Some y) × (open_at y ≡ Some t)
             by (inl is) =
                 let e : v.knows ≡ k.1 = same_some v.knows k.1 (sym at_view ∙ ap (λ (j : ℕ). view_of s j) (sym is) ∙ k.2) in
                 (id, u.knows, here, mine_then (ap open_at e ∙ k.3) stays)
             by (inr ne) = (k.0, k.1, elsewhere s.views id k.0 u.knows ne ∙ k.2, k.3)
 
   -- ---- one seat more, who watches none, and has no section open
-  many_more : (t : ℕ) (l : List (View T)) (x : View T) → is_watching t x ≡ false → watchers t (l ++ x ∷ []) ≡ watchers t l
+  many_more : (t : ℕ) (l : List (SlotView T)) (x : SlotView T) → is_watching t x ≡ false → watchers t (l ++ x ∷ []) ≡ watchers t l
   many_more t [] x is = let k = ap one is in omega (arith, k)
   many_more t (a ∷ l) x is = let k = many_more t l x is in omega (arith, k)
 
@@ -245,10 +245,10 @@ module _ {T : Type 0} (defers : T → Option ℕ) (fixed : Fixed) (seats : List 
       pub other_upright : (m : ℕ) → LeansOn q.knows m → ⊥
 
     module _ (c : Counted) where
-      abbrev mid : List (View T)
+      abbrev mid : List (SlotView T)
       mid = slice_set s.views i p.knows
 
-      abbrev views3 : List (View T)
+      abbrev views3 : List (SlotView T)
       views3 = slice_set mid j q.knows
 
       abbrev seats3 : List (Noted T)
@@ -268,11 +268,11 @@ module _ {T : Type 0} (defers : T → Option ℕ) (fixed : Fixed) (seats : List 
       others x ne = let k = first x in let m = ap one (c.beside x ne) in omega (arith, k, m)
 
       -- a seat that has a section open, and isn't the other one, has another slot
-      not_his : (k : ℕ) (y : View T) → k ≢ j → view_of s k ≡ Some y → (t : ℕ) → open_at y ≡ Some t → open_at u.knows ≢ Some t
+      not_his : (k : ℕ) (y : SlotView T) → k ≢ j → view_of s k ≡ Some y → (t : ℕ) → open_at y ≡ Some t → open_at u.knows ≢ Some t
       not_his k y ne e t is his =
           let a = open_used y t is in let b = open_used u.knows t his in ne (h.apart k j t a.0 b.0 y u.knows e view_j a.1 b.1)
 
-      many3 : (k : ℕ) (y : View T) → k ≢ j → view_of s k ≡ Some y → (o : Option ℕ) → open_at y ≡ o → watching views3 o ≡ watching s.views o
+      many3 : (k : ℕ) (y : SlotView T) → k ≢ j → view_of s k ≡ Some y → (o : Option ℕ) → open_at y ≡ o → watching views3 o ≡ watching s.views o
       many3 k y ne e None is = refl
       many3 k y ne e (Some t) is = others t (not_his k y ne e t is)
 
@@ -291,7 +291,7 @@ module _ {T : Type 0} (defers : T → Option ℕ) (fixed : Fixed) (seats : List 
               let z : q.guards ≡ watchers t views3 = omega (arith, k, m, g) in z ∙ ap (watching views3) (sym is)
 
       -- whose view it is then
-      data Then (k : ℕ) (x : View T) : Type 0 where
+      data Then (k : ℕ) (x : SlotView T) : Type 0 where
         AtOne : k ≡ i → p.knows ≡ x → Then k x
         AtOther : k ≡ j → q.knows ≡ x → Then k x
         AtThird : k ≢ i → k ≢ j → view_of s k ≡ Some x → Then k x
@@ -302,7 +302,7 @@ module _ {T : Type 0} (defers : T → Option ℕ) (fixed : Fixed) (seats : List 
       here_i : slice_get views3 i ≡ Some p.knows
       here_i = elsewhere mid j i q.knows apart ∙ there s.views i p.knows v.knows view_i
 
-      then_at : (k : ℕ) (x : View T) → slice_get views3 k ≡ Some x → Then k x
+      then_at : (k : ℕ) (x : SlotView T) → slice_get views3 k ≡ Some x → Then k x
       then_at k x e = by (cases_eq k j) (cases_eq k i)
         where
           by : (k ≡ j) ⊎ (k ≢ j) → (k ≡ i) ⊎ (k ≢ i) → Then k x
@@ -313,8 +313,8 @@ module _ {T : Type 0} (defers : T → Option ℕ) (fixed : Fixed) (seats : List 
       pub meets_watched : AreWatched seats3 views3 s.world.log
       meets_watched = record { held = λ k t b e some. held k t b some (then_at k (Watches t b) e); counted = counted; opened = opened; leaned = leaned }
         where
-          upright : (x : View T) → ((m : ℕ) → LeansOn x m → ⊥) → (m t b : ℕ) → x ≡ Under m t b → ⊥
-          upright x none m t b e = none m (subst (λ (y : View T). LeansOn y m) (sym e) (λ k. m))
+          upright : (x : SlotView T) → ((m : ℕ) → LeansOn x m → ⊥) → (m t b : ℕ) → x ≡ Under m t b → ⊥
+          upright x none m t b e = none m (subst (λ (y : SlotView T). LeansOn y m) (sym e) (λ k. m))
 
           leaned : AreLeaned seats3 s.world.log
           leaned =
@@ -346,7 +346,7 @@ module _ {T : Type 0} (defers : T → Option ℕ) (fixed : Fixed) (seats : List 
                   let f = sym (elsewhere seats i k p ne2) ∙ sym (elsewhere (slice_set seats i p) j k q ne) ∙ e in
                   aw.counted k x f ∙ sym (many3 k x.knows ne (known k x f) (open_at x.knows) refl)
 
-          opened : (t : ℕ) → watchers t views3 ≢ 0 → (k : ℕ) × (y : View T) × (slice_get views3 k ≡ Some y) × (open_at y ≡ Some t)
+          opened : (t : ℕ) → watchers t views3 ≢ 0 → (k : ℕ) × (y : SlotView T) × (slice_get views3 k ≡ Some y) × (open_at y ≡ Some t)
           opened t some = by (open_cases (open_at u.knows) t)
             where
               open_cases : (o : Option ℕ) (t : ℕ) → (o ≡ Some t) ⊎ (o ≢ Some t)
@@ -356,8 +356,8 @@ module _ {T : Type 0} (defers : T → Option ℕ) (fixed : Fixed) (seats : List 
                 | inr ne ↦ inr (λ e. ne (same_some a t e))
               ]
 
-              at_place : (k : ℕ) (y : View T) → view_of s k ≡ Some y → open_at y ≡ Some t → (k ≡ j) ⊎ (k ≢ j) → (k ≡ i) ⊎ (k ≢ i)
-                  → (k : ℕ) × (y : View T) × (slice_get views3 k ≡ Some y) × (open_at y ≡ Some t)
+              at_place : (k : ℕ) (y : SlotView T) → view_of s k ≡ Some y → open_at y ≡ Some t → (k ≡ j) ⊎ (k ≢ j) → (k ≡ i) ⊎ (k ≢ i)
+                  → (k : ℕ) × (y : SlotView T) × (slice_get views3 k ≡ Some y) × (open_at y ≡ Some t)
               at_place k y e is (inl here) either =
                   let f : u.knows ≡ y = same_some u.knows y (sym view_j ∙ ap (λ (n : ℕ). view_of s n) (sym here) ∙ e) in
                   (j, q.knows, here_j, c.other_open ∙ ap open_at f ∙ is)
@@ -368,7 +368,7 @@ module _ {T : Type 0} (defers : T → Option ℕ) (fixed : Fixed) (seats : List 
                   (k, y, elsewhere mid j k q.knows ne ∙ elsewhere s.views i k p.knows ne2 ∙ e, is)
 
               by : (open_at u.knows ≡ Some t) ⊎ (open_at u.knows ≢ Some t)
-                  → (k : ℕ) × (y : View T) × (slice_get views3 k ≡ Some y) × (open_at y ≡ Some t)
+                  → (k : ℕ) × (y : SlotView T) × (slice_get views3 k ≡ Some y) × (open_at y ≡ Some t)
               by (inl is) = (j, q.knows, here_j, c.other_open ∙ is)
               by (inr ne) =
                   let k = aw.opened t (λ z. some (others t ne ∙ z)) in at_place k.0 k.1 k.2 k.3 (cases_eq k.0 j) (cases_eq k.0 i)

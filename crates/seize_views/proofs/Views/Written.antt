@@ -15,7 +15,7 @@ use Rattle.seize_acts.proofs.Given.SeizeRuleWorld.Values.{own_op_value}
 use Rattle.seize_acts.proofs.Acts.Answers.{same_some}
 use Rattle.seize_seats.specs.Seats.State.{State, view_of}
 use Rattle.seize_views.specs.Views.Rows.{Leads, hand_of, IsInSomeHand, IsFound, RootsNameLinked, Since, Holds}
-use Rattle.seize_views.specs.declared.view.View.{View}
+use Rattle.seize_views.specs.declared.view.SlotView.{SlotView}
 use Rattle.seize_views.specs.declared.view.Has.TheVariants.{Nothing, Cut}
 use Rattle.seize_views.specs.declared.view.Fixed.{Fixed}
 use Rattle.seize_views.proofs.Views.Lists.{there, elsewhere}
@@ -39,7 +39,7 @@ length_set (y ∷ l) (suc r) x = ap suc (length_set l r x)
 pub block_of_link : (b : ℕ) → block_in (link_to b) ≡ b
 block_of_link b = omega arith
 
-module _ {T : Type 0} (defers : T → Option ℕ) (fixed : Fixed) (s : State T (View T) (World T)) (id : ℕ) where
+module _ {T : Type 0} (defers : T → Option ℕ) (fixed : Fixed) (s : State T (SlotView T) (World T)) (id : ℕ) where
   -- a word is written at a root, in place of this one
   pub record Wrote (a word old : ℕ) (m : Mem T) : Type 0 where
     pub there : word_at s.memory (Root a) ≡ Some old
@@ -49,12 +49,12 @@ module _ {T : Type 0} (defers : T → Option ℕ) (fixed : Fixed) (s : State T (
     pub passes : Passes defers fixed s id (record s.world { memory = m })
 
   -- the seat goes on where no block was at the root, and where one was, which is in its hand then; each other one is found as before
-  pub record Cuts (began : World T) (t : ℕ) (m : Mem T) (old : ℕ) (so : View T → Type 0) : Type 0 where
+  pub record Cuts (began : World T) (t : ℕ) (m : Mem T) (old : ℕ) (so : SlotView T → Type 0) : Type 0 where
     pub none : (block_in old == 0) ≡ true → (n : World T) → Users defers fixed s id t m n Nothing → AreFound s id began None m n.hand → Leads defers fixed s m id so
     pub cut : (block_in old == 0) ≡ false → (n : World T) → Users defers fixed s id t m n (Cut (block_in old))
         → AreFound s id began (Some (block_in old)) m n.hand → Leads defers fixed s m id so
 
-module _ {T : Type 0} (defers : T → Option ℕ) (fixed : Fixed) (s : State T (View T) (World T)) (id : ℕ) (v : View T) (h : Holds defers fixed s)
+module _ {T : Type 0} (defers : T → Option ℕ) (fixed : Fixed) (s : State T (SlotView T) (World T)) (id : ℕ) (v : SlotView T) (h : Holds defers fixed s)
     (at : view_of s id ≡ Some v) where
   abbrev w : World T
   w = s.world
@@ -156,7 +156,7 @@ module _ {T : Type 0} (defers : T → Option ℕ) (fixed : Fixed) (s : State T (
       by (world.LeftTo i) f = absurd f
 
   -- The block that was at the root, if there was one, is unlinked; `n` is the world before that, in which it is linked there, and each other one is found.
-  pub unlinked : (t a old : ℕ) (m : Mem T) (n : World T) (so : View T → Type 0) → Cuts defers fixed s id h.life.began t m old so → Users defers fixed s id t m n Nothing
+  pub unlinked : (t a old : ℕ) (m : Mem T) (n : World T) (so : SlotView T → Type 0) → Cuts defers fixed s id h.life.began t m old so → Users defers fixed s id t m n Nothing
       → RootsNameLinked m n.hand
       → ((b : ℕ) → FoundIn m None b (n.hand b) ⊎ ((block_in old ≡ b) × (b ≢ 0)))
       → ((b : ℕ) → w.hand b ≡ world.InUse a → n.hand b ≡ world.InUse a)
@@ -216,7 +216,7 @@ module _ {T : Type 0} (defers : T → Option ℕ) (fixed : Fixed) (s : State T (
           other c found (inr f) ne = inr (with_other n.hand (block_in old) (block_in found) (world.Cutting id) ne ∙ f)
 
   -- a root is cleared
-  pub clears : (t a old : ℕ) (m : Mem T) → hand_of v ≡ None → Wrote defers fixed s id a 0 old m → (so : View T → Type 0)
+  pub clears : (t a old : ℕ) (m : Mem T) → hand_of v ≡ None → Wrote defers fixed s id a 0 old m → (so : SlotView T → Type 0)
       → Cuts defers fixed s id h.life.began t m old so → Leads defers fixed s m id so
   clears t a old m empty wrote so goes =
       let n : World T = record w { memory = m } in

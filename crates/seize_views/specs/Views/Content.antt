@@ -14,14 +14,14 @@ use Rattle.seize_views.specs.declared.view.Began.{Began}
 use Rattle.seize_views.specs.declared.view.Becomes.{Becomes}
 use Rattle.seize_views.specs.declared.view.Fixed.{Fixed}
 use Rattle.seize_views.specs.declared.view.Noted.{Noted}
-use Rattle.seize_views.specs.declared.view.View.{View}
-use Rattle.seize_views.specs.declared.view.View.TheVariants.{Settles}
+use Rattle.seize_views.specs.declared.view.SlotView.{SlotView}
+use Rattle.seize_views.specs.declared.view.SlotView.TheVariants.{Settles}
 use Rattle.seize_views.specs.declared.view.Why.{Why}
 
 -- A view of the content has notes: what its seat knows of its slot and of its row, and has begun last. Beside them it has what no row changes.
 module _ {T V B : Type 0} (notes : V → Noted T) (beside : V → B) where
   -- a turn of a row, by the notes, which writes down what it has begun
-  abbrev pub Turned : (Fixed → View T → View T → Type 0) → (Began → Began) → Fixed → V → V → Type 0
+  abbrev pub Turned : (Fixed → SlotView T → SlotView T → Type 0) → (Began → Began) → Fixed → V → V → Type 0
   Turned so began fixed v w =
       so fixed (notes v).knows (notes w).knows × ((notes w).did ≡ (notes v).did) × ((notes w).began ≡ began (notes v).began)
       × ((notes w).guards ≡ (notes v).guards) × (beside w ≡ beside v)

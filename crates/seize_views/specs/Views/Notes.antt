@@ -19,8 +19,8 @@ use Rattle.seize_views.specs.declared.view.Deed.{Deed}
 use Rattle.seize_views.specs.declared.view.Deed.TheVariants.{NoneYet, Looked, Wrote, Marked}
 use Rattle.seize_views.specs.declared.view.Began.{Began}
 use Rattle.seize_views.specs.declared.view.Began.TheVariants.{NotYet}
-use Rattle.seize_views.specs.declared.view.View.{View}
-use Rattle.seize_views.specs.declared.view.View.TheVariants.{Rests, Outside, Inside, Brings, Bears, Watches, Under}
+use Rattle.seize_views.specs.declared.view.SlotView.{SlotView}
+use Rattle.seize_views.specs.declared.view.SlotView.TheVariants.{Rests, Outside, Inside, Brings, Bears, Watches, Under}
 use Rattle.seize_views.specs.declared.view.Has.{Has}
 use Rattle.seize_views.specs.declared.view.Has.TheVariants.{Made, Both}
 use Rattle.seize_views.specs.declared.view.Becomes.{Becomes}
@@ -31,7 +31,7 @@ abbrev pub still : Began → Began
 still began = began
 
 module _ {T : Type 0} where
-  abbrev pub noted : View T → Deed T → Began → ℕ → Noted T
+  abbrev pub noted : SlotView T → Deed T → Began → ℕ → Noted T
   noted v did began guards = record { knows = v; did = did; began = began; guards = guards }
 
   -- who has just come knows nothing, and has done nothing
@@ -39,7 +39,7 @@ module _ {T : Type 0} where
   newcomer = noted Rests NoneYet NotYet 0
 
   -- the state by what the seats know alone
-  abbrev pub as_known : State T (Noted T) (World T) → State T (View T) (World T)
+  abbrev pub as_known : State T (Noted T) (World T) → State T (SlotView T) (World T)
   as_known s = record { memory = s.memory; views = map known_by s.views; world = s.world }
 
   -- the value of the block that was made, if one was
@@ -57,7 +57,7 @@ module _ {T : Type 0} where
   deed_at made did (Exchange (Root r) old new) (Exchanged (Err now)) = Looked r now
   deed_at made did op out = did
 
-  abbrev pub deed : View T → Deed T → Op T → Out T → Deed T
+  abbrev pub deed : SlotView T → Deed T → Op T → Out T → Deed T
   deed (Outside t) did op out = deed_at None did op out
   deed (Inside t has) did op out = deed_at (made_in has) did op out
   deed (Brings b x) did op out = deed_at (Some x) did op out
@@ -128,7 +128,7 @@ module _ (T : Type 0) (defers : T → Option ℕ) where
   -- a turn that ends no section which is watched may note anything, where nobody leans on the seat
   abbrev pub TurnsAreNoted : Type 0
   TurnsAreNoted =
-      (fixed : Fixed) (id : ℕ) (v : Noted T) (u : View T) (did : Deed T) (began : Began) → IsOwn v.knows → IsOwn u → Stays v.guards v.knows u
+      (fixed : Fixed) (id : ℕ) (v : Noted T) (u : SlotView T) (did : Deed T) (began : Began) → IsOwn v.knows → IsOwn u → Stays v.guards v.knows u
       → TurnsTo defers fixed id v.knows (λ x. x ≡ u)
       → TurnsUnlent (NotedHolds defers fixed) NotedKeeps Leans id v (λ x. (x.knows ≡ u) × (x.did ≡ did) × (x.began ≡ began) × (x.guards ≡ v.guards))
 

@@ -17,10 +17,10 @@ use Rattle.seize_seats.specs.Seats.State.{Starts, Comes, Meets}
 use Rattle.seize_views.specs.Views.Rows.{TurnsTo, Permits, head_of, Holds, Keeps}
 use Rattle.seize_views.specs.Views.Begun.{IsBegun, Hands, left_with, seeker_at}
 use Rattle.seize_views.specs.Views.Told.{alone_with, told}
-use Rattle.seize_views.specs.declared.view.View.{View}
+use Rattle.seize_views.specs.declared.view.SlotView.{SlotView}
 use Rattle.seize_views.specs.declared.view.Becomes.{Becomes}
 use Rattle.seize_views.specs.declared.view.Becomes.TheVariants.{Idle, Active}
-use Rattle.seize_views.specs.declared.view.View.TheVariants.{Rests, Registers, Outside, Owes, Enters, Inside, Settles, Leaves, Left, Frees, Brings, Bears}
+use Rattle.seize_views.specs.declared.view.SlotView.TheVariants.{Rests, Registers, Outside, Owes, Enters, Inside, Settles, Leaves, Left, Frees, Brings, Bears}
 use Rattle.seize_views.specs.declared.view.Has.{Has}
 use Rattle.seize_views.specs.declared.view.Has.TheVariants.{Nothing, Made, Seen, Both, Cut}
 use Rattle.seize_views.specs.declared.view.Why.{Why}
@@ -34,7 +34,7 @@ op_in (Do op rest) = Some op
 
 module _ {T : Type 0} (defers : T → Option ℕ) where
   -- the next operation of the row of a seat
-  abbrev pub op_of : View T → Option (Op T)
+  abbrev pub op_of : SlotView T → Option (Op T)
   op_of (Registers c) = op_in (register_plan {T = T} c)
   op_of (Enters t) = Some (Store (Slot t HEAD) ACTIVE)
   op_of (Settles c why seen left) = op_in (settle_plan defers c)
@@ -43,11 +43,11 @@ module _ {T : Type 0} (defers : T → Option ℕ) where
   op_of _ = None
 
 -- within a section of this slot a seat that has no block in its hand may begin to leave, or to refresh, and let go of what it has seen
-abbrev pub IsFree : {T : Type 0} → Fixed → ℕ → View T → Type 0
+abbrev pub IsFree : {T : Type 0} → Fixed → ℕ → SlotView T → Type 0
 IsFree fixed t u = ((way : Becomes) × (u ≡ Leaves t fixed.batch_size way)) ⊎ (u ≡ Inside t Nothing)
 
 -- what a seat may come to know without an operation: a row begins, or ends
-abbrev pub IsNext : {T : Type 0} → Fixed → View T → View T → Type 0
+abbrev pub IsNext : {T : Type 0} → Fixed → SlotView T → SlotView T → Type 0
 IsNext fixed Rests u = u ≡ Registers (seeker_at 0 at.Begin)
 IsNext fixed (Outside t) u = (u ≡ Enters t) ⊎ (u ≡ Frees t)
 IsNext fixed (Inside t Nothing) u = IsFree fixed t u
@@ -58,7 +58,7 @@ IsNext fixed (Left t size way) u = u ≡ left_with way t
 IsNext fixed _ u = ⊥
 
 -- within a section, or outside of one, a settling may begin: of the block that was unlinked, or of the batch
-abbrev pub IsToSettle : {T : Type 0} → Fixed → View T → Becomes → Settle → Type 0
+abbrev pub IsToSettle : {T : Type 0} → Fixed → SlotView T → Becomes → Settle → Type 0
 IsToSettle fixed (Inside t (Cut b)) Active c = c ≡ retiring t fixed.batch_size (link_to b)
 IsToSettle fixed (Inside t Nothing) Active c = c ≡ flushing t fixed.batch_size
 IsToSettle fixed (Inside t (Seen b)) Active c = c ≡ flushing t fixed.batch_size
@@ -87,7 +87,7 @@ IsLooking (Seen b) = Unit {0}
 IsLooking _ = ⊥
 
 -- a seat has a slot, and no block in its hand
-abbrev pub IsTaker : {T : Type 0} → View T → Type 0
+abbrev pub IsTaker : {T : Type 0} → SlotView T → Type 0
 IsTaker (Outside t) = Unit {0}
 IsTaker (Inside t has) = IsLooking has
 IsTaker _ = ⊥
@@ -103,16 +103,16 @@ module _ (T : Type 0) (defers : T → Option ℕ) where
 
   -- the next operation of the row of a seat may be made at any moment
   abbrev pub RowsGoOn : Type 0
-  RowsGoOn = (fixed : Fixed) (id : ℕ) (v : View T) (op : Op T) → op_of defers v ≡ Some op → Permits defers fixed id v op (told defers v op)
+  RowsGoOn = (fixed : Fixed) (id : ℕ) (v : SlotView T) (op : Op T) → op_of defers v ≡ Some op → Permits defers fixed id v op (told defers v op)
 
   -- and rows begin and end
   abbrev pub RowsTurn : Type 0
-  RowsTurn = (fixed : Fixed) (id : ℕ) (v u : View T) → IsNext fixed v u → TurnsTo defers fixed id v (λ x. x ≡ u)
+  RowsTurn = (fixed : Fixed) (id : ℕ) (v u : SlotView T) → IsNext fixed v u → TurnsTo defers fixed id v (λ x. x ≡ u)
 
   -- a settling begins, with as many steps left as it takes at most
   abbrev pub SettlingsBegin : Type 0
   SettlingsBegin =
-      (fixed : Fixed) (id : ℕ) (v : View T) (way : Becomes) (c : Settle) → IsToSettle fixed v way c → TurnsTo defers fixed id v (IsBegun way c)
+      (fixed : Fixed) (id : ℕ) (v : SlotView T) (way : Becomes) (c : Settle) → IsToSettle fixed v way c → TurnsTo defers fixed id v (IsBegun way c)
 
   -- within a section of a slot this operation may be made by a seat that knows of this block
   abbrev pub MayInside : Has T → Op T → Type 0
@@ -195,7 +195,7 @@ module _ (T : Type 0) (defers : T → Option ℕ) where
 
   -- which it may hand on, to a seat that has a slot, and no block in its hand
   abbrev pub BorneAreHandedOn : Type 0
-  BorneAreHandedOn = (fixed : Fixed) (i j b : ℕ) (u : View T) → IsTaker u → Meets (Holds defers fixed) i (Bears b) j u (Hands fixed (Bears b) u)
+  BorneAreHandedOn = (fixed : Fixed) (i j b : ℕ) (u : SlotView T) → IsTaker u → Meets (Holds defers fixed) i (Bears b) j u (Hands fixed (Bears b) u)
 
   -- and the block that a seat knows of is there
   abbrev pub KnownAreShown : Type 0

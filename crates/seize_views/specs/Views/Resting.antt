@@ -10,8 +10,8 @@ use Rattle.seize_views.specs.Views.Stays.{told_still}
 use Rattle.seize_views.specs.Views.Watched.{open_at, LeansOn, Leans, IsOwn, IsOfRows}
 use Rattle.seize_views.specs.Views.Told.{told, alone_with, owes_in}
 use Rattle.seize_views.specs.declared.view.Noted.{Noted}
-use Rattle.seize_views.specs.declared.view.View.{View}
-use Rattle.seize_views.specs.declared.view.View.TheVariants.{Rests, Registers, Outside, Owes, Enters, Inside, Settles, Leaves, Left, Frees, Brings, Bears, Watches, Under, Busy}
+use Rattle.seize_views.specs.declared.view.SlotView.{SlotView}
+use Rattle.seize_views.specs.declared.view.SlotView.TheVariants.{Rests, Registers, Outside, Owes, Enters, Inside, Settles, Leaves, Left, Frees, Brings, Bears, Watches, Under, Busy}
 use Rattle.seize_views.specs.declared.view.Has.{Has}
 use Rattle.seize_views.specs.declared.view.Has.TheVariants.{Nothing, Made, Seen, Both, Cut}
 
@@ -27,11 +27,11 @@ module _ {T : Type 0} where
   alone_rests (Both b x a) = tt
   alone_rests (Cut b) = tt
 
-  rests_as : (w v : View T) → w ≡ v → IsAtRest v → IsAtRest w
+  rests_as : (w v : SlotView T) → w ≡ v → IsAtRest v → IsAtRest w
   rests_as w v e rests = subst IsAtRest (sym e) rests
 
 module _ {T : Type 0} (defers : T → Option ℕ) where
-  withdrawn : (t : ℕ) (op : Op T) (out : Out T) (w : View T) → told defers (Outside t) op out w → IsAtRest w
+  withdrawn : (t : ℕ) (op : Op T) (out : Out T) (w : SlotView T) → told defers (Outside t) op out w → IsAtRest w
   withdrawn t (Swap (Root r) word) (Found old) w is = rests_as w (owes_in t old) is (owes_rests T t old (block_in old == 0))
   withdrawn t (Swap (Root r) word) Stored w is = absurd is
   withdrawn t (Swap (Root r) word) (Exchanged x) w is = absurd is
@@ -52,7 +52,7 @@ module _ {T : Type 0} (defers : T → Option ℕ) where
   withdrawn t (Rewrite c x) out w is = absurd is
   withdrawn t (Room c) out w is = absurd is
 
-  watched : (t b : ℕ) (op : Op T) (out : Out T) (w : View T) → told defers (Watches t b) op out w → IsAtRest w
+  watched : (t b : ℕ) (op : Op T) (out : Out T) (w : SlotView T) → told defers (Watches t b) op out w → IsAtRest w
   watched t b (Load (Root r)) (Found word) w is = rests_as w (Watches t (block_in word)) is tt
   watched t b (Load (Root r)) Stored w is = absurd is
   watched t b (Load (Root r)) (Exchanged x) w is = absurd is
@@ -73,7 +73,7 @@ module _ {T : Type 0} (defers : T → Option ℕ) where
   watched t b (Rewrite c x) out w is = absurd is
   watched t b (Room c) out w is = absurd is
 
-  told_rests : (v : View T) (op : Op T) (out : Out T) (w : View T) → told defers v op out w → IsAtRest v → IsAtRest w
+  told_rests : (v : SlotView T) (op : Op T) (out : Out T) (w : SlotView T) → told defers v op out w → IsAtRest v → IsAtRest w
   told_rests Rests op out w is r = rests_as w (alone_with is.0) is.2 (alone_rests is.0)
   told_rests (Outside t) op out w is r = withdrawn t op out w is
   told_rests (Owes t b) op out w is r = absurd is
@@ -95,7 +95,7 @@ module _ {T : Type 0} (defers : T → Option ℕ) where
 
 -- who leans on a seat
 module _ {T : Type 0} where
-  leans_under : (x : View T) (n : ℕ) → LeansOn x n → (t : ℕ) × (b : ℕ) × (x ≡ Under n t b)
+  leans_under : (x : SlotView T) (n : ℕ) → LeansOn x n → (t : ℕ) × (b : ℕ) × (x ≡ Under n t b)
   leans_under (Under m t b) n is = (t, b, ap (λ (k : ℕ). Under k t b) is)
   leans_under Rests n is = absurd is
   leans_under (Registers c) n is = absurd is
@@ -112,24 +112,24 @@ module _ {T : Type 0} where
   leans_under (Watches t b) n is = absurd is
   leans_under (Busy t) n is = absurd is
 
-  pub own_leans : (x : View T) (n : ℕ) → IsOwn x → LeansOn x n → ⊥
+  pub own_leans : (x : SlotView T) (n : ℕ) → IsOwn x → LeansOn x n → ⊥
   own_leans x n own leans = let e = leans_under x n leans in subst IsOwn e.2 own
 
-  rests_leans : (x : View T) (n : ℕ) → IsAtRest x → LeansOn x n → ⊥
+  rests_leans : (x : SlotView T) (n : ℕ) → IsAtRest x → LeansOn x n → ⊥
   rests_leans x n rests leans = let e = leans_under x n leans in subst IsAtRest e.2 rests
 
-  pub rows_lean : (x : View T) (n : ℕ) → IsOfRows x → LeansOn x n → ⊥
+  pub rows_lean : (x : SlotView T) (n : ℕ) → IsOfRows x → LeansOn x n → ⊥
   rows_lean x n rows leans = let e = leans_under x n leans in subst IsOfRows e.2 rows
 
-  pub open_leans : (x : View T) (t n : ℕ) → open_at x ≡ Some t → LeansOn x n → ⊥
+  pub open_leans : (x : SlotView T) (t n : ℕ) → open_at x ≡ Some t → LeansOn x n → ⊥
   open_leans x t n is_open leans = let e = leans_under x n leans in let none = ap open_at e.2 in cc (none, is_open)
 
   pub upright : (v : Noted T) (n : ℕ) → IsAtRest v.knows → Leans v n → ⊥
   upright v n rests leans = rests_leans v.knows n rests leans
 
 module _ {T : Type 0} (defers : T → Option ℕ) where
-  leans_still : (m t b : ℕ) (op : Op T) (out : Out T) (w : View T) → told defers (Under m t b) op out w → (n : ℕ) → LeansOn w n → m ≡ n
-  leans_still m t b (Load (Root r)) (Found word) w is n leans = subst (λ (x : View T). LeansOn x n) is leans
+  leans_still : (m t b : ℕ) (op : Op T) (out : Out T) (w : SlotView T) → told defers (Under m t b) op out w → (n : ℕ) → LeansOn w n → m ≡ n
+  leans_still m t b (Load (Root r)) (Found word) w is n leans = subst (λ (x : SlotView T). LeansOn x n) is leans
   leans_still m t b (Load (Root r)) Stored w is n leans = absurd is
   leans_still m t b (Load (Root r)) (Exchanged x) w is n leans = absurd is
   leans_still m t b (Load (Root r)) (OutMade x) w is n leans = absurd is
@@ -142,7 +142,7 @@ module _ {T : Type 0} (defers : T → Option ℕ) where
   leans_still m t b (Swap at word) out w is n leans = absurd is
   leans_still m t b (Store at word) out w is n leans = absurd is
   leans_still m t b (Add at word) out w is n leans = absurd is
-  leans_still m t b (Or (Root r) bits) (Found word) w is n leans = subst (λ (x : View T). LeansOn x n) is leans
+  leans_still m t b (Or (Root r) bits) (Found word) w is n leans = subst (λ (x : SlotView T). LeansOn x n) is leans
   leans_still m t b (Or (Root r) bits) Stored w is n leans = absurd is
   leans_still m t b (Or (Root r) bits) (Exchanged x) w is n leans = absurd is
   leans_still m t b (Or (Root r) bits) (OutMade x) w is n leans = absurd is
@@ -158,7 +158,7 @@ module _ {T : Type 0} (defers : T → Option ℕ) where
   leans_still m t b (Rewrite c x) out w is n leans = absurd is
   leans_still m t b (Room c) out w is n leans = absurd is
 
-  told_leans : (v : View T) (op : Op T) (out : Out T) (w : View T) → told defers v op out w → (n : ℕ) → LeansOn w n → LeansOn v n
+  told_leans : (v : SlotView T) (op : Op T) (out : Out T) (w : SlotView T) → told defers v op out w → (n : ℕ) → LeansOn w n → LeansOn v n
   told_leans (Under m t b) op out w is n leans = leans_still m t b op out w is n leans
   told_leans (Watches t b) op out w is n leans = absurd (rests_leans w n (told_rests defers (Watches t b) op out w is tt) leans)
   told_leans Rests op out w is n leans = absurd (own_leans w n (told_still defers Rests op out w tt is).own leans)

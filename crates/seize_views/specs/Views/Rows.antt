@@ -19,10 +19,10 @@ use Rattle.seize.specs.World as world
 use Rattle.seize_seats.specs.Seats.State.{State, view_of, after, KeepsOthers}
 use Rattle.seize_words.specs.OneMemory.Op.{Op, Out}
 use Rattle.seize_acts.specs.Bounds.Bounds.{SettlesWithin, TriesWithin}
-use Rattle.seize_views.specs.declared.view.View.{View}
+use Rattle.seize_views.specs.declared.view.SlotView.{SlotView}
 use Rattle.seize_views.specs.declared.view.Becomes.{Becomes}
 use Rattle.seize_views.specs.declared.view.Becomes.TheVariants.{Idle, Active}
-use Rattle.seize_views.specs.declared.view.View.TheVariants.{Rests, Registers, Outside, Owes, Enters, Inside, Settles, Leaves, Left, Frees, Brings, Bears, Watches, Under, Busy}
+use Rattle.seize_views.specs.declared.view.SlotView.TheVariants.{Rests, Registers, Outside, Owes, Enters, Inside, Settles, Leaves, Left, Frees, Brings, Bears, Watches, Under, Busy}
 use Rattle.seize_views.specs.declared.view.Has.{Has}
 use Rattle.seize_views.specs.declared.view.Has.TheVariants.{Nothing, Made, Seen, Both, Cut}
 use Rattle.seize_views.specs.declared.view.Why.{Why}
@@ -53,7 +53,7 @@ used_for (Retiring Active) = world.Inside 1
 used_for (Ending size way) = world.Changing
 
 -- the row that a seat has under way
-abbrev pub row_of : {T : Type 0} → View T → Row
+abbrev pub row_of : {T : Type 0} → SlotView T → Row
 row_of Rests = world.Rests
 row_of (Registers c) = world.Registers c
 row_of (Outside t) = world.Rests
@@ -71,7 +71,7 @@ row_of (Under n t b) = world.Rests
 row_of (Busy t) = world.Rests
 
 -- it has nothing under way: no row, and nothing beside rows
-abbrev pub IsAtRest : {T : Type 0} → View T → Type 0
+abbrev pub IsAtRest : {T : Type 0} → SlotView T → Type 0
 IsAtRest (Registers c) = ⊥
 IsAtRest (Enters t) = ⊥
 IsAtRest (Settles c why seen left) = ⊥
@@ -83,7 +83,7 @@ IsAtRest (Busy t) = ⊥
 IsAtRest _ = Unit {0}
 
 -- the slot that it holds, if it holds one, and how that is used
-abbrev pub use_of : {T : Type 0} → View T → Option (ℕ × Use)
+abbrev pub use_of : {T : Type 0} → SlotView T → Option (ℕ × Use)
 use_of Rests = None
 use_of (Registers c) = None
 use_of (Outside t) = Some (t, world.Outside 0)
@@ -109,7 +109,7 @@ had_in (Seen b) = None
 had_in (Both b x a) = Some b
 had_in (Cut b) = Some b
 
-abbrev pub hand_of : {T : Type 0} → View T → Option ℕ
+abbrev pub hand_of : {T : Type 0} → SlotView T → Option ℕ
 hand_of (Owes t b) = Some b
 hand_of (Inside t has) = had_in has
 hand_of (Brings b x) = Some b
@@ -125,12 +125,12 @@ IsSeeking (at.Take seen) = Unit {0}
 IsSeeking _ = ⊥
 
 -- registering only takes a slot, and does not enter it
-abbrev pub IsShort : {T : Type 0} → View T → Type 0
+abbrev pub IsShort : {T : Type 0} → SlotView T → Type 0
 IsShort (Registers c) = (c.enters ≡ false) × IsSeeking c.stands
 IsShort _ = Unit {0}
 
 -- it knows of no block but one that a settling is to look at
-abbrev pub IsPlain : {T : Type 0} → View T → Type 0
+abbrev pub IsPlain : {T : Type 0} → SlotView T → Type 0
 IsPlain (Inside t Nothing) = Unit {0}
 IsPlain (Inside t has) = ⊥
 IsPlain (Owes t b) = ⊥
@@ -175,7 +175,7 @@ module _ {T : Type 0} where
   IsLooked m c (Some seen) = IsReclaiming c.stands × (seen.0 ≡ block_in c.reclaiming) × (value_at m seen.0 ≡ Some seen.1)
 
   -- nobody is busy, as rows are all there is
-  abbrev pub IsKnown : World T → View T → Type 0
+  abbrev pub IsKnown : World T → SlotView T → Type 0
   IsKnown w (Owes t b) = IsCut w b
   IsKnown w (Inside t has) = IsInHand w t has
   IsKnown w (Brings b x) = IsMade w b x
@@ -185,11 +185,11 @@ module _ {T : Type 0} where
   IsKnown w _ = Unit {0}
 
   -- some seat has the block in its hand
-  abbrev pub IsSomeones : State T (View T) (World T) → ℕ → Type 0
-  IsSomeones s b = (j : ℕ) × (v : View T) × (view_of s j ≡ Some v) × (hand_of v ≡ Some b)
+  abbrev pub IsSomeones : State T (SlotView T) (World T) → ℕ → Type 0
+  IsSomeones s b = (j : ℕ) × (v : SlotView T) × (view_of s j ≡ Some v) × (hand_of v ≡ Some b)
 
   -- or it was in this hand in that world already
-  abbrev pub IsInSomeHand : State T (View T) (World T) → World T → ℕ → Hand → Type 0
+  abbrev pub IsInSomeHand : State T (SlotView T) (World T) → World T → ℕ → Hand → Type 0
   IsInSomeHand s began b k = IsSomeones s b ⊎ (began.hand b ≡ k)
 
   -- the word at a root names the block
@@ -212,7 +212,7 @@ module _ {T : Type 0} where
   RootsNameLinked m hand = (r word : ℕ) → word_at m (Root r) ≡ Some word → (block_in word ≡ 0) ⊎ (hand (block_in word) ≡ world.InUse r)
 
   -- what a seat knows is so
-  pub record Fits (w : World T) (j : ℕ) (v : View T) : Type 0 where
+  pub record Fits (w : World T) (j : ℕ) (v : SlotView T) : Type 0 where
     pub row : w.row j ≡ row_of v
     pub slot : IsUsed w (use_of v)
     pub short : IsShort v
@@ -221,7 +221,7 @@ module _ {T : Type 0} where
 module _ {T : Type 0} (defers : T → Option ℕ) (fixed : Fixed) where
   -- What a seat settles it has settled within so many steps: where its section has ended, its list is counted down; else its block is retired, or its batch
   -- tried.
-  abbrev pub IsBounded : World T → ℕ → View T → Type 0
+  abbrev pub IsBounded : World T → ℕ → SlotView T → Type 0
   IsBounded w j (Settles c (Ending size way) seen left) = SettlesWithin defers fixed.batch_size j left w
   IsBounded w j (Settles c (Retiring way) seen left) = TriesWithin defers fixed.batch_size j left w
   IsBounded w j _ = Unit {0}
@@ -242,22 +242,22 @@ module _ {T : Type 0} (defers : T → Option ℕ) (fixed : Fixed) where
     pub idle : (j : ℕ) → began.row j ≡ world.Rests
     pub since : Since began w
 
-  pub record Holds (s : State T (View T) (World T)) : Type 0 where
+  pub record Holds (s : State T (SlotView T) (World T)) : Type 0 where
     pub came : Came s.world
     pub memory : s.memory ≡ s.world.memory
-    pub seats : (j : ℕ) (v : View T) → view_of s j ≡ Some v → Fits s.world j v
+    pub seats : (j : ℕ) (v : SlotView T) → view_of s j ≡ Some v → Fits s.world j v
     pub unborn : (j : ℕ) → view_of s j ≡ None → s.world.row j ≡ world.Rests
-    pub apart : (j k t : ℕ) (a b : Use) (v u : View T) → view_of s j ≡ Some v → view_of s k ≡ Some u → use_of v ≡ Some (t, a) → use_of u ≡ Some (t, b) → j ≡ k
-    pub sole : (j k b : ℕ) (v u : View T) → view_of s j ≡ Some v → view_of s k ≡ Some u → hand_of v ≡ Some b → hand_of u ≡ Some b → j ≡ k
+    pub apart : (j k t : ℕ) (a b : Use) (v u : SlotView T) → view_of s j ≡ Some v → view_of s k ≡ Some u → use_of v ≡ Some (t, a) → use_of u ≡ Some (t, b) → j ≡ k
+    pub sole : (j k b : ℕ) (v u : SlotView T) → view_of s j ≡ Some v → view_of s k ≡ Some u → hand_of v ≡ Some b → hand_of u ≡ Some b → j ≡ k
     pub roots : RootsNameLinked s.memory s.world.hand
     pub rooted : length s.memory.roots ≡ fixed.roots
     pub life : Lifetime s.world
     pub found : (b : ℕ) → IsFound s.memory b (IsInSomeHand s life.began b) (s.world.hand b)
-    pub bounded : (j : ℕ) (v : View T) → view_of s j ≡ Some v → IsBounded s.world j v
+    pub bounded : (j : ℕ) (v : SlotView T) → view_of s j ≡ Some v → IsBounded s.world j v
 
 module _ {T : Type 0} where
   -- the section of a seat holds the block, which is not over
-  abbrev pub Keeps : View T → View T → World T → ℕ → Type 0
+  abbrev pub Keeps : SlotView T → SlotView T → World T → ℕ → Type 0
   Keeps u o w b = (t : ℕ) × (has : Has T) × (u ≡ Inside t has) × (holds t b w.log ≡ true) × (is_over b w.log ≡ false)
 
   -- what a section that is open holds it holds still
@@ -267,16 +267,16 @@ module _ {T : Type 0} where
 module _ {T : Type 0} (defers : T → Option ℕ) (fixed : Fixed) where
   -- A step of a seat leads to this memory: the seat has a view, and there is a world, by which the rule holds again; what others keep stays kept, and what
   -- open sections hold, its own too, they hold still.
-  abbrev pub Leads : State T (View T) (World T) → Mem T → ℕ → (View T → Type 0) → Type 0
+  abbrev pub Leads : State T (SlotView T) (World T) → Mem T → ℕ → (SlotView T → Type 0) → Type 0
   Leads s m id so =
-      (v : View T) × (w : World T) × Holds defers fixed (after s m id v w) × KeepsOthers (Holds defers fixed) Keeps s id w × HeldStay s.world w × so v
+      (v : SlotView T) × (w : World T) × Holds defers fixed (after s m id v w) × KeepsOthers (Holds defers fixed) Keeps s id w × HeldStay s.world w × so v
 
   -- the seat may make the operation, in each state in which it knows this, and whatever it answers
-  abbrev pub Permits : ℕ → View T → Op T → (Out T → View T → Type 0) → Type 0
+  abbrev pub Permits : ℕ → SlotView T → Op T → (Out T → SlotView T → Type 0) → Type 0
   Permits id v op so =
-      (s : State T (View T) (World T)) → Holds defers fixed s → view_of s id ≡ Some v
+      (s : State T (SlotView T) (World T)) → Holds defers fixed s → view_of s id ≡ Some v
       → Can s.memory op × ((out : Out T) (m : Mem T) → Took s.memory op out m → Leads s m id (so out))
 
   -- or take a step without one
-  abbrev pub TurnsTo : ℕ → View T → (View T → Type 0) → Type 0
-  TurnsTo id v so = (s : State T (View T) (World T)) → Holds defers fixed s → view_of s id ≡ Some v → Leads s s.memory id so
+  abbrev pub TurnsTo : ℕ → SlotView T → (SlotView T → Type 0) → Type 0
+  TurnsTo id v so = (s : State T (SlotView T) (World T)) → Holds defers fixed s → view_of s id ≡ Some v → Leads s s.memory id so

@@ -5,13 +5,13 @@ use Rattle.seize_words.specs.OneMemory.Op.{Op, Out, Load, Store, Swap, Add, Or, 
 use Rattle.seize_words.specs.OneMemory.Word.{block_in}
 use Rattle.seize_words.specs.declared.at.At.TheVariants.{Root, Used, Slot, Entry, Word}
 use Rattle.seize.specs.declared.states.TheConstants.{ACTIVE}
-use Rattle.seize.specs.declared.progress.Progress.TheVariants as progress
-use Rattle.seize.specs.declared.progress.Progress.{Progress}
+use Rattle.seize.specs.declared.advance.Advance.TheVariants as progress
+use Rattle.seize.specs.declared.advance.Advance.{Advance}
 use Rattle.seize.specs.declared.rows.register.Register.{Register}
 use Rattle.seize_views.specs.Views.Told.{told, left_by, alone_with, owes_in, list_taken}
 use Rattle.seize_views.specs.Views.Watched.{open_at, IsOwn}
-use Rattle.seize_views.specs.declared.view.View.{View}
-use Rattle.seize_views.specs.declared.view.View.TheVariants.{Rests, Registers, Outside, Owes, Enters, Inside, Settles, Leaves, Left, Frees, Brings, Bears, Watches, Under, Busy}
+use Rattle.seize_views.specs.declared.view.SlotView.{SlotView}
+use Rattle.seize_views.specs.declared.view.SlotView.TheVariants.{Rests, Registers, Outside, Owes, Enters, Inside, Settles, Leaves, Left, Frees, Brings, Bears, Watches, Under, Busy}
 use Rattle.seize_views.specs.declared.view.Has.{Has}
 use Rattle.seize_views.specs.declared.view.Has.TheVariants.{Nothing, Made, Seen, Both, Cut}
 use Rattle.seize_views.specs.declared.view.Why.TheVariants.{Retiring, Ending}
@@ -19,7 +19,7 @@ use Rattle.seize_views.specs.declared.view.Becomes.{Becomes}
 use Rattle.seize_views.specs.declared.view.Becomes.TheVariants.{Idle, Active}
 
 module _ (T : Type 0) where
-  left_own : (end : Register × Progress ℕ) → IsOwn {T = T} (left_by end)
+  left_own : (end : Register × Advance ℕ) → IsOwn {T = T} (left_by end)
   left_own (c, progress.Done t) = tt
   left_own (c, progress.Refused fault) = tt
   left_own (c, progress.Goes) = tt
@@ -35,11 +35,11 @@ module _ (T : Type 0) where
 
 module _ {T : Type 0} where
   -- it watches none, and its section, if it has one open, is open still
-  pub record Still (v w : View T) : Type 0 where
+  pub record Still (v w : SlotView T) : Type 0 where
     pub own : IsOwn w
     pub section : (open_at w ≡ open_at v) ⊎ (open_at v ≡ None)
 
-  at_own : (v w x : View T) → w ≡ x → IsOwn x → (open_at x ≡ open_at v) ⊎ (open_at v ≡ None) → Still v w
+  at_own : (v w x : SlotView T) → w ≡ x → IsOwn x → (open_at x ≡ open_at v) ⊎ (open_at v ≡ None) → Still v w
   at_own v w x e own (inl is) = record { own = subst IsOwn (sym e) own; section = inl (ap open_at e ∙ is) }
   at_own v w x e own (inr none) = record { own = subst IsOwn (sym e) own; section = inr none }
 
@@ -51,7 +51,7 @@ module _ {T : Type 0} where
   alone_own (Cut b) = tt
 
   module _ (defers : T → Option ℕ) where
-    withdrawn : (t : ℕ) (op : Op T) (out : Out T) (w : View T) → told defers (Outside t) op out w → Still (Outside t) w
+    withdrawn : (t : ℕ) (op : Op T) (out : Out T) (w : SlotView T) → told defers (Outside t) op out w → Still (Outside t) w
     withdrawn t (Swap (Root r) word) (Found old) w is = at_own (Outside t) w (owes_in t old) is (owes_own T t old (block_in old == 0)) (inr refl)
     withdrawn t (Swap (Root r) word) Stored w is = absurd is
     withdrawn t (Swap (Root r) word) (Exchanged x) w is = absurd is
@@ -72,7 +72,7 @@ module _ {T : Type 0} where
     withdrawn t (Rewrite b x) out w is = absurd is
     withdrawn t (Room b) out w is = absurd is
 
-    swapped : (t size : ℕ) (way : Becomes) (op : Op T) (out : Out T) (w : View T) → told defers (Leaves t size way) op out w → Still (Leaves t size way) w
+    swapped : (t size : ℕ) (way : Becomes) (op : Op T) (out : Out T) (w : SlotView T) → told defers (Leaves t size way) op out w → Still (Leaves t size way) w
     swapped t size way op (Found head) w is =
         at_own (Leaves t size way) w (list_taken t size way head is.0) is.1 (list_own T t size way head is.0 (nat_lt ACTIVE head) refl) (inr refl)
     swapped t size way op Stored w is = absurd is
@@ -81,7 +81,7 @@ module _ {T : Type 0} where
     swapped t size way op (Taken x) w is = absurd is
     swapped t size way op (Roomed x) w is = absurd is
 
-    pub told_still : (v : View T) (op : Op T) (out : Out T) (w : View T) → IsOwn v → told defers v op out w → Still v w
+    pub told_still : (v : SlotView T) (op : Op T) (out : Out T) (w : SlotView T) → IsOwn v → told defers v op out w → Still v w
     told_still Rests op out w own is = at_own Rests w (alone_with is.0) is.2 (alone_own is.0) (inr refl)
     told_still (Registers c) op out w own is = at_own (Registers c) w (left_by is.0) is.2 (left_own T is.0) (inr refl)
     told_still (Outside t) op out w own is = withdrawn t op out w is

@@ -6,8 +6,8 @@ use Rattle.seize_words.specs.OneMemory.Op.{Op, Out, Load, Swap, Or, Exchange, Ma
 use Rattle.seize_words.specs.OneMemory.Plan.{Plan, Turn, Do, Ends}
 use Rattle.seize_words.specs.declared.at.At.TheVariants.{Root}
 use Rattle.seize.specs.declared.states.TheConstants.{ACTIVE}
-use Rattle.seize.specs.declared.progress.Progress.{Progress}
-use Rattle.seize.specs.declared.progress.Progress.TheVariants as progress
+use Rattle.seize.specs.declared.advance.Advance.{Advance}
+use Rattle.seize.specs.declared.advance.Advance.TheVariants as progress
 use Rattle.seize.specs.declared.rows.register.Register.{Register}
 use Rattle.seize.specs.declared.rows.settle.Settle.{Settle}
 use Rattle.seize.specs.declared.rows.settle.Settled.{Settled}
@@ -15,9 +15,9 @@ use Rattle.seize.specs.Register.{register_plan}
 use Rattle.seize.specs.Settle.{counting_down, settle_plan}
 use Rattle.seize_straight.specs.Going.{DropGoes}
 use Rattle.seize_views.specs.Views.Rows.{IsShort}
-use Rattle.seize_views.specs.declared.view.View.{View}
+use Rattle.seize_views.specs.declared.view.SlotView.{SlotView}
 use Rattle.seize_views.specs.declared.view.Becomes.{Becomes}
-use Rattle.seize_views.specs.declared.view.View.TheVariants.{Rests, Registers, Outside, Owes, Enters, Inside, Settles, Leaves, Left, Frees, Brings, Bears, Watches, Under}
+use Rattle.seize_views.specs.declared.view.SlotView.TheVariants.{Rests, Registers, Outside, Owes, Enters, Inside, Settles, Leaves, Left, Frees, Brings, Bears, Watches, Under}
 use Rattle.seize_views.specs.declared.view.Has.{Has}
 use Rattle.seize_views.specs.declared.view.Has.TheVariants.{Nothing, Made, Seen, Both, Cut}
 use Rattle.seize_views.specs.declared.view.Why.{Why}
@@ -63,7 +63,7 @@ has_told (Seen b) (Or (Root r) bits) (Found word) after = after ≡ seen_in word
 has_told _ op out after = ⊥
 
 -- how a seat stands that has no slot, and knows so of a block
-abbrev pub alone_with : {T : Type 0} → Has T → View T
+abbrev pub alone_with : {T : Type 0} → Has T → SlotView T
 alone_with Nothing = Rests
 alone_with (Made b x) = Brings b x
 alone_with (Seen b) = Rests
@@ -71,7 +71,7 @@ alone_with (Both b x a) = Brings b x
 alone_with (Cut b) = Bears b
 
 -- and what one outside of a section knows that has taken from a root what this word names
-abbrev pub owes_in : {T : Type 0} → ℕ → ℕ → View T
+abbrev pub owes_in : {T : Type 0} → ℕ → ℕ → SlotView T
 owes_in t word = if block_in word == 0 then Outside t else Owes t (block_in word)
 
 -- what was looked at
@@ -91,18 +91,18 @@ module _ {T R : Type 0} where
   FollowsBy shown (Do op rest) out end = Ends shown (rest out) end
 
 -- what a seat knows once registering has come so far
-abbrev pub left_by : {T : Type 0} → Register × Progress ℕ → View T
+abbrev pub left_by : {T : Type 0} → Register × Advance ℕ → SlotView T
 left_by (c, progress.Done t) = Outside t
 left_by (c, progress.Refused fault) = Rests
 left_by (c, _) = Registers c
 
 -- and once the list of its slot was taken, with this head
-abbrev pub list_taken : {T : Type 0} → ℕ → ℕ → Becomes → ℕ → ℕ → View T
+abbrev pub list_taken : {T : Type 0} → ℕ → ℕ → Becomes → ℕ → ℕ → SlotView T
 list_taken t size way head left = if nat_lt ACTIVE head then Settles (counting_down t size head) (Ending size way) None left else Left t size way
 
 module _ {T : Type 0} (defers : T → Option ℕ) where
   -- a settling goes on, further steps are needed, with the same slot, and fewer are left
-  pub record GoesOn (c : Settle) (why : Why) (left : ℕ) (out : Out T) (w : View T) : Type 0 where
+  pub record GoesOn (c : Settle) (why : Why) (left : ℕ) (out : Out T) (w : SlotView T) : Type 0 where
     pub end : Settle × Settled T
     pub seen : Option (ℕ × T)
     pub now : ℕ
@@ -112,8 +112,8 @@ module _ {T : Type 0} (defers : T → Option ℕ) where
     pub falls : now < left
     pub view : w ≡ Settles end.0 why seen now
 
-  abbrev pub told : View T → Op T → Out T → View T → Type 0
-  told (Registers c) op out w = (end : Register × Progress ℕ) × ComesTo (register_plan {T = T} c) out end × (w ≡ left_by end) × IsShort w
+  abbrev pub told : SlotView T → Op T → Out T → SlotView T → Type 0
+  told (Registers c) op out w = (end : Register × Advance ℕ) × ComesTo (register_plan {T = T} c) out end × (w ≡ left_by end) × IsShort w
   told (Outside t) (Swap (Root r) word) (Found old) w = w ≡ owes_in t old
   told (Enters t) op out w = w ≡ Inside t Nothing
   told Rests op out w = (after : Has T) × has_told Nothing op out after × (w ≡ alone_with after)

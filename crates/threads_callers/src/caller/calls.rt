@@ -8,11 +8,11 @@ ghost use Rattle.threads_rule.specs.Errands.Looking.{HasFound, MayLook};
 ghost use Rattle.threads_rule.specs.Errands.Making.{CameTo, MayBegin};
 ghost use Rattle.threads_rule.specs.Views.Looks.{shown_in};
 ghost use Rattle.threads_rule.specs.Views.Rule.{Holds};
-ghost use Rattle.threads_rule.specs.declared.view.Work.TheVariants.{Nothing as NoWork};
+ghost use Rattle.threads_rule.specs.declared.view.SeatWork.TheVariants.{Nothing as NoWork};
 ghost use Rattle.seize_seats.specs.Seats.Lendings.{IsValueOf};
-ghost use Rattle.seize_views.specs.declared.view.View.TheVariants.{Rests};
+ghost use Rattle.seize_views.specs.declared.view.SlotView.TheVariants.{Rests};
 
-use crate::caller::Caller;
+use crate::caller::MapCaller;
 use map_machines::{Lookup, NewMap};
 use map_tables::{Hashes, Node, Setting};
 use papaya_raw::machines::Machine;
@@ -21,7 +21,7 @@ use std::hash::Hash;
 use std::sync::Wait;
 use threads_errands::{Does, Finds, Makes, MakesPair, Ran, RemovesIf};
 
-impl<'a, K: Eq + Drop, V: Drop, S: Hashes<K>> Caller<'a, K, V, S> {
+impl<'a, K: Eq + Drop, V: Drop, S: Hashes<K>> MapCaller<'a, K, V, S> {
     /// Makes a map of no table by this machine, with this hasher, and knows it then. Where no root is free, or memory is refused, there is none, and it knows what it
     /// has known before.
     pub fn makes_map(&mut self, hasher: &S, opening: NewMap) -> Result<Setting, Fault>
@@ -36,7 +36,7 @@ impl<'a, K: Eq + Drop, V: Drop, S: Hashes<K>> Caller<'a, K, V, S> {
     }
 }
 
-impl<'a, K: Eq + Hash, V, S: Hashes<K>> Caller<'a, K, V, S> {
+impl<'a, K: Eq + Hash, V, S: Hashes<K>> MapCaller<'a, K, V, S> {
     /// Looks this key up within its section, by this lookup, and answers the word that names the pair found. How many steps it takes is up to the others.
     pub fn finds<R: Wait>(&mut self, rt: &R, lookup: Lookup, key: &K) -> Option<u64>
         requires may { MayLook S.hash key.now lookup self.old.seat.view }
@@ -48,7 +48,7 @@ impl<'a, K: Eq + Hash, V, S: Hashes<K>> Caller<'a, K, V, S> {
     }
 }
 
-impl<'a, K: Eq + Hash + Drop, V: Drop, S: Hashes<K>> Caller<'a, K, V, S> {
+impl<'a, K: Eq + Hash + Drop, V: Drop, S: Hashes<K>> MapCaller<'a, K, V, S> {
     /// Runs this call, which asks nothing, within its section, on the map that it knows, and answers what it has told, and its own pair where that was not stored.
     pub fn does<R: Wait>(&mut self, rt: &R, hasher: &S, machine: Machine<K, V>) -> Ran<K, V>
         requires may { MayCall K.eq S.hash hasher.now machine self.old.seat.view }
@@ -70,7 +70,7 @@ impl<'a, K: Eq + Hash + Drop, V: Drop, S: Hashes<K>> Caller<'a, K, V, S> {
     }
 }
 
-impl<'a, K: Eq + Hash + Drop, V: Drop, S: Hashes<K>> Caller<'a, K, V, S> {
+impl<'a, K: Eq + Hash + Drop, V: Drop, S: Hashes<K>> MapCaller<'a, K, V, S> {
     /// Stores a value that is made where the key is missing.
     pub fn makes_pair<R: Wait, F: FnOnce() -> V>(
         &mut self,
@@ -128,7 +128,7 @@ impl<'a, K: Eq + Hash + Drop, V: Drop, S: Hashes<K>> Caller<'a, K, V, S> {
     }
 }
 
-impl<'a, K: Eq, V, S: Hashes<K>> Caller<'a, K, V, S> {
+impl<'a, K: Eq, V, S: Hashes<K>> MapCaller<'a, K, V, S> {
     /// The value of a block that it shows, for as long as it is borrowed.
     pub fn pair(&self, block: u64) -> &Node<K, V>
         requires shown { IsSome (shown_in self.now.seat.view.held block) }

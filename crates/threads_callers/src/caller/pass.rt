@@ -6,11 +6,11 @@ ghost use Rattle.threads_rule.specs.Given.ActsActs.{Get};
 ghost use Rattle.seize_seats.specs.Seats.Lendings.{IsValueBy};
 ghost use Rattle.threads_rule.specs.Views.Looks.{shown_in};
 ghost use Rattle.threads_rule.specs.Views.Rule.{Holds};
-ghost use Rattle.threads_rule.specs.declared.view.Work.TheVariants.{Nothing as NoWork};
+ghost use Rattle.threads_rule.specs.declared.view.SeatWork.TheVariants.{Nothing as NoWork};
 ghost use Rattle.seize_words.specs.OneMemory.Word.{block_in};
 ghost use Rattle.seize_callers.specs.Kept.{is_home};
 
-use crate::caller::Caller;
+use crate::caller::MapCaller;
 use crate::showing::Showing;
 use map_machines::Lookup;
 use map_tables::{Hashes, Node};
@@ -32,24 +32,24 @@ impl<K, V, S> Lesson<Fixed, View<K, V, S>> for Resorting {
 }
 
 /// It leans on it no longer.
-pub struct Returning;
+pub struct MapReturning;
 
-impl<K, V, S> Turn<Fixed, View<K, V, S>> for Returning {
+impl<K, V, S> Turn<Fixed, View<K, V, S>> for MapReturning {
     ghost use Rattle.threads_callers.specs.Passing.{ComesBack};
 
     ghost to = { λ _. ComesBack };
 }
 
 /// A seat that looks keys up under one that is within its section, and that is lent for that: any number of passes may do so at a time. Between two calls it rests.
-pub struct Pass<K: Eq, V, S: Hashes<K>> {
+pub struct MapPassSeat<K: Eq, V, S: Hashes<K>> {
     seat: Seat<Node<K, V>, OfMaps<S>>,
     ghost back: { IsBack seat.view },
     ghost home: { is_home seat.away ≡ true },
 }
 
-impl<K: Eq, V, S: Hashes<K>> Drop for Pass<K, V, S> {
+impl<K: Eq, V, S: Hashes<K>> Drop for MapPassSeat<K, V, S> {
     fn drop(self) {
-        let Pass { seat: _ } = self;
+        let MapPassSeat { seat: _ } = self;
     }
 }
 
@@ -146,7 +146,7 @@ impl<'g, 'f, R: Wait, K: Eq + Hash, V, S: Hashes<K>> ErrandWith<Node<K, V>, OfMa
         blocks.learn::<Resorting>(seat, guard);
         let found = Finds { rt, key, lookup }.run(blocks, seat);
         let value = lent(lends, seat, guard, key, found);
-        blocks.turn::<Returning>(seat);
+        blocks.turn::<MapReturning>(seat);
         (value, guard)
     }
 }
@@ -182,18 +182,18 @@ fn sends<'g, R: Wait, K: Eq + Hash, V, S: Hashes<K>>(
     blocks.errand_with(seat, guard, errand).0
 }
 
-impl<'a, K: Eq, V, S: Hashes<K>> Caller<'a, K, V, S> {
+impl<'a, K: Eq, V, S: Hashes<K>> MapCaller<'a, K, V, S> {
     /// A seat more of this memory, for passes.
-    pub fn pass(&self) -> Pass<K, V, S>
+    pub fn pass(&self) -> MapPassSeat<K, V, S>
         ensures own { result.seat.base ≡ self.now.blocks.now.words.id.views_name }
         ensures none { result.seat.view.calls ≡ [] }
     {
         let seat = self.blocks.seat();
-        Pass { seat }
+        MapPassSeat { seat }
     }
 }
 
-impl<'a, K: Eq + Hash, V, S: Hashes<K>> Caller<'a, K, V, S> {
+impl<'a, K: Eq + Hash, V, S: Hashes<K>> MapCaller<'a, K, V, S> {
     /// A pass looks this key up within its section, by this lookup, in the map that it knows: the value of the pair found is lent for as long as the caller is borrowed,
     /// whatever the pass does then. How many steps it takes is up to the others.
     pub fn finds_by<'g, R: Wait>(
@@ -201,7 +201,7 @@ impl<'a, K: Eq + Hash, V, S: Hashes<K>> Caller<'a, K, V, S> {
         rt: &R,
         lookup: Lookup,
         key: &K,
-        pass: &mut Pass<K, V, S>,
+        pass: &mut MapPassSeat<K, V, S>,
     ) -> Option<&'g V>
         requires own { pass.old.seat.base ≡ self.now.blocks.now.words.id.views_name }
         requires may { MayLook S.hash key.now lookup self.now.seat.view }

@@ -1,15 +1,15 @@
 //! A caller is sent to take a slot, to enter, to leave, and to give the slot up.
 ghost use Rattle.std.specs.Prelude.{◌≡◌, IfErr, IfOk};
-ghost use Rattle.threads_rule.specs.declared.view.Work.TheVariants.{Nothing as NoWork};
+ghost use Rattle.threads_rule.specs.declared.view.SeatWork.TheVariants.{Nothing as NoWork};
 ghost use Rattle.seize_views.specs.declared.view.Has.TheVariants.{Nothing};
-ghost use Rattle.seize_views.specs.declared.view.View.TheVariants.{Inside, Outside, Rests};
+ghost use Rattle.seize_views.specs.declared.view.SlotView.TheVariants.{Inside, Outside, Rests};
 
-use crate::caller::Caller;
+use crate::caller::MapCaller;
 use map_tables::Hashes;
 use seize_callers::errands::{Enters, Frees, Leaves, Registers};
 use seize_words::Fault;
 
-impl<'a, K: Eq, V, S: Hashes<K>> Caller<'a, K, V, S> {
+impl<'a, K: Eq, V, S: Hashes<K>> MapCaller<'a, K, V, S> {
     /// Takes the first slot that can be taken.
     pub fn register(&mut self, batch_size: u64) -> Result<u64, Fault>
         requires sized { self.old.blocks.now.words.fixed.batch_size ≡ batch_size }
@@ -60,7 +60,7 @@ impl<'a, K: Eq, V, S: Hashes<K>> Caller<'a, K, V, S> {
     }
 }
 
-impl<'a, K: Eq + Drop, V: Drop, S: Hashes<K>> Caller<'a, K, V, S> {
+impl<'a, K: Eq + Drop, V: Drop, S: Hashes<K>> MapCaller<'a, K, V, S> {
     /// Ends the section: what its slot's list owes is settled.
     pub fn leave(&mut self, batch_size: u64, slot: u64)
         requires sized { self.old.blocks.now.words.fixed.batch_size ≡ batch_size }

@@ -2,12 +2,12 @@
 ghost use Rattle.std.specs.Prelude.{◌≡◌, None, true};
 ghost use Rattle.seize_callers.specs.Kept.{is_home};
 
-use crate::caller::Caller;
+use crate::caller::MapCaller;
 use map_tables::{Hashes, Node};
 use seize_blocks::{Blocks, Seat};
 use threads_rule::OfMaps;
 
-impl<'a, K: Eq, V, S: Hashes<K>> Caller<'a, K, V, S> {
+impl<'a, K: Eq, V, S: Hashes<K>> MapCaller<'a, K, V, S> {
     /// The one of this seat.
     pub fn of(blocks: &'a Blocks<Node<K, V>, OfMaps<S>>, seat: Seat<Node<K, V>, OfMaps<S>>) -> Self
         requires own { seat.base ≡ blocks.now.words.id.views_name }
@@ -16,7 +16,7 @@ impl<'a, K: Eq, V, S: Hashes<K>> Caller<'a, K, V, S> {
         ensures view { result.seat.view ≡ seat.view }
         ensures blocks { result.blocks.now ≡ blocks.now }
     {
-        Caller {
+        MapCaller {
             blocks,
             seat,
             near: 0,
@@ -30,7 +30,7 @@ impl<'a, K: Eq, V, S: Hashes<K>> Caller<'a, K, V, S> {
         ensures lone { result.view.under ≡ None }
         ensures view { result.view ≡ self.entry.seat.view }
     {
-        let Caller {
+        let MapCaller {
             blocks: _,
             seat,
             near: _,

@@ -8,10 +8,10 @@ ghost use Rattle.threads_calls.specs.Answers.{is_removed as removes};
 ghost use Rattle.threads_rule.specs.Given.ActsActs.{RemoveIf, TryToInsertWith};
 ghost use Rattle.papaya_raw.specs.declared.machines.progress.Answer.{Answer as AnAnswer};
 ghost use Rattle.seize_views.specs.declared.view.Has.TheVariants.{Nothing};
-ghost use Rattle.seize_views.specs.declared.view.View.TheVariants.{Inside};
+ghost use Rattle.seize_views.specs.declared.view.SlotView.TheVariants.{Inside};
 
 use crate::session::keys::{is_put, is_removed};
-use crate::session::{Session, setting_in};
+use crate::session::{SessionBase, setting_in};
 use map_tables::Hashes;
 use papaya_raw::machines::{Answer, KeyCall, Machine};
 use seize_words::Fault;
@@ -32,7 +32,7 @@ fn told_of<K: Drop, V: Drop>(ran: Ran<K, V>) -> Result<Answer, Fault>
     told
 }
 
-impl<'a, K: Eq + Hash + Drop, V: Drop, S: Hashes<K>> Session<'a, K, V, S> {
+impl<'a, K: Eq + Hash + Drop, V: Drop, S: Hashes<K>> SessionBase<'a, K, V, S> {
     /// Stores a value that is made within the section of its slot, if its key is not there yet, and answers whether it was stored. The closure is called where the key was
     /// missing; if another one has stored a pair meanwhile, what it has made is dropped. The faults are `Memory` and `Capacity`: nothing was stored then.
     pub fn try_insert_with<R: Wait, F: FnOnce() -> V>(

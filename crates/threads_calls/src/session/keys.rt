@@ -6,9 +6,9 @@ ghost use Rattle.threads_calls.specs.Answers.{CameBack, HasRemoved, HasTried, Is
 ghost use Rattle.threads_rule.specs.Given.ActsActs.{ContainsKey, Remove, TryToInsert};
 ghost use Rattle.map_tables.specs.declared.node.Node.TheVariants.{Pair};
 ghost use Rattle.seize_views.specs.declared.view.Has.TheVariants.{Nothing};
-ghost use Rattle.seize_views.specs.declared.view.View.TheVariants.{Inside};
+ghost use Rattle.seize_views.specs.declared.view.SlotView.TheVariants.{Inside};
 
-use crate::session::{Session, refused, setting_in};
+use crate::session::{SessionBase, refused, setting_in};
 use map_machines::Lookup;
 use map_tables::{Hashes, Node};
 use papaya_raw::machines::{Answer, KeyAnswer, KeyCall, Machine};
@@ -67,7 +67,7 @@ fn came_of<K: Drop, V: Drop>(answer: &Answer, unstored: Option<Node<K, V>>) -> A
     Attempt::Present(key, value)
 }
 
-impl<'a, K: Eq + Hash, V, S: Hashes<K>> Session<'a, K, V, S> {
+impl<'a, K: Eq + Hash, V, S: Hashes<K>> SessionBase<'a, K, V, S> {
     /// Looks a key up within the section of its slot, and answers whether the map has a pair of it.
     pub fn contains_key<R: Wait>(&mut self, rt: &R, key: &K) -> bool
         requires inside { self.old.caller.seat.view.slot ≡ Inside self.old.slot Nothing }
@@ -84,7 +84,7 @@ impl<'a, K: Eq + Hash, V, S: Hashes<K>> Session<'a, K, V, S> {
     }
 }
 
-impl<'a, K: Eq + Hash + Drop, V: Drop, S: Hashes<K>> Session<'a, K, V, S> {
+impl<'a, K: Eq + Hash + Drop, V: Drop, S: Hashes<K>> SessionBase<'a, K, V, S> {
     /// Stores a pair within the section of its slot, if its key is not there yet; it comes back where it is. The faults are `Memory` and `Capacity`; the pair comes back
     /// then, too.
     pub fn try_insert<R: Wait>(

@@ -4,18 +4,18 @@ ghost use Rattle.threads_rule.specs.Errands.Looking.{found_of};
 ghost use Rattle.threads_callers.specs.Passing.{HasFoundUnder, HasRunUnder};
 ghost use Rattle.threads_rule.specs.Given.ActsActs.{Get};
 ghost use Rattle.seize_views.specs.declared.view.Has.TheVariants.{Nothing};
-ghost use Rattle.seize_views.specs.declared.view.View.TheVariants.{Inside};
+ghost use Rattle.seize_views.specs.declared.view.SlotView.TheVariants.{Inside};
 
-use crate::session::Session;
+use crate::session::SessionBase;
 use map_machines::Lookup;
 use map_tables::Hashes;
 use std::hash::Hash;
 use std::sync::Wait;
-use threads_callers::Pass;
+use threads_callers::MapPassSeat;
 
-impl<'a, K: Eq, V, S: Hashes<K>> Session<'a, K, V, S> {
+impl<'a, K: Eq, V, S: Hashes<K>> SessionBase<'a, K, V, S> {
     /// A pass more, which may be sent to a thread.
-    pub fn pass(&self) -> Pass<K, V, S>
+    pub fn pass(&self) -> MapPassSeat<K, V, S>
         ensures own { result.seat.base ≡ self.now.caller.blocks.now.words.id.views_name }
         ensures none { result.seat.view.calls ≡ [] }
     {
@@ -23,14 +23,14 @@ impl<'a, K: Eq, V, S: Hashes<K>> Session<'a, K, V, S> {
     }
 }
 
-impl<'a, K: Eq + Hash, V, S: Hashes<K>> Session<'a, K, V, S> {
+impl<'a, K: Eq + Hash, V, S: Hashes<K>> SessionBase<'a, K, V, S> {
     /// A pass looks a key up within the section of the session's slot, and is lent the value of its pair, if the map has one: it is there for as long as the session is
     /// borrowed, whoever replaces or removes the pair meanwhile, and whatever the pass looks up then. Any number of passes may look keys up under one session at a time.
     pub fn find_by<'g, R: Wait>(
         &'g self,
         rt: &R,
         key: &K,
-        pass: &mut Pass<K, V, S>,
+        pass: &mut MapPassSeat<K, V, S>,
     ) -> Option<&'g V>
         requires own { pass.old.seat.base ≡ self.now.caller.blocks.now.words.id.views_name }
         requires inside { self.now.caller.seat.view.slot ≡ Inside self.now.slot Nothing }

@@ -2,16 +2,16 @@
 ghost use Rattle.std.specs.Prelude.{◌≡◌, Some, None, true};
 ghost use Rattle.threads_callers.specs.Standing.{known_by};
 ghost use Rattle.map_tables.specs.Chunks.{is_incremental};
-ghost use Rattle.threads_rule.specs.declared.view.Work.TheVariants.{Nothing as NoWork};
+ghost use Rattle.threads_rule.specs.declared.view.SeatWork.TheVariants.{Nothing as NoWork};
 ghost use Rattle.seize_callers.specs.Kept.{is_home};
 
-use crate::session::Session;
+use crate::session::SessionBase;
 use map_tables::{Hashes, Node, Setting};
 use seize_blocks::{Blocks, Seat};
-use threads_callers::Caller;
+use threads_callers::MapCaller;
 use threads_rule::OfMaps;
 
-impl<'a, K: Eq, V, S: Hashes<K>> Session<'a, K, V, S> {
+impl<'a, K: Eq, V, S: Hashes<K>> SessionBase<'a, K, V, S> {
     /// The one of this seat, which knows a map of this setting and this hasher.
     pub fn of(
         blocks: &'a Blocks<Node<K, V>, OfMaps<S>>,
@@ -29,8 +29,8 @@ impl<'a, K: Eq, V, S: Hashes<K>> Session<'a, K, V, S> {
         ensures view { result.caller.seat.view ≡ seat.view }
         ensures blocks { result.caller.blocks.now ≡ blocks.now }
     {
-        Session {
-            caller: Caller::of(blocks, seat),
+        SessionBase {
+            caller: MapCaller::of(blocks, seat),
             hasher,
             setting,
             slot: 0,
@@ -49,7 +49,7 @@ impl<'a, K: Eq, V, S: Hashes<K>> Session<'a, K, V, S> {
         ensures free { result.0.view.work ≡ NoWork }
         ensures incremental { is_incremental result.1.mode ≡ true }
     {
-        let Session {
+        let SessionBase {
             caller,
             hasher: _,
             setting,

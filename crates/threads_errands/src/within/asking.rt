@@ -14,12 +14,12 @@ ghost use Rattle.map_tables.specs.declared.node.Node.TheVariants.{Pair};
 ghost use Rattle.threads_rule.specs.Views.Looks.{shown_in};
 ghost use Rattle.threads_rule.specs.Views.Begun.{replied};
 ghost use Rattle.threads_rule.specs.declared.view.Map.{Map};
-ghost use Rattle.threads_rule.specs.declared.view.Work.TheVariants.{Calls};
+ghost use Rattle.threads_rule.specs.declared.view.SeatWork.TheVariants.{Calls};
 
 use crate::turns::{Says, Telling};
 use crate::within::{Ran, Within};
 use map_tables::{Hashes, Node};
-use papaya_raw::machines::{Answer, Machine, Progress, Reply};
+use papaya_raw::machines::{Answer, Machine, MachineReply, Progress};
 use seize_words::{Fault, Link, Look};
 use std::hash::Hash;
 use std::marker::Brand;
@@ -60,7 +60,7 @@ fn outcome(pause: Pause) -> Result<Answer, Fault>
 }
 
 /// A reply was taken.
-fn taken<V: Drop>(back: Result<(), Reply<V>>)
+fn taken<V: Drop>(back: Result<(), MachineReply<V>>)
     requires taken { back ≡ Ok tt }
 {
     match back {
@@ -70,10 +70,14 @@ fn taken<V: Drop>(back: Result<(), Reply<V>>)
 }
 
 /// What a call is told by the answer of a test.
-fn said<V>(yes: bool) -> Reply<V>
+fn said<V>(yes: bool) -> MachineReply<V>
     ensures { result ≡ reply_of yes }
 {
-    if yes { Reply::Yes } else { Reply::No }
+    if yes {
+        MachineReply::Yes
+    } else {
+        MachineReply::No
+    }
 }
 
 /// The word of the pair that a call asks with.
@@ -89,7 +93,7 @@ fn word_of(pair: Option<u64>) -> u64
 
 impl<'a, K: Eq + Hash + Drop, V: Drop, S: Hashes<K>> Within<'a, K, V, S> {
     /// Tells its call this, as it is picked.
-    fn tells_as<B: Says<K, V>>(&mut self, _machine: &Machine<K, V>, _reply: &Reply<V>)
+    fn tells_as<B: Says<K, V>>(&mut self, _machine: &Machine<K, V>, _reply: &MachineReply<V>)
         requires machine { B.machine ≡ _machine.now }
         requires reply { B.reply ≡ _reply.now }
         requires knows { (map : Map S) × (self.old.seat.now.view.map ≡ Some map) }
@@ -106,7 +110,7 @@ impl<'a, K: Eq + Hash + Drop, V: Drop, S: Hashes<K>> Within<'a, K, V, S> {
         _hasher: &S,
         machine: &mut Machine<K, V>,
         pair: Option<u64>,
-        reply: Reply<V>,
+        reply: MachineReply<V>,
     )
         requires asks { (k : Kind) × (s : Stage) × IsAsking k s _hasher.now pair machine.old self.old.seat.now.view × IsFit k.takes s.told pair reply }
         ensures goes { (k : Kind) (s : Stage) → IsAsking k s _hasher.now pair machine.old self.old.seat.now.view → IsFit k.takes s.told pair reply → IsUnderWay k (stage_after s pair reply) _hasher.now machine.new self.new.seat.now.view }
@@ -151,7 +155,7 @@ impl<'a, K: Eq + Hash + Drop, V: Drop, S: Hashes<K>> Within<'a, K, V, S> {
         ensures stays { StaysThere self.old.seat.now.view self.new.seat.now.view }
         ensures same { IsSameSeat self.old self.new }
     {
-        self.tells(hasher, machine, pair, Reply::Insert(value));
+        self.tells(hasher, machine, pair, MachineReply::Insert(value));
         let pause = self.runs_on(rt, hasher, machine);
         let told = outcome(pause);
         self.ran(told, None)

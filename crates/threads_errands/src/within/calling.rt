@@ -11,7 +11,7 @@ ghost use Rattle.map_tables.specs.declared.node.Node.{Node};
 ghost use Rattle.threads_rule.specs.Views.Told.{HandsBack, MayCome, pair_in};
 ghost use Rattle.threads_rule.specs.Views.Rule.{section_of};
 ghost use Rattle.threads_rule.specs.declared.view.Map.{Map};
-ghost use Rattle.threads_rule.specs.declared.view.Work.TheVariants.{Nothing as NoWork};
+ghost use Rattle.threads_rule.specs.declared.view.SeatWork.TheVariants.{Nothing as NoWork};
 
 use crate::turns::{Beginning, Stepping, Wants};
 use crate::within::Within;

@@ -7,14 +7,14 @@ ghost use Rattle.map_machines.specs.Lookup.{looking};
 ghost use Rattle.map_tables.specs.Chunks.{is_incremental};
 ghost use Rattle.threads_rule.specs.Views.Rule.{section_of};
 ghost use Rattle.threads_rule.specs.declared.view.Map.{Map};
-ghost use Rattle.threads_rule.specs.declared.view.Work.TheVariants.{Nothing as NoWork};
+ghost use Rattle.threads_rule.specs.declared.view.SeatWork.TheVariants.{Nothing as NoWork};
 
 use crate::turns::{Beginning, Wants};
 use crate::within::Within;
 use map_machines::Lookup;
 use map_straight::{Sight, look_up};
 use map_tables::{Hashes, ResizeMode};
-use seize::Progress;
+use seize::Advance;
 use std::hash::Hash;
 use std::marker::Brand;
 use std::sync::Wait;
@@ -46,7 +46,7 @@ impl<'a, K: Eq, V, S: Hashes<K>> Within<'a, K, V, S> {
 
 impl<'a, K: Eq + Hash, V, S: Hashes<K>> Within<'a, K, V, S> {
     /// Takes the next step of its lookup.
-    fn looks(&mut self, lookup: &mut Lookup, key: &K) -> Progress<Option<u64>>
+    fn looks(&mut self, lookup: &mut Lookup, key: &K) -> Advance<Option<u64>>
         requires looks { LooksFor key.now lookup.old self.old.seat.now.view }
         ensures told { LookedSo K.eq key.now lookup.new result self.new.seat.now.view }
         ensures calls { HasTold (looking_told result) self.old.seat.now.view self.new.seat.now.view }
@@ -67,9 +67,9 @@ impl<'a, K: Eq + Hash, V, S: Hashes<K>> Within<'a, K, V, S> {
         let mut lookup = lookup;
         for _ in rt.forever() {
             match self.looks(&mut lookup, key) {
-                Progress::Goes => {}
-                Progress::Done(found) => return found,
-                Progress::Waits | Progress::Refused(_) => unreachable!(),
+                Advance::Goes => {}
+                Advance::Done(found) => return found,
+                Advance::Waits | Advance::Refused(_) => unreachable!(),
             }
         }
         unreachable!()

@@ -3,14 +3,14 @@ ghost use Rattle.std.specs.Prelude.{◌≡◌};
 ghost use Rattle.threads_errands.specs.Made.{IsSameSeat};
 ghost use Rattle.threads_rule.specs.Errands.Making.{BeginsMaking, CameTo, GetsOn, IsThis, KnowsStill, MadeSo, MakesMap, MayBegin, PlansJust, StaysChosen};
 ghost use Rattle.threads_rule.specs.Views.Rule.{stand_of};
-ghost use Rattle.threads_rule.specs.declared.view.Work.TheVariants.{Nothing as NoWork};
-ghost use Rattle.seize_views.specs.declared.view.View.TheVariants.{Rests};
+ghost use Rattle.threads_rule.specs.declared.view.SeatWork.TheVariants.{Nothing as NoWork};
+ghost use Rattle.seize_views.specs.declared.view.SlotView.TheVariants.{Rests};
 
-use crate::turns::{Making, Plans};
+use crate::turns::{MapMakingBegins, Plans};
 use crate::within::Within;
 use map_machines::NewMap;
 use map_tables::{Hashes, Setting};
-use seize::{Machine, Progress};
+use seize::{Advance, StepMachine};
 use seize_words::Fault;
 use std::marker::Brand;
 
@@ -24,7 +24,7 @@ impl<'a, K: Eq, V, S: Hashes<K>> Within<'a, K, V, S> {
         ensures begins { BeginsMaking (IsThis _hasher.now _opening.now) self.old.seat.now.view self.new.seat.now.view }
         ensures same { IsSameSeat self.old self.new }
     {
-        self.blocks.turn::<Making<B>>(&mut *self.seat);
+        self.blocks.turn::<MapMakingBegins<B>>(&mut *self.seat);
     }
 
     /// Begins to make a map of no table by this machine, with this hasher.
@@ -41,7 +41,7 @@ impl<'a, K: Eq, V, S: Hashes<K>> Within<'a, K, V, S> {
 
 impl<'a, K: Eq + Drop, V: Drop, S: Hashes<K>> Within<'a, K, V, S> {
     /// Takes the next step of the making.
-    fn makes(&mut self, opening: &mut NewMap) -> Progress<Setting>
+    fn makes(&mut self, opening: &mut NewMap) -> Advance<Setting>
         requires makes { (hasher : S) × MakesMap hasher opening.old self.old.seat.now.view }
         ensures told { (hasher : S) → MakesMap hasher opening.old self.old.seat.now.view → MadeSo hasher opening.new result self.new.seat.now.view }
         ensures map { KnowsStill result self.old.seat.now.view self.new.seat.now.view }
@@ -63,10 +63,10 @@ impl<'a, K: Eq + Drop, V: Drop, S: Hashes<K>> Within<'a, K, V, S> {
         let mut opening = opening;
         loop {
             match self.makes(&mut opening) {
-                Progress::Goes => {}
-                Progress::Done(setting) => return Ok(setting),
-                Progress::Refused(fault) => return Err(fault),
-                Progress::Waits => unreachable!(),
+                Advance::Goes => {}
+                Advance::Done(setting) => return Ok(setting),
+                Advance::Refused(fault) => return Err(fault),
+                Advance::Waits => unreachable!(),
             }
         }
     }

@@ -7,8 +7,8 @@ use Rattle.seize_words.specs.OneMemory.Plan.{Now, Seeing, Ends}
 use Rattle.seize_words.specs.OneMemory.Word.{block_in}
 use Rattle.seize_words.specs.declared.at.At.{At}
 use Rattle.seize_words.specs.declared.at.At.TheVariants.{Root}
-use Rattle.seize.specs.declared.progress.Progress.{Progress}
-use Rattle.seize.specs.declared.progress.Progress.TheVariants as progress
+use Rattle.seize.specs.declared.advance.Advance.{Advance}
+use Rattle.seize.specs.declared.advance.Advance.TheVariants as progress
 use Rattle.seize.specs.declared.rows.settle.Settled.{Settled}
 use Rattle.seize.specs.declared.rows.settle.Settled.TheVariants as settled
 use Rattle.map_tables.specs.Chunks.{is_incremental}
@@ -32,8 +32,8 @@ use Rattle.map_machines.specs.declared.copier.Copier.{Copier}
 use Rattle.map_machines.specs.declared.dispose.Dispose.{Dispose}
 use Rattle.map_machines.specs.declared.lookup.Lookup.{Lookup}
 use Rattle.map_machines.specs.declared.new_table.NewTable.{NewTable}
-use Rattle.map_machines.specs.declared.outcome.Outcome.{Outcome}
-use Rattle.map_machines.specs.declared.outcome.Outcome.TheVariants as outcome
+use Rattle.map_machines.specs.declared.yielding.Yielding.{Yielding}
+use Rattle.map_machines.specs.declared.yielding.Yielding.TheVariants as outcome
 use Rattle.papaya_raw.specs.Answers.{ended}
 use Rattle.papaya_raw.specs.CallFills.{asks_at, putting_by, fill_by, fills_with}
 use Rattle.papaya_raw.specs.Replies.{value_for, as_own}
@@ -145,20 +145,20 @@ module _ {K V Q : Type 0} (k : Kind) (s : Stage) (shown : ℕ → Option (Node K
         by true = over_so (ends.Answered (answers.Stored c.own))
         by false = record { so = record { kind = is.kind; holds = is.holds; gap = is.gap }; here = tt }
 
-    looked_says : (e : Lookup × Progress (Option ℕ)) → Says (looked c e)
+    looked_says : (e : Lookup × Advance (Option ℕ)) → Says (looked c e)
     looked_says (d, progress.Goes) = record { so = record { kind = is.kind; holds = is.holds; gap = is.gap }; here = tt }
     looked_says (d, progress.Waits) = record { so = record { kind = is.kind; holds = is.holds; gap = is.gap }; here = tt }
     looked_says (d, progress.Done (Some word)) = over_so (ends.Answered (answers.Found word))
     looked_says (d, progress.Done None) = over_so (ends.Answered answers.Absent)
     looked_says (d, progress.Refused fault) = over_so (ends.Refused fault)
 
-    first_says : (e : NewTable × Progress Table) → Says (first_made c e)
+    first_says : (e : NewTable × Advance Table) → Says (first_made c e)
     first_says (d, progress.Goes) = record { so = record { kind = is.kind; holds = is.holds; gap = is.gap }; here = tt }
     first_says (d, progress.Waits) = record { so = record { kind = is.kind; holds = is.holds; gap = is.gap }; here = tt }
     first_says (d, progress.Done table) = record { so = record { kind = is.kind; holds = is.holds; gap = is.gap }; here = tt }
     first_says (d, progress.Refused fault) = ends_so (ends.Refused fault)
 
-    next_says : (e : NewTable × Progress Table) → Says (next_made c e)
+    next_says : (e : NewTable × Advance Table) → Says (next_made c e)
     next_says (d, progress.Goes) = record { so = record { kind = is.kind; holds = is.holds; gap = is.gap }; here = tt }
     next_says (d, progress.Waits) = record { so = record { kind = is.kind; holds = is.holds; gap = is.gap }; here = tt }
     next_says (d, progress.Done table) = went_says table
@@ -170,14 +170,14 @@ module _ {K V Q : Type 0} (k : Kind) (s : Stage) (shown : ℕ → Option (Node K
     disposed_says answer (d, settled.Gave value) = record { so = record { kind = is.kind; holds = is.holds; gap = is.gap }; here = tt }
     disposed_says answer (d, settled.Done) = over_so (ends.Answered answer)
 
-    helped_says : (goal : Table) (e : Copier × Outcome (Node K V) Table) → Says (helped c goal e)
+    helped_says : (goal : Table) (e : Copier × Yielding (Node K V) Table) → Says (helped c goal e)
     helped_says goal (d, outcome.Goes) = record { so = record { kind = is.kind; holds = is.holds; gap = is.gap }; here = tt }
     helped_says goal (d, outcome.Waits) = record { so = record { kind = is.kind; holds = is.holds; gap = is.gap }; here = tt }
     helped_says goal (d, outcome.Gave value) = record { so = record { kind = is.kind; holds = is.holds; gap = is.gap }; here = tt }
     helped_says goal (d, outcome.Done table) = record { so = record { kind = is.kind; holds = is.holds; gap = is.gap }; here = tt }
     helped_says goal (d, outcome.Refused fault) = ends_so (ends.Refused fault)
 
-    copied_says : (e : Copier × Outcome (Node K V) Table) → Says (copied c e)
+    copied_says : (e : Copier × Yielding (Node K V) Table) → Says (copied c e)
     copied_says (d, outcome.Goes) = record { so = record { kind = is.kind; holds = is.holds; gap = is.gap }; here = tt }
     copied_says (d, outcome.Waits) = record { so = record { kind = is.kind; holds = is.holds; gap = is.gap }; here = tt }
     copied_says (d, outcome.Gave value) = record { so = record { kind = is.kind; holds = is.holds; gap = is.gap }; here = tt }

@@ -14,8 +14,8 @@ use Rattle.papaya_raw.specs.declared.machines.asking.Asking.TheVariants as askin
 use Rattle.papaya_raw.specs.declared.machines.asking.Gap.{Gap}
 use Rattle.papaya_raw.specs.declared.machines.asking.Gap.TheVariants as gaps
 use Rattle.papaya_raw.specs.declared.machines.asking.Replies.{Replies}
-use Rattle.papaya_raw.specs.declared.machines.asking.Reply.{Reply}
-use Rattle.papaya_raw.specs.declared.machines.asking.Reply.TheVariants as reply
+use Rattle.papaya_raw.specs.declared.machines.asking.MachineReply.{MachineReply}
+use Rattle.papaya_raw.specs.declared.machines.asking.MachineReply.TheVariants as reply
 use Rattle.papaya_raw.specs.declared.machines.asking.Takes.{Takes}
 use Rattle.papaya_raw.specs.declared.machines.asking.Takes.TheVariants as takes
 use Rattle.papaya_raw.specs.declared.machines.asking.Told.{Told}
@@ -84,7 +84,7 @@ module _ {K V : Type 0} (r : Replies K V) (own : ℕ) where
 
 module _ {K V Q : Type 0} (k : Kind) (s : Stage) (c : KeyCall K V Q) (is : IsSo k s c) where
   -- it takes the reply, and goes on
-  abbrev pub IsTaken : Stage → KeyCall K V Q × Result Unit (Reply V) → Type 0
+  abbrev pub IsTaken : Stage → KeyCall K V Q × Result Unit (MachineReply V) → Type 0
   IsTaken next end = GoesOn k next end.0 × (end.1 ≡ Ok tt)
 
   gap_value : (gap : Gap) (value : V) → s.told ≡ false → GoesOn k record { told = true; gap = true } (at_gap gap (with_absent c value)).0
@@ -99,7 +99,7 @@ module _ {K V Q : Type 0} (k : Kind) (s : Stage) (c : KeyCall K V Q) (is : IsSo 
       by gaps.Past = at_gap_says k record { told = true; gap = true } (λ b. None) (with_absent c value) so tt gaps.Past
       by gaps.Last = at_gap_says k record { told = true; gap = true } (λ b. None) (with_absent c value) so tt gaps.Last
 
-  absent_taken : (gap : Gap) (t : Takes) (told : Reply V) → IsFit t s.told None told → IsTaken (stage_after s None told) (absent_told t c gap told)
+  absent_taken : (gap : Gap) (t : Takes) (told : MachineReply V) → IsFit t s.told None told → IsTaken (stage_after s None told) (absent_told t c gap told)
   absent_taken gap takes.Values (reply.Insert value) fit = (gap_value gap value fit.1, refl)
   absent_taken gap takes.Changes (reply.Insert value) fit = (gap_value gap value fit.1, refl)
   absent_taken gap takes.Nothing (reply.Insert value) fit = absurd fit.0
@@ -128,7 +128,7 @@ module _ {K V Q : Type 0} (k : Kind) (s : Stage) (c : KeyCall K V Q) (is : IsSo 
   removed : (word : ℕ) → GoesOn k s (burying (with_present c word tells.Removes) word).0
   removed word = burying_goes k s (with_present c word tells.Removes) (record { kind = is.kind; holds = present_removed c.replies c.own s.told is.holds (block_in word); gap = is.gap }) word
 
-  present_taken : (word : ℕ) (t : Takes) (told : Reply V) → IsFit t s.told (Some word) told → IsTaken (stage_after s (Some word) told) (present_told t c word told)
+  present_taken : (word : ℕ) (t : Takes) (told : MachineReply V) → IsFit t s.told (Some word) told → IsTaken (stage_after s (Some word) told) (present_told t c word told)
   present_taken word takes.Values (reply.Insert value) fit = (present_filled word value fit.1, refl)
   present_taken word takes.Changes (reply.Insert value) fit = (present_filled word value fit.1, refl)
   present_taken word takes.Nothing (reply.Insert value) fit = absurd fit.0
@@ -150,7 +150,7 @@ module _ {K V Q : Type 0} (k : Kind) (s : Stage) (c : KeyCall K V Q) (is : IsSo 
   present_taken word takes.Values reply.No fit = absurd fit
   present_taken word takes.Changes reply.No fit = absurd fit
 
-module _ {K V Q : Type 0} (k : Kind) (s : Stage) (shown : ℕ → Option (Node K V)) (c : KeyCall K V Q) (told : Reply V) where
+module _ {K V Q : Type 0} (k : Kind) (s : Stage) (shown : ℕ → Option (Node K V)) (c : KeyCall K V Q) (told : MachineReply V) where
   its_takes : IsSo k s c → (pair : Option ℕ) → IsFit k.takes s.told pair told → IsFit c.replies.takes s.told pair told
   its_takes is pair fit = subst (λ (x : Kind). IsFit x.takes s.told pair told) (sym is.kind) fit
 

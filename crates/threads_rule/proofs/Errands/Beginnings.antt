@@ -12,20 +12,20 @@ use Rattle.map_machines.specs.declared.lookup.Lookup.{Lookup}
 use Rattle.map_machines.specs.declared.new_map.NewMap.{NewMap}
 use Rattle.papaya_raw.specs.CallPoints.{getting, standing}
 use Rattle.papaya_raw.specs.declared.machines.call.Calling.TheVariants.{Looks}
-use Rattle.papaya_raw.specs.declared.machines.asking.Reply.{Reply}
+use Rattle.papaya_raw.specs.declared.machines.asking.MachineReply.{MachineReply}
 use Rattle.papaya_raw.specs.declared.machines.call.KeyCall.{KeyCall}
 use Rattle.papaya_raw.specs.declared.machines.machine.Machine.{Machine}
 use Rattle.papaya_raw.specs.declared.machines.machine.Machine.TheVariants.{Key}
 use Rattle.many_acts.specs.Acts.Acts.{Wanted, Get}
 use Rattle.seize_views.specs.declared.view.Fixed.{Fixed}
-use Rattle.seize_views.specs.declared.view.View.TheVariants.{Rests}
+use Rattle.seize_views.specs.declared.view.SlotView.TheVariants.{Rests}
 use Rattle.threads_rule.specs.Views.Begun.{machine_for, making, replied}
 use Rattle.threads_rule.specs.Views.Rule.{Holds, KeepsFor, Leans, LeansOn, section_of, stand_of}
 use Rattle.threads_rule.specs.Views.Told.{turned, turned_by}
 use Rattle.threads_rule.specs.declared.view.Map.{Map}
 use Rattle.threads_rule.specs.declared.view.View.{View}
-use Rattle.threads_rule.specs.declared.view.Work.{Work}
-use Rattle.threads_rule.specs.declared.view.Work.TheVariants.{Nothing, Calls, Makes}
+use Rattle.threads_rule.specs.declared.view.SeatWork.{SeatWork}
+use Rattle.threads_rule.specs.declared.view.SeatWork.TheVariants.{Nothing, Calls, Makes}
 use Rattle.threads_rule.proofs.Views.Laws.{calls_are_told, calls_begin, makings_begin}
 use Rattle.threads_rule.specs.Errands.Calling.{IsUnderWay, MayDo, wanted_of}
 use Rattle.threads_rule.specs.CallKinds.Kinds.{Kind, Stage}
@@ -68,7 +68,7 @@ module _ {K V S : Type 0} (plans : S → NewMap → Type 0) (hasher : S) (openin
 
 module _ {K V S : Type 0} (same : K → K → Bool) (hash : S → K → ℕ) (fixed : Fixed) (id : ℕ) (v : View K V S) where
   -- its call may be told this
-  pub may_tell : (map : Map S) (machine : Machine K V K) (reply : Reply V) → v.map ≡ Some map → v.work ≡ Calls machine
+  pub may_tell : (map : Map S) (machine : Machine K V K) (reply : MachineReply V) → v.map ≡ Some map → v.work ≡ Calls machine
       → Turns (Holds same hash fixed) KeepsFor id v (λ w. (v.work ≡ Calls machine) × (w ≡ replied v machine reply))
   may_tell map machine reply knows works =
       turns_to same hash fixed id v _ (λ w. (v.work ≡ Calls machine) × (w ≡ replied v machine reply)) (λ w e. (works, e)) (calls_are_told V same hash fixed id v map machine reply knows works)
@@ -136,13 +136,13 @@ module _ {K V S : Type 0} where
   pub making_leans : (plans : S → NewMap → Type 0) (v w : View K V S) (n : ℕ) {X : Type 0} → BeginsMaking plans v w → Leans w n → Leans v n ⊎ X
   making_leans plans v w n {X} begins leans = leans_still v w n X (ap (λ (u : View K V S). u.under) begins.4) leans
 
-  pub told_leans : (machine : Machine K V K) (reply : Reply V) (v w : View K V S) (n : ℕ) {X : Type 0} → w ≡ replied v machine reply → Leans w n → Leans v n ⊎ X
+  pub told_leans : (machine : Machine K V K) (reply : MachineReply V) (v w : View K V S) (n : ℕ) {X : Type 0} → w ≡ replied v machine reply → Leans w n → Leans v n ⊎ X
   told_leans machine reply v w n {X} told leans = leans_still v w n X (ap (λ (u : View K V S). u.under) told) leans
 
   pub turned_leans : (same : K → K → Bool) (hash : S → K → ℕ) (v w : View K V S) (n : ℕ) {X : Type 0} → turned same hash v w → Leans w n → Leans v n ⊎ X
   turned_leans same hash v w n {X} turns leans = leans_still v w n X (by v.map v.work turns) leans
     where
-      by : (map : Option (Map S)) (work : Work K V S) → turned_by same hash v map work w → w.under ≡ v.under
+      by : (map : Option (Map S)) (work : SeatWork K V S) → turned_by same hash v map work w → w.under ≡ v.under
       by (Some map) (Calls machine) is = ap (λ (u : View K V S). u.under) is.2
       by (Some map) Nothing is = absurd is
       by (Some map) (Makes m hasher opening) is = absurd is

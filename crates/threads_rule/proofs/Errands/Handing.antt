@@ -21,7 +21,7 @@ use Rattle.papaya_raw.specs.declared.machines.progress.Progress.{Progress}
 use Rattle.papaya_raw.specs.declared.machines.progress.Progress.TheVariants as progress
 use Rattle.papaya_raw.specs.Progress.{of_called}
 use Rattle.threads_rule.specs.Views.Told.{HandsBack, MayCome, pair_in}
-use Rattle.threads_rule.specs.declared.view.Run.{Run}
+use Rattle.threads_rule.specs.declared.view.BegunCall.{BegunCall}
 use Rattle.owner_calls.specs.Owned.Owned.{PutsIt}
 use Rattle.owner_calls.proofs.Owned.Owned.ComesBack.{TellsEnd, over_tells}
 use Rattle.owner_calls.proofs.Owned.Owned.HandsBack.{HasPair, HasPairAt, IsOver, KeepsPair, pair_kept}
@@ -63,7 +63,7 @@ module _ {K V : Type 0} where
   HasNext pair machine back told = StillHas pair machine back
 
   module _ (pair : Node K V) (back : Option (Node K V)) where
-    has_by : (runs : List (Run K V)) → pair_in runs ≡ Some pair → (c : KeyCall K V K) (told : Called (Node K V)) → KeepsPair (c, told) → HandsBack runs (of_called told)
+    has_by : (runs : List (BegunCall K V)) → pair_in runs ≡ Some pair → (c : KeyCall K V K) (told : Called (Node K V)) → KeepsPair (c, told) → HandsBack runs (of_called told)
         → HasNext pair (kinds.Key c) back (of_called told)
     has_by runs is c tells.Goes keeps hands = inr keeps
     has_by runs is c tells.Waits keeps hands = inr keeps
@@ -82,7 +82,7 @@ module _ {K V : Type 0} where
     back_by c (tells.Done answer) end is = λ e. is
     back_by c (tells.Refused fault) end is = is
 
-    module _ (same : K → K → Bool) (hashes : K → ℕ) (runs : List (Run K V)) (its : pair_in runs ≡ Some pair) where
+    module _ (same : K → K → Bool) (hashes : K → ℕ) (runs : List (BegunCall K V)) (its : pair_in runs ≡ Some pair) where
       key_next : (c : KeyCall K V K) (end : Machine K V K × Progress (Node K V)) → MayCome (plan_as as_machine (call_plan same same hashes c)) end → HandsBack runs end.1
           → StillHas pair (kinds.Key c) back → HasNext pair end.0 back end.1
       key_next c end (m, n, s) hands has =

@@ -4,8 +4,8 @@ use Rattle.std.proofs.Common.{◌≡◌, ℕ, Bool, true, false, refl, sym, subs
 use Rattle.seize_words.specs.OneMemory.Op.{Out, Found, Stored, Exchanged, Made, Taken, Roomed}
 use Rattle.seize_words.specs.OneMemory.Plan.{Now, Seeing, Ends}
 use Rattle.seize_words.specs.OneMemory.Word.{block_in}
-use Rattle.seize.specs.declared.progress.Progress.{Progress}
-use Rattle.seize.specs.declared.progress.Progress.TheVariants as progress
+use Rattle.seize.specs.declared.advance.Advance.{Advance}
+use Rattle.seize.specs.declared.advance.Advance.TheVariants as progress
 use Rattle.map_tables.specs.Chunks.{is_incremental}
 use Rattle.map_tables.specs.Finding.{finding, vacant, may_name}
 use Rattle.map_tables.specs.Nodes.{table_seen}
@@ -53,7 +53,7 @@ module _ {K V : Type 0} (keys : K → Bool) where
   ShowsPair shown word = (key : K) × (value : V) × (keys key ≡ true) × (shown (block_in word) ≡ Some (Pair key value))
 
   -- what a step of a lookup tells: it goes on, or has ended
-  abbrev pub TellsSo : (ℕ → Option (Node K V)) → Lookup × Progress (Option ℕ) → Type 0
+  abbrev pub TellsSo : (ℕ → Option (Node K V)) → Lookup × Advance (Option ℕ) → Type 0
   TellsSo shown (c, progress.Goes) = IsOn c.stands
   TellsSo shown (c, progress.Waits) = ⊥
   TellsSo shown (c, progress.Done None) = Unit {0}
@@ -90,7 +90,7 @@ module _ {K V : Type 0} (keys : K → Bool) where
     value_tells trial word Shards is = none_tells trial word
 
     -- the word of a try was read
-    word_tells : (trial : Trial) (word : ℕ) (end : Lookup × Progress (Option ℕ)) → Ends shown (word_read keys c trial word) end → TellsSo shown end
+    word_tells : (trial : Trial) (word : ℕ) (end : Lookup × Advance (Option ℕ)) → Ends shown (word_read keys c trial word) end → TellsSo shown end
     word_tells trial word end = by (may_name c.hash word)
       where
         by : (k : Bool) → Ends shown (if k then Seeing (block_in word) (λ value. Now (told c trial word (names_pair keys value))) else Now (told c trial word false)) end
@@ -99,7 +99,7 @@ module _ {K V : Type 0} (keys : K → Bool) where
         by false e = subst (TellsSo shown) (sym e) (none_tells trial word)
 
     -- the link to a table was read
-    table_tells : (link : ℕ) (end : Lookup × Progress (Option ℕ)) → Ends shown (table_read c link) end → TellsSo shown end
+    table_tells : (link : ℕ) (end : Lookup × Advance (Option ℕ)) → Ends shown (table_read c link) end → TellsSo shown end
     table_tells link end = by (link == 0)
       where
         by : (k : Bool)
@@ -108,10 +108,10 @@ module _ {K V : Type 0} (keys : K → Bool) where
         by true e = subst (TellsSo shown) (sym e) tt
         by false e = subst (TellsSo shown) (sym e.2) tt
 
-    stays_tells : (end : Lookup × Progress (Option ℕ)) → IsOn c.stands → end ≡ (c, progress.Goes) → TellsSo shown end
+    stays_tells : (end : Lookup × Advance (Option ℕ)) → IsOn c.stands → end ≡ (c, progress.Goes) → TellsSo shown end
     stays_tells end on e = subst (TellsSo shown) (sym e) on
 
-    tells_at : (p : Looking) (out : Out (Node K V)) (end : Lookup × Progress (Option ℕ)) → IsOn p → IsOn c.stands → Ends shown (rest_of (plan_at keys c p) out) end → TellsSo shown end
+    tells_at : (p : Looking) (out : Out (Node K V)) (end : Lookup × Advance (Option ℕ)) → IsOn p → IsOn c.stands → Ends shown (rest_of (plan_at keys c p) out) end → TellsSo shown end
     tells_at at.Roots (Found link) end is on e = table_tells link end e
     tells_at at.Roots Stored end is on e = stays_tells end on e
     tells_at at.Roots (Exchanged r) end is on e = stays_tells end on e
@@ -132,7 +132,7 @@ module _ {K V : Type 0} (keys : K → Bool) where
     tells_at (at.Nexts table) (Roomed r) end is on e = stays_tells end on e
     tells_at (at.Over found) out end is on e = absurd is
 
-  pub tells : (shown : ℕ → Option (Node K V)) (c : Lookup) (out : Out (Node K V)) (end : Lookup × Progress (Option ℕ)) → IsOn c.stands
+  pub tells : (shown : ℕ → Option (Node K V)) (c : Lookup) (out : Out (Node K V)) (end : Lookup × Advance (Option ℕ)) → IsOn c.stands
       → Ends shown (rest_of (lookup_plan keys c) out) end → TellsSo shown end
   tells shown c out end on e = tells_at shown c c.stands out end on on e
 

@@ -4,8 +4,8 @@ use Rattle.std.proofs.Common.{◌≡◌, ℕ, ◌+◌, Bool, true, false, refl, 
 use Rattle.std.proofs.lemmas.Bool.{eq-eqb, ltb-true}
 use Rattle.seize_words.specs.OneMemory.Op.{Op, Out, Found, Stored, Exchanged, Made, Taken, Roomed}
 use Rattle.seize_words.specs.declared.fault.Fault.TheVariants.{RootsUsedUp}
-use Rattle.seize.specs.declared.progress.Progress.{Progress}
-use Rattle.seize.specs.declared.progress.Progress.TheVariants as progress
+use Rattle.seize.specs.declared.advance.Advance.{Advance}
+use Rattle.seize.specs.declared.advance.Advance.TheVariants as progress
 use Rattle.map_tables.specs.declared.node.Node.{Node}
 use Rattle.map_tables.specs.declared.setting.Setting.{Setting}
 use Rattle.map_machines.specs.NewMap.{with_shards, with_counter, at_root, goes, done, refused, plan_at, new_map_plan}
@@ -21,13 +21,13 @@ use Rattle.threads_rule.specs.Errands.Making.{IsEarly, left_at, StaysChosen, Get
 use Rattle.threads_rule.proofs.CallKinds.Plans.{IsDo, LeavesValues, IsAnsweredBy, answered_by}
 
 -- what a step tells: it goes on early, with no table to make
-abbrev pub GoesEarly : NewMap × Progress Setting → Type 0
+abbrev pub GoesEarly : NewMap × Advance Setting → Type 0
 GoesEarly (d, progress.Goes) = IsEarly d.stands × (d.len ≡ 0)
 GoesEarly (d, progress.Waits) = ⊥
 GoesEarly (d, progress.Done setting) = Unit {0}
 GoesEarly (d, progress.Refused fault) = Unit {0}
 
-abbrev pub TellsSo : NewMap → NewMap × Progress Setting → Type 0
+abbrev pub TellsSo : NewMap → NewMap × Advance Setting → Type 0
 TellsSo c end = GoesEarly end × StaysChosen c end.0 end.1 × GetsOn c end.0 end.1
 
 module _ (c : NewMap) (none : c.len ≡ 0) where
@@ -49,7 +49,7 @@ module _ (c : NewMap) (none : c.len ≡ 0) where
 
 module _ {K V : Type 0} where
   module _ (c : NewMap) (none : c.len ≡ 0) (shown : ℕ → Option (Node K V)) where
-    tells_at : (p : Opening) → c.stands ≡ p → IsEarly p → (out : Out (Node K V)) (end : NewMap × Progress Setting) → IsAnsweredBy (plan_at {K = K} {V = V} c p) out
+    tells_at : (p : Opening) → c.stands ≡ p → IsEarly p → (out : Out (Node K V)) (end : NewMap × Advance Setting) → IsAnsweredBy (plan_at {K = K} {V = V} c p) out
         → FollowsBy shown (plan_at {K = K} {V = V} c p) out end → TellsSo c end
     tells_at at.Takes is early (Exchanged (Ok free)) end fits e =
         let before = ap (λ (p : Opening). left_at p (c.roots - c.setting.root)) is in
@@ -76,7 +76,7 @@ module _ {K V : Type 0} where
     tells_at at.Over is early out end fits e = absurd early
     tells_at (at.Refused fault) is early out end fits e = absurd early
 
-    pub tells : IsEarly c.stands → (op : Op (Node K V)) (out : Out (Node K V)) (end : NewMap × Progress Setting) → op_in (new_map_plan {K = K} {V = V} c) ≡ Some op → IsAnswer op out
+    pub tells : IsEarly c.stands → (op : Op (Node K V)) (out : Out (Node K V)) (end : NewMap × Advance Setting) → op_in (new_map_plan {K = K} {V = V} c) ≡ Some op → IsAnswer op out
         → FollowsBy shown (new_map_plan {K = K} {V = V} c) out end → TellsSo c end
     tells early op out end e fits f = tells_at c.stands refl early out end (answered_by (new_map_plan {K = K} {V = V} c) op out e fits) f
 

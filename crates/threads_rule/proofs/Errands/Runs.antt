@@ -9,14 +9,14 @@ use Rattle.papaya_raw.specs.declared.machines.progress.Progress.{Progress}
 use Rattle.papaya_raw.specs.declared.machines.progress.Progress.TheVariants as progress
 use Rattle.map_tables.specs.declared.node.Node.{Node}
 use Rattle.threads_rule.specs.Views.Told.{newest_told, pair_in, untold}
-use Rattle.threads_rule.specs.declared.view.Run.{Run}
+use Rattle.threads_rule.specs.declared.view.BegunCall.{BegunCall}
 use Rattle.threads_rule.specs.declared.view.View.{View}
-use Rattle.threads_rule.specs.declared.view.Work.TheVariants.{Nothing}
+use Rattle.threads_rule.specs.declared.view.SeatWork.TheVariants.{Nothing}
 use Rattle.threads_rule.proofs.Views.Pairs.{newest_pair}
 use Rattle.threads_rule.specs.Errands.Calling.{CalledSo, ComesBack, HasEnded, IsBack, IsCalling, IsGoing, IsNoQuestion, outcome_of, pair_wanted}
 use Rattle.threads_rule.specs.Errands.Looking.{Begins, HasRun, HasTold, IsOfThem}
 
-retold : {K V : Type 0} (told before : Progress (Node K V)) (runs : List (Run K V)) → newest_told told (newest_told before runs) ≡ newest_told told runs
+retold : {K V : Type 0} (told before : Progress (Node K V)) (runs : List (BegunCall K V)) → newest_told told (newest_told before runs) ≡ newest_told told runs
 retold told before [] = refl
 retold told before (run ∷ runs) = refl
 

@@ -10,14 +10,14 @@ use Rattle.seize_acts.specs.Bounds.Bounds.{IsAloneOnSlot}
 use Rattle.map_tables.specs.declared.node.Node.{Node}
 use Rattle.seize_views.specs.Views.Rows.{row_of, use_of}
 use Rattle.seize_views.specs.declared.view.Has.TheVariants.{Nothing as NoBlock}
-use Rattle.seize_views.specs.declared.view.View.{View as SlotView}
-use Rattle.seize_views.specs.declared.view.View.TheVariants as slot_view
+use Rattle.seize_views.specs.declared.view.SlotView.{SlotView}
+use Rattle.seize_views.specs.declared.view.SlotView.TheVariants as slot_view
 use Rattle.seize_views.proofs.Views.Aside.{settles_used}
 use Rattle.threads_rule.specs.Views.Rule.{IsSlot, IsIdle, HasRow, DoesSo, IsLeant, LeansOn, Leans, Fits, caller_at, acts_in, section_of, place_of}
 use Rattle.threads_rule.specs.declared.view.Map.{Map}
 use Rattle.threads_rule.specs.declared.view.View.{View}
-use Rattle.threads_rule.specs.declared.view.Work.{Work}
-use Rattle.threads_rule.specs.declared.view.Work.TheVariants.{Nothing, Calls, Makes}
+use Rattle.threads_rule.specs.declared.view.SeatWork.{SeatWork}
+use Rattle.threads_rule.specs.declared.view.SeatWork.TheVariants.{Nothing, Calls, Makes}
 use Rattle.threads_rule.proofs.Views.Leaves.{own_section}
 use Rattle.threads_rule.proofs.Views.Whose.{Seated, whose}
 
@@ -47,7 +47,7 @@ module _ {K V S : Type 0} (same : K → K → Bool) (hash : S → K → ℕ) (sc
   by_section slot None t is = inl (Inside 0, ap use_of (own_section slot t is))
   by_section slot (Some at) t is = inr (at.0, ap (λ (b : ℕ). Some (at.0, b)) (same_some at.1 t is))
 
-  by_work : (a slot : ℕ) (k : Seated same hash scene view seats unborn a) → SettlesOn slot (scene.world.row a) → (work : Work K V S) (map : Option (Map S))
+  by_work : (a slot : ℕ) (k : Seated same hash scene view seats unborn a) → SettlesOn slot (scene.world.row a) → (work : SeatWork K V S) (map : Option (Map S))
       → DoesSo same hash scene a k.knows.under k.knows.slot map work → Has a slot
   by_work a slot k on Nothing map d =
       record { seat = k.seat; knows = k.knows; here = k.here; caller = k.caller; has = inl (settles_used k.knows.slot slot (subst (λ (x : Row). SettlesOn slot x) d.row on)) }

@@ -6,7 +6,7 @@ use Rattle.map_tables.specs.Chunks.{is_incremental}
 use Rattle.map_tables.specs.declared.node.Node.{Node}
 use Rattle.map_tables.specs.declared.setting.Setting.{Setting}
 use Rattle.papaya_raw.specs.Machine.{machine_replied}
-use Rattle.papaya_raw.specs.declared.machines.asking.Reply.{Reply}
+use Rattle.papaya_raw.specs.declared.machines.asking.MachineReply.{MachineReply}
 use Rattle.papaya_raw.specs.declared.machines.machine.Machine.{Machine}
 use Rattle.many_acts.specs.Given.CallersRows.{IsRowOn}
 use Rattle.owner_calls.specs.Given.CallersTogether.{UnderWay}
@@ -22,17 +22,17 @@ use Rattle.seize_acts.specs.Acts.Acts.{rests, is_within}
 use Rattle.seize_acts.proofs.Acts.Answers.{same_some}
 use Rattle.seize_seats.specs.Seats.State.{State, view_of, Goes}
 use Rattle.seize_views.specs.declared.view.Fixed.{Fixed}
-use Rattle.seize_views.specs.declared.view.View.{View as SlotView}
+use Rattle.seize_views.specs.declared.view.SlotView.{SlotView}
 use Rattle.threads_rule.specs.Views.Begun.{machine_for, calling, replied}
 use Rattle.threads_rule.specs.Views.Told.{begun_with, pair_in, untold}
 use Rattle.threads_rule.specs.Views.Promises.{CallsBegin, CallsAreTold}
 use Rattle.threads_rule.specs.Views.Listed.{Called, calls_of, plain, AreNumbered, IsNewest}
 use Rattle.threads_rule.specs.Views.Rule.{MapsWorld, HasRow, DoesSo, KnowsMap, KnowsPair, IsRun, AreRuns, Fits, Holds, KeepsFor, caller_at, pair_of, IsAside, acts_in, section_of}
 use Rattle.threads_rule.specs.declared.view.Map.{Map}
-use Rattle.threads_rule.specs.declared.view.Run.{Run}
+use Rattle.threads_rule.specs.declared.view.BegunCall.{BegunCall}
 use Rattle.threads_rule.specs.declared.view.View.{View}
-use Rattle.threads_rule.specs.declared.view.Work.{Work}
-use Rattle.threads_rule.specs.declared.view.Work.TheVariants.{Nothing, Calls}
+use Rattle.threads_rule.specs.declared.view.SeatWork.{SeatWork}
+use Rattle.threads_rule.specs.declared.view.SeatWork.TheVariants.{Nothing, Calls}
 use Rattle.threads_rule.proofs.Views.Knows.{knows_within}
 use Rattle.threads_rule.proofs.Views.Leaves.{Leaves, leaves_all, own_section, section_place, section_inside, own_idle, map_on, call_here}
 use Rattle.threads_rule.proofs.Views.Listed.{is_its, is_other, numbered_on}
@@ -100,13 +100,13 @@ module _ {K V S : Type 0} (same : K → K → Bool) (hash : S → K → ℕ) (fi
     its_does : DoesSo same hash n i v.under v.slot (Some map) (Calls machine)
     its_does = (t, section, within t section, record { call = u; here = call_here scene.calls map.number i (Some u); is = is }, on_row)
 
-    abbrev w : List (Run K V) → View K V S
+    abbrev w : List (BegunCall K V) → View K V S
     w runs = record { slot = v.slot; under = v.under; map = v.map; work = Calls machine; looks = []; held = []; began = v.began; calls = runs }
 
     leaves : Leaves same hash fixed.batch_size scene n i None
     leaves = leaves_all same hash fixed.batch_size scene map.number i (Some u)
 
-    go : (act : Act K V S) (runs : List (Run K V)) → AreNumbered 0 (s.world.doings ++ Does act ∷ []) (are_so same hash fixed s h).fresh.0 → pair_of u ≡ pair_in runs
+    go : (act : Act K V S) (runs : List (BegunCall K V)) → AreNumbered 0 (s.world.doings ++ Does act ∷ []) (are_so same hash fixed s h).fresh.0 → pair_of u ≡ pair_in runs
         → Moved same hash fixed s h id act s.memory (w runs) n
     go act runs numbered pair = record {
       memory = (are_so same hash fixed s h).memory;
@@ -136,7 +136,7 @@ module _ {K V S : Type 0} (same : K → K → Bool) (hash : S → K → ℕ) (fi
   -- it has nothing under way, and begins to do this
   module _ (t : ℕ) (section : section_of v.under v.slot ≡ Some t) (free : v.work ≡ Nothing) (incremental : is_incremental map.setting.mode ≡ true) (wanted : Wanted K V) (plainly : plain wanted ≡ wanted) where
     does : HasRow scene i v.slot
-    does = subst (λ (x : Work K V S). DoesSo same hash scene i v.under v.slot v.map x) free fits.does
+    does = subst (λ (x : SeatWork K V S). DoesSo same hash scene i v.under v.slot v.map x) free fits.does
 
     place_is : place ≡ t
     place_is = section_place v.under v.slot t section
@@ -194,7 +194,7 @@ module _ {K V S : Type 0} (same : K → K → Bool) (hash : S → K → ℕ) (fi
     abbrev call : Called K V
     call = record { caller = i; map = map.number; wanted = wanted; told = untold }
 
-    abbrev run : Run K V
+    abbrev run : BegunCall K V
     run = record { began = machine; told = untold }
 
     is_run : IsRun same hash to call run
@@ -222,7 +222,7 @@ module _ {K V S : Type 0} (same : K → K → Bool) (hash : S → K → ℕ) (fi
         adds (λ x. x ≡ calling v machine) refl
 
   -- its call is told this
-  module _ (machine : Machine K V K) (works : v.work ≡ Calls machine) (reply : Reply V) where
+  module _ (machine : Machine K V K) (works : v.work ≡ Calls machine) (reply : MachineReply V) where
     told_may : MayDo V same hash fixed.batch_size fixed.roots slot_of (Does (TellsCall i map.number reply)) h.reached.0
     told_may = (ap is_none h.nobody, ap is_none (called_at same hash fixed s h id v at_id map machine knows works))
 
@@ -240,7 +240,7 @@ module _ {K V S : Type 0} (same : K → K → Bool) (hash : S → K → ℕ) (fi
     its_pair : pair_of told_led.3 ≡ pair_in v.calls
     its_pair =
         let knows_pair =
-        subst (λ (x : Work K V S). KnowsPair same hash scene i (Some map) x v.calls) works
+        subst (λ (x : SeatWork K V S). KnowsPair same hash scene i (Some map) x v.calls) works
         (subst (λ (x : Option (Map S)). KnowsPair same hash scene i x v.work v.calls) knows fits.pair) in
         told_pair same fixed.batch_size fixed.roots slot_of told_led.0 i told_led.2 reply told_led.3 told_led.7.0 ∙ knows_pair told_led.2 told_led.4
 

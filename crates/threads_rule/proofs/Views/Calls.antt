@@ -8,8 +8,8 @@ use Rattle.threads_rule.specs.Views.Promises.{CallsGoOn, CallsTurn}
 use Rattle.threads_rule.specs.Views.Rule.{Holds, KeepsFor}
 use Rattle.threads_rule.specs.Views.Told.{told, told_by, turned, turned_by, called}
 use Rattle.threads_rule.specs.declared.view.Map.{Map}
-use Rattle.threads_rule.specs.declared.view.Work.{Work}
-use Rattle.threads_rule.specs.declared.view.Work.TheVariants.{Calls}
+use Rattle.threads_rule.specs.declared.view.SeatWork.{SeatWork}
+use Rattle.threads_rule.specs.declared.view.SeatWork.TheVariants.{Calls}
 use Rattle.threads_rule.proofs.Views.Looked.{may_op, may_turn}
 use Rattle.threads_rule.proofs.Views.UnderWay.{scene, so, step_plan, may, goes, hands}
 
@@ -23,7 +23,7 @@ module _ {K S : Type 0} (V : Type 0) (same : K → K → Bool) (hash : S → K �
         λ out m2 took.
             let made = step.1 out m2 (subst (λ (m : Mem (Node K V)). Took m op out m2) is took) in
             goes same hash fixed s h id v at_id map machine knows works m2 made.end made.steps made.looks made.seen (told same hash v op out)
-            (subst (λ (k : Work K V S). told_by same hash v v.map k op out (called v map machine made.end made.looks)) (sym works)
+            (subst (λ (k : SeatWork K V S). told_by same hash v v.map k op out (called v map machine made.end made.looks)) (sym works)
             (subst (λ (o : Option (Map S)). told_by same hash v o (Calls machine) op out (called v map machine made.end made.looks)) (sym knows) (
               made.end,
               made.follows,
@@ -42,5 +42,5 @@ module _ {K S : Type 0} (V : Type 0) (same : K → K → Bool) (hash : S → K �
       let is = (so same hash fixed s h id v at_id map machine knows works).memory in
       subst (λ (x : Mem (Node K V)). Goes (Holds same hash fixed) KeepsFor s x id (turned same hash v)) (sym is)
       (goes same hash fixed s h id v at_id map machine knows works m step.0 step.1 step.2 step.3 (turned same hash v)
-      (subst (λ (k : Work K V S). turned_by same hash v v.map k (called v map machine step.0 step.2)) (sym works)
+      (subst (λ (k : SeatWork K V S). turned_by same hash v v.map k (called v map machine step.0 step.2)) (sym works)
       (subst (λ (o : Option (Map S)). turned_by same hash v o (Calls machine) (called v map machine step.0 step.2)) (sym knows) (step.0, step.4, refl, (m, m, step.1), hands same hash fixed s h id v at_id map machine knows works m step.0 step.1 step.2 step.3))))

@@ -15,8 +15,8 @@ use Rattle.seize_views.specs.declared.view.Deed.{Deed}
 use Rattle.seize_views.specs.declared.view.Deed.TheVariants.{NoneYet}
 use Rattle.seize_views.specs.declared.view.Fixed.{Fixed}
 use Rattle.seize_views.specs.declared.view.Noted.{Noted}
-use Rattle.seize_views.specs.declared.view.View.{View as SlotView}
-use Rattle.seize_views.specs.declared.view.View.TheVariants as slot_view
+use Rattle.seize_views.specs.declared.view.SlotView.{SlotView}
+use Rattle.seize_views.specs.declared.view.SlotView.TheVariants as slot_view
 use Rattle.seize_views.specs.declared.view.Why.{Why}
 use Rattle.seize_views.specs.declared.view.Why.TheVariants.{Retiring}
 use Rattle.threads_rule.specs.Views.Begun.{with_slot}
@@ -24,10 +24,10 @@ use Rattle.threads_rule.specs.Views.Notes.{beside_of, busy, row_known, notes_of}
 use Rattle.threads_rule.specs.Views.Rule.{Holds, KeepsFor, LeansOn, Leans, at_rest}
 use Rattle.threads_rule.specs.Views.Told.{told, told_by}
 use Rattle.threads_rule.specs.declared.view.Map.{Map}
-use Rattle.threads_rule.specs.declared.view.Run.{Run}
+use Rattle.threads_rule.specs.declared.view.BegunCall.{BegunCall}
 use Rattle.threads_rule.specs.declared.view.View.{View}
-use Rattle.threads_rule.specs.declared.view.Work.{Work}
-use Rattle.threads_rule.specs.declared.view.Work.TheVariants.{Nothing, Calls, Makes}
+use Rattle.threads_rule.specs.declared.view.SeatWork.{SeatWork}
+use Rattle.threads_rule.specs.declared.view.SeatWork.TheVariants.{Nothing, Calls, Makes}
 use Rattle.threads_rule.proofs.Views.Rows.{rows_go_on, rows_turn, settlings_begin, looked_are_shown}
 use Rattle.threads_rule.proofs.Views.Starts.{seats_come}
 
@@ -67,7 +67,7 @@ module _ {K V S : Type 0} where
   -- the notes of a view that has nothing else under way
   noted_so : (v : View K V S) (u : Noted (Node K V)) → v.under ≡ None → v.work ≡ Nothing → u.did ≡ NoneYet → u.guards ≡ 0 → notes_of (with_slot v u.knows u.began) ≡ u
   noted_so v u own free did guards =
-      ap (λ (o : Option (ℕ × ℕ)). noted (row_known o u.knows v.work) NoneYet u.began 0) own ∙ ap (λ (k : Work K V S). noted (row_known None u.knows k) NoneYet u.began 0) free ∙ ap (λ (d : Deed (Node K V)). noted u.knows d u.began 0) (sym did)
+      ap (λ (o : Option (ℕ × ℕ)). noted (row_known o u.knows v.work) NoneYet u.began 0) own ∙ ap (λ (k : SeatWork K V S). noted (row_known None u.knows k) NoneYet u.began 0) free ∙ ap (λ (d : Deed (Node K V)). noted u.knows d u.began 0) (sym did)
       ∙ ap (λ (n : ℕ). noted u.knows u.did u.began n) (sym guards)
 
   -- who has a row to go on with, or begins one, leans on nobody, and has nothing else under way
@@ -75,7 +75,7 @@ module _ {K V S : Type 0} where
       → (v.under ≡ None) × (v.work ≡ Nothing) × P v.slot
   free_by P not_busy not_making v p = by v.under v.work refl refl p
     where
-      by : (under : Option (ℕ × ℕ)) (work : Work K V S) → v.under ≡ under → v.work ≡ work → P (row_known under v.slot work) → (v.under ≡ None) × (v.work ≡ Nothing) × P v.slot
+      by : (under : Option (ℕ × ℕ)) (work : SeatWork K V S) → v.under ≡ under → v.work ≡ work → P (row_known under v.slot work) → (v.under ≡ None) × (v.work ≡ Nothing) × P v.slot
       by (Some leant) work own e p = absurd (not_making p)
       by None Nothing own e p = (own, e, p)
       by None (Calls machine) own e p = absurd (not_busy v.slot p)
@@ -98,7 +98,7 @@ module _ {K V S : Type 0} where
       by (Some leant) rows one = absurd rows
 
 module _ {K S : Type 0} (V : Type 0) (same : K → K → Bool) (hash : S → K → ℕ) where
-  abbrev its : (V : Type 0) → View K V S → Option (Map S) × List (Run K V)
+  abbrev its : (V : Type 0) → View K V S → Option (Map S) × List (BegunCall K V)
   its V v = beside_of v
 
   pub seats_come_in : SeatsComeIn (Holds {V = V} same hash) KeepsFor notes_of (its V) (λ _. at_rest)
@@ -111,9 +111,9 @@ module _ {K S : Type 0} (V : Type 0) (same : K → K → Bool) (hash : S → K �
   pub rows_are_told : RowsAreTold {T = Node K V} notes_of (its V) deferred_word (told same hash)
   rows_are_told v w op out is tells =
       let k = free_by (λ x. op_of deferred_word x ≡ Some op) (λ x e. busy_op deferred_word x op e) (λ e. cc e) v is in
-      let so = subst (λ (x : Work K V S). told_by same hash v v.map x op out w) k.1 tells in
+      let so = subst (λ (x : SeatWork K V S). told_by same hash v v.map x op out w) k.1 tells in
       let knows : v.slot ≡ row_known v.under v.slot v.work =
-      ap (λ (x : Work K V S). row_known None v.slot x) (sym k.1) ∙ ap (λ (o : Option (ℕ × ℕ)). row_known o v.slot v.work) (sym k.0) in
+      ap (λ (x : SeatWork K V S). row_known None v.slot x) (sym k.1) ∙ ap (λ (o : Option (ℕ × ℕ)). row_known o v.slot v.work) (sym k.0) in
       let then_ : (notes_of w).knows ≡ so.0 = ap (λ (x : View K V S). (notes_of x).knows) so.2 ∙ ap (λ (o : Option (ℕ × ℕ)). row_known {S = S} o so.0 Nothing) k.0 in (
         (
           subst (λ (x : SlotView (Node K V)). row_told deferred_word x op out (notes_of w).knows) knows
@@ -136,7 +136,7 @@ module _ {K S : Type 0} (V : Type 0) (same : K → K → Bool) (hash : S → K �
       let k = free_by (λ x. IsToSettle fixed x way c) (λ x e. busy_settles fixed x way c e) (λ e. e) v is in
       let g = settlings_begin V same hash fixed id v way c began k.0 k.1 k.2 s h at unlent in
       let knows = ap (λ (x : View K V S). (notes_of x).knows) g.4.1 ∙ ap (λ (o : Option (ℕ × ℕ)). row_known o (slot_view.Settles c (Retiring way) None g.4.0) v.work) k.0
-      ∙ ap (λ (x : Work K V S). row_known None (slot_view.Settles c (Retiring way) None g.4.0) x) k.1 in
+      ∙ ap (λ (x : SeatWork K V S). row_known None (slot_view.Settles c (Retiring way) None g.4.0) x) k.1 in
       (g.0, g.1, g.2, g.3, ((g.4.0, knows), refl, ap (λ (x : View K V S). x.began) g.4.1, refl, ap (λ (x : View K V S). beside_of x) g.4.1))
 
   pub looked_are_shown_in : LookedAreShownIn (Holds {V = V} same hash) KeepsFor notes_of (its V)

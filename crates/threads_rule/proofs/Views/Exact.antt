@@ -18,14 +18,14 @@ use Rattle.seize_seats.specs.Seats.Errands.{IsUnlent}
 use Rattle.seize_seats.specs.Seats.State.{State, view_of}
 use Rattle.seize_views.specs.Views.Rows.{row_of, use_of, used_for}
 use Rattle.seize_views.specs.declared.view.Fixed.{Fixed}
-use Rattle.seize_views.specs.declared.view.View.{View as SlotView}
-use Rattle.seize_views.specs.declared.view.View.TheVariants as slot_view
+use Rattle.seize_views.specs.declared.view.SlotView.{SlotView}
+use Rattle.seize_views.specs.declared.view.SlotView.TheVariants as slot_view
 use Rattle.seize_views.specs.declared.view.Why.TheVariants.{Retiring, Ending}
 use Rattle.threads_rule.specs.Views.Rule.{MapsWorld, DoesSo, AreSo, Holds, LeansOn, Leans, section_of}
 use Rattle.threads_rule.specs.declared.view.Map.{Map}
 use Rattle.threads_rule.specs.declared.view.View.{View}
-use Rattle.threads_rule.specs.declared.view.Work.{Work}
-use Rattle.threads_rule.specs.declared.view.Work.TheVariants.{Nothing, Calls, Makes}
+use Rattle.threads_rule.specs.declared.view.SeatWork.{SeatWork}
+use Rattle.threads_rule.specs.declared.view.SeatWork.TheVariants.{Nothing, Calls, Makes}
 use Rattle.threads_rule.proofs.Views.Leaves.{own_section}
 use Rattle.threads_rule.proofs.Views.Moved.{scene_of, all_stand, are_so}
 use Rattle.threads_rule.proofs.Views.Whose.{whose}
@@ -89,7 +89,7 @@ module _ {K V S : Type 0} (same : K → K → Bool) (hash : S → K → ℕ) (fi
       let one = so.apart j id t b u x v at at_id is uses in same_some x v (sym at ∙ ap (view_of s) one ∙ at_id)
 
   -- so nobody's does
-  by_work : (j a : ℕ) (x : View K V S) → view_of s j ≡ Some x → works_on (scene.world.row a) ≡ t + 1 → shares (scene.world.row a) ≡ true → (work : Work K V S) (map : Option (Map S))
+  by_work : (j a : ℕ) (x : View K V S) → view_of s j ≡ Some x → works_on (scene.world.row a) ≡ t + 1 → shares (scene.world.row a) ≡ true → (work : SeatWork K V S) (map : Option (Map S))
       → x.work ≡ work → DoesSo same hash scene a x.under x.slot map work → ⊥
   by_work j a x at on sh Nothing map is d =
       let slot = row_on_slot x.slot t (ap works_on (sym d.row) ∙ on) (ap shares (sym d.row) ∙ sh) in

@@ -14,8 +14,8 @@ use Rattle.threads_rule.specs.Views.Promises.{MapsAreHandedOn}
 use Rattle.threads_rule.specs.Views.Rule.{MapsWorld, DoesSo, KnowsMap, KnowsPair, Fits, Holds, caller_at, acts_in}
 use Rattle.threads_rule.specs.declared.view.Map.{Map}
 use Rattle.threads_rule.specs.declared.view.View.{View}
-use Rattle.threads_rule.specs.declared.view.Work.{Work}
-use Rattle.threads_rule.specs.declared.view.Work.TheVariants.{Nothing}
+use Rattle.threads_rule.specs.declared.view.SeatWork.{SeatWork}
+use Rattle.threads_rule.specs.declared.view.SeatWork.TheVariants.{Nothing}
 use Rattle.threads_rule.proofs.Views.Views.{Had, views_hold}
 
 module _ {K V S : Type 0} (same : K → K → Bool) (hash : S → K → ℕ) (fixed : Fixed) (i j : ℕ) (v u : View K V S) (map : Map S) (knows : v.map ≡ Some map) (free : u.work ≡ Nothing)
@@ -36,12 +36,12 @@ module _ {K V S : Type 0} (same : K → K → Bool) (hash : S → K → ℕ) (fi
       record {
         slot = f.slot;
         does =
-            subst (λ (x : Work K V S). DoesSo same hash scene (caller_at j (acts_in u.under u.slot)) u.under u.slot (Some map) x) (sym free)
-            (subst (λ (x : Work K V S). DoesSo same hash scene (caller_at j (acts_in u.under u.slot)) u.under u.slot u.map x) free f.does);
+            subst (λ (x : SeatWork K V S). DoesSo same hash scene (caller_at j (acts_in u.under u.slot)) u.under u.slot (Some map) x) (sym free)
+            (subst (λ (x : SeatWork K V S). DoesSo same hash scene (caller_at j (acts_in u.under u.slot)) u.under u.slot u.map x) free f.does);
         aside = f.aside;
         map = subst (λ (x : Option (Map S)). KnowsMap same hash scene x) knows (h.so.seats i v at_i).map;
         held = f.held;
-        pair = subst (λ (x : Work K V S). KnowsPair same hash scene (caller_at j (acts_in u.under u.slot)) (Some map) x u.calls) (sym free) tt;
+        pair = subst (λ (x : SeatWork K V S). KnowsPair same hash scene (caller_at j (acts_in u.under u.slot)) (Some map) x u.calls) (sym free) tt;
         idle = f.idle;
       }
 

@@ -6,15 +6,15 @@ use Rattle.map_tables.specs.declared.node.Node.{Node}
 use Rattle.many_acts.specs.Given.ScenesScene.{Scene}
 use Rattle.seize_acts.proofs.Acts.Answers.{same_some}
 use Rattle.seize_seats.specs.Seats.State.{State, view_of}
-use Rattle.seize_views.specs.declared.view.View.{View as SlotView}
+use Rattle.seize_views.specs.declared.view.SlotView.{SlotView}
 use Rattle.threads_rule.specs.Views.Looks.{shown_in}
 use Rattle.threads_rule.specs.Views.Promises.{HeldAreShown}
 use Rattle.threads_rule.specs.Views.Rule.{MapsWorld, IsHeld, AllHeld, Holds}
 use Rattle.threads_rule.specs.declared.view.View.{View}
-use Rattle.threads_rule.specs.declared.view.Work.{Work}
+use Rattle.threads_rule.specs.declared.view.SeatWork.{SeatWork}
 
 module _ {K V S : Type 0} (same : K → K → Bool) (hash : S → K → ℕ) where
-  pub value_of : (scene : Scene K V) (under : Option (ℕ × ℕ)) (slot : SlotView (Node K V)) (work : Work K V S) (b : ℕ) (x : Node K V) (looks : List (ℕ × Node K V))
+  pub value_of : (scene : Scene K V) (under : Option (ℕ × ℕ)) (slot : SlotView (Node K V)) (work : SeatWork K V S) (b : ℕ) (x : Node K V) (looks : List (ℕ × Node K V))
       → AllHeld same hash scene under slot work looks → shown_in looks b ≡ Some x
       → value_at scene.world.memory b ≡ Some x
   value_of scene under slot work b x [] held is = absurd (cc is)
@@ -26,7 +26,7 @@ module _ {K V S : Type 0} (same : K → K → Bool) (hash : S → K → ℕ) whe
       by false e f rest = rest f
 
   -- and why it lasts
-  pub held_of : (scene : Scene K V) (under : Option (ℕ × ℕ)) (slot : SlotView (Node K V)) (work : Work K V S) (b : ℕ) (x : Node K V) (looks : List (ℕ × Node K V))
+  pub held_of : (scene : Scene K V) (under : Option (ℕ × ℕ)) (slot : SlotView (Node K V)) (work : SeatWork K V S) (b : ℕ) (x : Node K V) (looks : List (ℕ × Node K V))
       → AllHeld same hash scene under slot work looks → shown_in looks b ≡ Some x → IsHeld same hash scene under slot work (b, x)
   held_of scene under slot work b x [] held is = absurd (cc is)
   held_of scene under slot work b x (look ∷ looks) held is = by (b == look.0) refl is (held_of scene under slot work b x looks held.1)

@@ -11,12 +11,12 @@ use Rattle.seize_model.proofs.Alone.Histories.NotTaken.{IsHeld as IsHeldBy, kept
 use Rattle.seize_acts.proofs.Acts.Answers.{same_some}
 use Rattle.seize_seats.specs.Seats.State.{State, view_of}
 use Rattle.seize_views.specs.declared.view.Has.TheVariants.{Nothing as NoBlock}
-use Rattle.seize_views.specs.declared.view.View.TheVariants.{Inside}
+use Rattle.seize_views.specs.declared.view.SlotView.TheVariants.{Inside}
 use Rattle.threads_rule.specs.Views.Promises.{HeldAreKept, KeptAreThere}
 use Rattle.threads_rule.specs.Views.Rule.{MapsWorld, IsInSection, IsOfCall, KeepsFor, Holds, section_of}
 use Rattle.threads_rule.specs.declared.view.View.{View}
-use Rattle.threads_rule.specs.declared.view.Work.{Work}
-use Rattle.threads_rule.specs.declared.view.Work.TheVariants.{Nothing}
+use Rattle.threads_rule.specs.declared.view.SeatWork.{SeatWork}
+use Rattle.threads_rule.specs.declared.view.SeatWork.TheVariants.{Nothing}
 use Rattle.threads_rule.proofs.Views.Held.{held_of}
 use Rattle.threads_rule.proofs.Views.Moved.{all_stand}
 
@@ -33,7 +33,7 @@ module _ {K S : Type 0} (V : Type 0) (same : K → K → Bool) (hash : S → K �
           let base = h.so.leant i n t v at_i leans in
           let one = same_some base.0 u (sym base.1 ∙ at_n) in
           (a, NoBlock, ap (λ (y : View K V S). y.slot) (sym one) ∙ base.2 ∙ ap (λ (c : ℕ). Inside c NoBlock) (inside a section), held, over)
-      by (inr of) = absurd (subst (λ (y : Work K V S). IsOfCall same hash y b) free of)
+      by (inr of) = absurd (subst (λ (y : SeatWork K V S). IsOfCall same hash y b) free of)
 
   pub kept_are_there : KeptAreThere V same hash
   kept_are_there fixed s j u k o b h at_j at_k keeps =

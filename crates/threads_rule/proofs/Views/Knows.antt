@@ -15,16 +15,16 @@ use Rattle.seize_acts.proofs.Bounds.Bounds.Passing.{still_within}
 use Rattle.seize_views.specs.Views.Rows.{row_of, settles_for, IsPlain, IsKnown, IsBounded}
 use Rattle.seize_views.specs.declared.view.Fixed.{Fixed}
 use Rattle.seize_views.specs.declared.view.Has.TheVariants.{Nothing as NoBlock}
-use Rattle.seize_views.specs.declared.view.View.{View as SlotView}
-use Rattle.seize_views.specs.declared.view.View.TheVariants as slot_view
+use Rattle.seize_views.specs.declared.view.SlotView.{SlotView}
+use Rattle.seize_views.specs.declared.view.SlotView.TheVariants as slot_view
 use Rattle.seize_views.specs.declared.view.Why.{Why}
 use Rattle.seize_views.specs.declared.view.Why.TheVariants.{Retiring, Ending}
 use Rattle.seize_views.proofs.Views.Reclaims.{reclaiming_there}
 use Rattle.threads_rule.specs.Views.Rule.{HasRow, DoesSo, Fits, KnowsRow, IsAside, caller_at, acts_in, section_of, place_of}
 use Rattle.threads_rule.specs.declared.view.Map.{Map}
 use Rattle.threads_rule.specs.declared.view.View.{View}
-use Rattle.threads_rule.specs.declared.view.Work.{Work}
-use Rattle.threads_rule.specs.declared.view.Work.TheVariants.{Nothing, Calls, Makes}
+use Rattle.threads_rule.specs.declared.view.SeatWork.{SeatWork}
+use Rattle.threads_rule.specs.declared.view.SeatWork.TheVariants.{Nothing, Calls, Makes}
 use Rattle.threads_rule.proofs.Views.Handed.{reclaiming_handed}
 use Rattle.threads_rule.proofs.Views.Leaves.{own_section}
 use Rattle.threads_rule.proofs.Views.Ran.{Keeps}
@@ -107,7 +107,7 @@ module _ {K V : Type 0} (fixed : Fixed) (n : Scene K V) (j : ℕ) where
 pub row_of_it : {K V S : Type 0} (same : K → K → Bool) (hash : S → K → ℕ) (s : Scene K V) (j : ℕ) (x : View K V S) → Fits same hash s j x → x.under ≡ None → x.work ≡ Nothing
     → HasRow s (caller_at j (place_of x.slot)) x.slot
 row_of_it {K} {V} {S} same hash s j x f own free =
-    subst (λ (k : Work K V S). DoesSo same hash s (caller_at j (place_of x.slot)) None x.slot x.map k) free
+    subst (λ (k : SeatWork K V S). DoesSo same hash s (caller_at j (place_of x.slot)) None x.slot x.map k) free
     (subst (λ (u : Option (ℕ × ℕ)). DoesSo same hash s (caller_at j (acts_in u x.slot)) u x.slot x.map x.work) own f.does)
 
 module _ {K V S : Type 0} (same : K → K → Bool) (hash : S → K → ℕ) (fixed : Fixed) (scene n : Scene K V) (j : ℕ) (x : View K V S) where
@@ -115,7 +115,7 @@ module _ {K V S : Type 0} (same : K → K → Bool) (hash : S → K → ℕ) (fi
   pub by_kind : Fits same hash scene j x → (x.under ≡ None → x.work ≡ Nothing → KnowsRow fixed n j x.slot) → KnowsRow fixed n j x.slot
   by_kind f has = by x.under x.work x.map refl refl f.aside f.does
     where
-      by : (under : Option (ℕ × ℕ)) (work : Work K V S) (map : Option (Map S)) → x.under ≡ under → x.work ≡ work → IsAside under x.slot
+      by : (under : Option (ℕ × ℕ)) (work : SeatWork K V S) (map : Option (Map S)) → x.under ≡ under → x.work ≡ work → IsAside under x.slot
           → DoesSo same hash scene (caller_at j (acts_in x.under x.slot)) under x.slot map work → KnowsRow fixed n j x.slot
       by (Some leant) work map own free aside d = knows_rests fixed n j x.slot aside
       by None Nothing map own free aside d = has own free

@@ -15,13 +15,13 @@ use Rattle.seize_acts.proofs.Acts.Answers.{same_some}
 use Rattle.seize_views.proofs.Views.Reclaims.{reclaiming_there}
 use Rattle.seize_views.specs.Views.Rows.{settles_for}
 use Rattle.seize_views.specs.declared.view.Becomes.TheVariants.{Idle}
-use Rattle.seize_views.specs.declared.view.View.{View as SlotView}
+use Rattle.seize_views.specs.declared.view.SlotView.{SlotView}
 use Rattle.seize_views.specs.declared.view.Why.TheVariants.{Retiring}
 use Rattle.threads_rule.specs.Views.Reclaims.{IsNextOf}
 use Rattle.threads_rule.specs.Views.Rule.{DoesSo, KnowsMap, IsOfCall}
 use Rattle.threads_rule.specs.declared.view.Map.{Map}
-use Rattle.threads_rule.specs.declared.view.Work.{Work}
-use Rattle.threads_rule.specs.declared.view.Work.TheVariants.{Nothing, Calls, Makes}
+use Rattle.threads_rule.specs.declared.view.SeatWork.{SeatWork}
+use Rattle.threads_rule.specs.declared.view.SeatWork.TheVariants.{Nothing, Calls, Makes}
 use Rattle.threads_rule.proofs.Views.Handed.{reclaiming_handed}
 use Rattle.threads_rule.proofs.Views.Leaves.{Leaves}
 use Rattle.threads_rule.proofs.Views.Made.{own_is_made}
@@ -40,7 +40,7 @@ module _ {K V S : Type 0} (same : K → K → Bool) (hash : S → K → ℕ) (ba
       subst (λ (a : ℕ). IsSome (value_at n.world.memory a)) (sym same_block) (reclaiming_there deferred_word c (Retiring Idle) n.world.memory may reclaiming) in
       leaves.keeps b its (subst (λ (o : Option (Node K V)). IsSome o) (sym is) refl) some ∙ is
 
-  pub of_call_lasts : (under : Option (ℕ × ℕ)) (slot : SlotView (Node K V)) (map : Option (Map S)) (work : Work K V S) → DoesSo same hash s k under slot map work → KnowsMap same hash s map → IsOfCall same hash work b
+  pub of_call_lasts : (under : Option (ℕ × ℕ)) (slot : SlotView (Node K V)) (map : Option (Map S)) (work : SeatWork K V S) → DoesSo same hash s k under slot map work → KnowsMap same hash s map → IsOfCall same hash work b
       → value_at n.world.memory b ≡ Some x
   of_call_lasts under slot map Nothing does knows of = absurd of
   of_call_lasts under slot None (Calls machine) does knows of = absurd does

@@ -9,8 +9,8 @@ use Rattle.seize_acts.proofs.Acts.Answers.{same_some}
 use Rattle.seize_seats.specs.Seats.State.{State, view_of, Goes}
 use Rattle.seize_views.specs.Views.Rows.{row_of, use_of}
 use Rattle.seize_views.specs.declared.view.Fixed.{Fixed}
-use Rattle.seize_views.specs.declared.view.View.{View as SlotView}
-use Rattle.seize_views.specs.declared.view.View.TheVariants.{Rests, Inside}
+use Rattle.seize_views.specs.declared.view.SlotView.{SlotView}
+use Rattle.seize_views.specs.declared.view.SlotView.TheVariants.{Rests, Inside}
 use Rattle.seize_views.specs.declared.view.Has.TheVariants.{Nothing as NoBlock}
 use Rattle.seize_views.proofs.Views.Lists.{there, elsewhere}
 use Rattle.threads_rule.specs.Views.Begun.{leaning}
@@ -18,8 +18,8 @@ use Rattle.threads_rule.specs.Views.Looks.{shown_in}
 use Rattle.threads_rule.specs.Views.Promises.{LeaningsBegin, LeaningsEnd}
 use Rattle.threads_rule.specs.Views.Rule.{MapsWorld, HasRow, DoesSo, KnowsPair, IsIdle, IsSlot, IsLeant, IsAside, Fits, Holds, KeepsFor, caller_at, acts_in}
 use Rattle.threads_rule.specs.declared.view.View.{View}
-use Rattle.threads_rule.specs.declared.view.Work.{Work}
-use Rattle.threads_rule.specs.declared.view.Work.TheVariants.{Nothing}
+use Rattle.threads_rule.specs.declared.view.SeatWork.{SeatWork}
+use Rattle.threads_rule.specs.declared.view.SeatWork.TheVariants.{Nothing}
 use Rattle.threads_rule.proofs.Views.Leaves.{own_slot}
 use Rattle.threads_rule.proofs.Views.Numbers.{first_slot}
 use Rattle.threads_rule.proofs.Views.Views.{Had, views_hold}
@@ -33,7 +33,7 @@ module _ {K V S : Type 0} (same : K → K → Bool) (hash : S → K → ℕ) (fi
   f = h.so.seats id v at_id
 
   does : HasRow scene (caller_at id (acts_in v.under v.slot)) v.slot
-  does = subst (λ (x : Work K V S). DoesSo same hash scene (caller_at id (acts_in v.under v.slot)) v.under v.slot v.map x) free f.does
+  does = subst (λ (x : SeatWork K V S). DoesSo same hash scene (caller_at id (acts_in v.under v.slot)) v.under v.slot v.map x) free f.does
 
   -- in each slot it has nothing under way
   idle : (t : ℕ) → IsSlot t → IsIdle scene (caller_at id t)
@@ -64,11 +64,11 @@ module _ {K V S : Type 0} (same : K → K → Bool) (hash : S → K → ℕ) (fi
         } in
         record {
           slot = its_slot;
-          does = subst (λ (x : Work K V S). DoesSo same hash scene (caller_at id (acts_in under v.slot)) under v.slot v.map x) (sym free) row;
+          does = subst (λ (x : SeatWork K V S). DoesSo same hash scene (caller_at id (acts_in under v.slot)) under v.slot v.map x) (sym free) row;
           aside = aside under;
           map = f.map;
           held = tt;
-          pair = subst (λ (x : Work K V S). KnowsPair same hash scene (caller_at id (acts_in under v.slot)) v.map x v.calls) (sym free) tt;
+          pair = subst (λ (x : SeatWork K V S). KnowsPair same hash scene (caller_at id (acts_in under v.slot)) v.map x v.calls) (sym free) tt;
           idle = λ t is ne. idle t is;
         }
       where

@@ -16,14 +16,14 @@ use Rattle.seize_acts.proofs.Acts.Answers.{same_some}
 use Rattle.seize_views.specs.Views.Rows.{use_of}
 use Rattle.seize_views.specs.declared.view.Has.{Has}
 use Rattle.seize_views.specs.declared.view.Has.TheVariants.{Nothing as NoBlock, Made, Seen, Both, Cut}
-use Rattle.seize_views.specs.declared.view.View.{View as SlotView}
-use Rattle.seize_views.specs.declared.view.View.TheVariants as slot_view
+use Rattle.seize_views.specs.declared.view.SlotView.{SlotView}
+use Rattle.seize_views.specs.declared.view.SlotView.TheVariants as slot_view
 use Rattle.threads_rule.specs.Views.Rule.{IsIdle, IsUsedSo, IsSlot, DoesSo, KnowsMap, KnowsPair, Fits, IsAside, IsLeant, caller_at, place_of, acts_in, section_of, IsInSection, IsOfCall, IsHeld, AllHeld}
 use Rattle.threads_rule.specs.declared.view.Map.{Map}
-use Rattle.threads_rule.specs.declared.view.Run.{Run}
+use Rattle.threads_rule.specs.declared.view.BegunCall.{BegunCall}
 use Rattle.threads_rule.specs.declared.view.View.{View}
-use Rattle.threads_rule.specs.declared.view.Work.{Work}
-use Rattle.threads_rule.specs.declared.view.Work.TheVariants.{Nothing, Calls, Makes}
+use Rattle.threads_rule.specs.declared.view.SeatWork.{SeatWork}
+use Rattle.threads_rule.specs.declared.view.SeatWork.TheVariants.{Nothing, Calls, Makes}
 use Rattle.seize_views.proofs.Views.Moved.{not_vacant}
 use Rattle.threads_rule.proofs.Views.Numbers.{seat_apart, slot_apart}
 use Rattle.threads_rule.proofs.Views.Made.{KeepsMade}
@@ -110,7 +110,7 @@ module _ {K V S : Type 0} (same : K → K → Bool) (hash : S → K → ℕ) whe
       own : v.under ≡ None
       own = own_slot v.under v.slot t (Inside 0) f.aside (ap use_of is)
 
-      by : (work : Work K V S) (map : Option (Map S)) → DoesSo same hash scene (caller_at j (acts_in v.under v.slot)) v.under v.slot map work → IsInside (scene.world.uses t)
+      by : (work : SeatWork K V S) (map : Option (Map S)) → DoesSo same hash scene (caller_at j (acts_in v.under v.slot)) v.under v.slot map work → IsInside (scene.world.uses t)
       by Nothing map d =
           stays_inside (Inside 0) (scene.world.uses t) (subst (λ (x : SlotView (Node K V)). IsUsedSo scene.world (use_of x)) is d.slot) tt
       by (Calls machine) None d = absurd d
@@ -198,7 +198,7 @@ module _ {K V S : Type 0} (same : K → K → Bool) (hash : S → K → ℕ) whe
         (leaves.uses slot.0 (λ v. there slot.0 slot.1 refl (alike_vacant slot.1 (subst (λ (u : Use). IsUsedAlike slot.1 u) v f))) (apart slot.0 slot.1 refl))
 
     does_on : (k : ℕ) → k ≢ i → (under : Option (ℕ × ℕ)) (slot : SlotView (Node K V)) → AreTheirs (use_of slot) → ((a : ℕ) → section_of under slot ≡ Some a → IsTheirs a)
-        → (map : Option (Map S)) (work : Work K V S) → DoesSo same hash s k under slot map work → DoesSo same hash next k under slot map work
+        → (map : Option (Map S)) (work : SeatWork K V S) → DoesSo same hash s k under slot map work → DoesSo same hash next k under slot map work
     does_on k ne under slot apart within map Nothing f = record {
       row = leaves.rows k ne ∙ f.row;
       slot = used_on (use_of slot) (λ a u. not_vacant slot a u) apart f.slot;
@@ -219,7 +219,7 @@ module _ {K V S : Type 0} (same : K → K → Bool) (hash : S → K → ℕ) whe
     map_on None f = tt
     map_on (Some map) f = let g = leaves.maps map.number f.0 f.1 in (g.0, g.1, g.2 ∙ f.2, g.3 ∙ f.3)
 
-    pair_on : (k : ℕ) → k ≢ i → (map : Option (Map S)) (work : Work K V S) (runs : List (Run K V)) → KnowsPair same hash s k map work runs → KnowsPair same hash next k map work runs
+    pair_on : (k : ℕ) → k ≢ i → (map : Option (Map S)) (work : SeatWork K V S) (runs : List (BegunCall K V)) → KnowsPair same hash s k map work runs → KnowsPair same hash next k map work runs
     pair_on k ne map Nothing runs f = tt
     pair_on k ne map (Makes m hasher opening) runs f = tt
     pair_on k ne None (Calls p) runs f = tt
@@ -227,7 +227,7 @@ module _ {K V S : Type 0} (same : K → K → Bool) (hash : S → K → ℕ) whe
 
     -- what is held for a caller
     module _ (k : ℕ) (ne : k ≢ i) (under : Option (ℕ × ℕ)) (slot : SlotView (Node K V)) (within : (a : ℕ) → section_of under slot ≡ Some a → IsTheirs a)
-        (inside : (a : ℕ) → section_of under slot ≡ Some a → IsInside (s.world.uses a)) (work : Work K V S)
+        (inside : (a : ℕ) → section_of under slot ≡ Some a → IsInside (s.world.uses a)) (work : SeatWork K V S)
         (lasts : (b : ℕ) (x : Node K V) → value_at s.world.memory b ≡ Some x → IsOfCall same hash work b → value_at next.world.memory b ≡ Some x) where
       look_on : (look : ℕ × Node K V) → value_at s.world.memory look.0 ≡ Some look.1 → IsInSection same hash s under slot look.0 ⊎ IsOfCall same hash work look.0
           → IsHeld same hash next under slot work look

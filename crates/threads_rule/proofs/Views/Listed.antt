@@ -14,7 +14,7 @@ use Rattle.many_acts.specs.Acts.Lists.{Course, Reached, LedOn, LedTo, nothing_do
 use Rattle.threads_rule.specs.Views.Listed.{Called, calls_then, calls_of, has_told, seen_then, seen_of, AreNumbered, IsNewest, seat_of}
 use Rattle.threads_rule.specs.Views.Rule.{IsSlot, IsRun, AreRuns, caller_at}
 use Rattle.threads_rule.specs.Views.Told.{newest_told}
-use Rattle.threads_rule.specs.declared.view.Run.{Run}
+use Rattle.threads_rule.specs.declared.view.BegunCall.{BegunCall}
 
 -- what is so of each of a list is so with one more
 pub all_more : {X : Type 0} (P : X → Type 0) (xs : List X) (x : X) → AllByRecursion P xs → P x → AllByRecursion P (xs ++ x ∷ [])
@@ -105,7 +105,7 @@ module _ {K S : Type 0} (V : Type 0) (same : K → K → Bool) (hash : S → K �
 module _ {K V S : Type 0} (same : K → K → Bool) (hash : S → K → ℕ) (s n : Scene K V)
     (maps : (m : ℕ) (r : Standing K) → s.maps m ≡ Some r → (r2 : Standing K) × (n.maps m ≡ Some r2) × (r2.setting ≡ r.setting) × (r2.hash ≡ r.hash)) where
   -- what is known of the calls of a seat is so on where maps stand on
-  run_on : (call : Called K V) (run : Run K V) → IsRun same hash s call run → IsRun same hash n call run
+  run_on : (call : Called K V) (run : BegunCall K V) → IsRun same hash s call run → IsRun same hash n call run
   run_on call run is =
       let g = maps is.map.number is.stands.0 is.stands.1 in
       record {
@@ -117,7 +117,7 @@ module _ {K V S : Type 0} (same : K → K → Bool) (hash : S → K → ℕ) (s 
         told = is.told;
       }
 
-  pub runs_on : (calls : List (Called K V)) (runs : List (Run K V)) → AreRuns same hash s calls runs → AreRuns same hash n calls runs
+  pub runs_on : (calls : List (Called K V)) (runs : List (BegunCall K V)) → AreRuns same hash s calls runs → AreRuns same hash n calls runs
   runs_on [] [] are = tt
   runs_on (call ∷ calls) (run ∷ runs) are = (run_on call run are.0, runs_on calls runs are.1)
   runs_on [] (run ∷ runs) are = are
@@ -125,7 +125,7 @@ module _ {K V S : Type 0} (same : K → K → Bool) (hash : S → K → ℕ) (s 
 
 module _ {K V S : Type 0} (same : K → K → Bool) (hash : S → K → ℕ) (s : Scene K V) (i : ℕ) (told : Progress (Node K V)) where
   -- where the newest one, which is this caller's, has told this
-  pub newest_runs : (calls : List (Called K V)) (runs : List (Run K V)) → IsNewest i calls → AreRuns same hash s calls runs → AreRuns same hash s (has_told i told calls) (newest_told told runs)
+  pub newest_runs : (calls : List (Called K V)) (runs : List (BegunCall K V)) → IsNewest i calls → AreRuns same hash s calls runs → AreRuns same hash s (has_told i told calls) (newest_told told runs)
   newest_runs [] runs newest are = absurd newest
   newest_runs (call ∷ calls) [] newest are = absurd are
   newest_runs (call ∷ calls) (run ∷ runs) newest are =

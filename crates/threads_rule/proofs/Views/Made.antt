@@ -4,7 +4,7 @@ use Rattle.std.proofs.Common.{◌≡◌, ℕ, Bool, inl, inr, refl, sym, subst, 
 use Rattle.seize_words.specs.OneMemory.Mem.{Mem, Took, value_at}
 use Rattle.seize_words.specs.OneMemory.Plan.{Steps}
 use Rattle.seize.specs.World.{World, Hand, Handed, Making, Step, Begin, Request, Register', Enter', Leave', LeaveOwned, Refresh, Unregister', Retire, Flush, Defer', Happens}
-use Rattle.seize.specs.declared.progress.Progress.{Progress as Told}
+use Rattle.seize.specs.declared.advance.Advance.{Advance as Told}
 use Rattle.map_tables.specs.Nodes.{deferred_word}
 use Rattle.map_tables.specs.declared.node.Node.{Node}
 use Rattle.map_tables.specs.declared.node.Node.TheVariants.{Shards}
@@ -27,10 +27,10 @@ use Rattle.many_acts.specs.Looks.Sees.{IsOwnOf}
 use Rattle.many_acts.proofs.Looks.Sees.Made.{own_pairs_made}
 use Rattle.many_acts.specs.Acts.Leads.{AllStand}
 use Rattle.seize_model.proofs.Alone.Histories.Reached.{Reached, happens_reached}
-use Rattle.seize_views.specs.declared.view.View.{View as SlotView}
+use Rattle.seize_views.specs.declared.view.SlotView.{SlotView}
 use Rattle.threads_rule.specs.Views.Rule.{DoesSo, KnowsMap}
 use Rattle.threads_rule.specs.declared.view.Map.{Map}
-use Rattle.threads_rule.specs.declared.view.Work.TheVariants.{Calls}
+use Rattle.threads_rule.specs.declared.view.SeatWork.TheVariants.{Calls}
 
 module _ {K V : Type 0} where
   -- what this caller has made has its value, but for counters

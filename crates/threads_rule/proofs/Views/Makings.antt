@@ -8,8 +8,8 @@ use Rattle.seize_words.specs.OneMemory.Mem.{Mem, Can, Took, value_at}
 use Rattle.seize_words.specs.OneMemory.Op.{Op, Out}
 use Rattle.seize_words.specs.OneMemory.Plan.{Steps, May}
 use Rattle.seize.specs.World.{World, Row, Use, Rests, with_at}
-use Rattle.seize.specs.declared.progress.Progress.{Progress}
-use Rattle.seize.specs.declared.progress.Progress.TheVariants as progress
+use Rattle.seize.specs.declared.advance.Advance.{Advance}
+use Rattle.seize.specs.declared.advance.Advance.TheVariants as progress
 use Rattle.map_tables.specs.Lengths.{IsTableLen}
 use Rattle.map_tables.specs.Nodes.{deferred_word}
 use Rattle.map_tables.specs.declared.node.Node.{Node}
@@ -37,18 +37,18 @@ use Rattle.seize_acts.proofs.Acts.Answers.{same_some}
 use Rattle.seize_seats.specs.Seats.State.{State, view_of, Goes}
 use Rattle.seize_views.specs.Views.Told.{FollowsBy}
 use Rattle.seize_views.specs.declared.view.Fixed.{Fixed}
-use Rattle.seize_views.specs.declared.view.View.{View as SlotView}
-use Rattle.seize_views.specs.declared.view.View.TheVariants as slot_view
+use Rattle.seize_views.specs.declared.view.SlotView.{SlotView}
+use Rattle.seize_views.specs.declared.view.SlotView.TheVariants as slot_view
 use Rattle.threads_rule.specs.Views.Begun.{making}
 use Rattle.threads_rule.specs.Views.Looks.{shown_in}
 use Rattle.threads_rule.specs.Views.Promises.{MakingsBegin, MakingsGoOn}
 use Rattle.threads_rule.specs.Views.Listed.{calls_of}
 use Rattle.threads_rule.specs.Views.Rule.{MapsWorld, IsSlot, IsIdle, HasRow, HasMaking, DoesSo, KnowsMap, AreRuns, Fits, AreSo, Holds, KeepsFor, caller_at, acts_in}
 use Rattle.threads_rule.specs.Views.Told.{told, told_by, made_after}
-use Rattle.threads_rule.specs.declared.view.Run.{Run}
+use Rattle.threads_rule.specs.declared.view.BegunCall.{BegunCall}
 use Rattle.threads_rule.specs.declared.view.View.{View}
-use Rattle.threads_rule.specs.declared.view.Work.{Work}
-use Rattle.threads_rule.specs.declared.view.Work.TheVariants.{Nothing, Calls, Makes}
+use Rattle.threads_rule.specs.declared.view.SeatWork.{SeatWork}
+use Rattle.threads_rule.specs.declared.view.SeatWork.TheVariants.{Nothing, Calls, Makes}
 use Rattle.threads_rule.proofs.Views.Knows.{knows_rests}
 use Rattle.threads_rule.proofs.Views.Leaves.{Leaves, alike_same, own_idle, map_on}
 use Rattle.threads_rule.proofs.Views.Looked.{Made, may_op}
@@ -84,7 +84,7 @@ module _ {K V S : Type 0} (same : K → K → Bool) (hash : S → K → ℕ) (fi
     has_row : HasRow scene i slot_view.Rests
     has_row =
         subst (λ (x : SlotView (Node K V)). HasRow scene i x) rests
-        (subst (λ (x : Work K V S). DoesSo same hash scene i v.under v.slot v.map x) free fits.does)
+        (subst (λ (x : SeatWork K V S). DoesSo same hash scene i v.under v.slot v.map x) free fits.does)
 
     abbrev m : ℕ
     m = so.fresh.0
@@ -172,7 +172,7 @@ module _ {K V S : Type 0} (same : K → K → Bool) (hash : S → K → ℕ) (fi
   -- it makes a map, and takes a step
   module _ (m : ℕ) (hasher : S) (machine : NewMap) (works : v.work ≡ Makes m hasher machine) where
     does : (v.slot ≡ slot_view.Rests) × HasMaking scene i m (hash hasher) machine × (scene.world.row i ≡ Rests)
-    does = subst (λ (x : Work K V S). DoesSo same hash scene i v.under v.slot v.map x) works fits.does
+    does = subst (λ (x : SeatWork K V S). DoesSo same hash scene i v.under v.slot v.map x) works fits.does
 
     acts : AllMayStep V same hash fixed.batch_size fixed.roots slot_of scene × AllAreActs V same hash fixed.batch_size fixed.roots slot_of scene
     acts = steps_are_acts {V = V} same hash fixed.batch_size fixed.roots slot_of scene all
@@ -210,16 +210,16 @@ module _ {K V S : Type 0} (same : K → K → Bool) (hash : S → K → ℕ) (fi
       its_hash : d.hash ≡ hash hasher
       its_hash = ap (λ (x : Beginning K). x.hash) (sym same_making) ∙ does.1.hashes
 
-      both : ◌≡◌ {A = Mem (Node K V) × (NewMap × Progress Setting)} (m2, made.end) (led.2, (led.3, led.4))
+      both : ◌≡◌ {A = Mem (Node K V) × (NewMap × Advance Setting)} (m2, made.end) (led.2, (led.3, led.4))
       both =
           same_some (m2, made.end) (led.2, (led.3, led.4))
           (sym granted.1 ∙ ap (λ (x : Beginning K). making_steps same hash fixed.batch_size fixed.roots slot_of scene granted.0 x) same_making ∙ led.5)
 
       memory_is : m2 ≡ led.2
-      memory_is = ap (λ (p : Mem (Node K V) × (NewMap × Progress Setting)). p.0) both
+      memory_is = ap (λ (p : Mem (Node K V) × (NewMap × Advance Setting)). p.0) both
 
       end_is : made.end ≡ (led.3, led.4)
-      end_is = ap (λ (p : Mem (Node K V) × (NewMap × Progress Setting)). p.1) both
+      end_is = ap (λ (p : Mem (Node K V) × (NewMap × Advance Setting)). p.1) both
 
       abbrev did : MakingStepsAmong V same same fixed.batch_size fixed.roots slot_of scene.world scene.maps scene.calls scene.makers scene.enders i d led.2 (led.3, led.4)
       did = led.7
@@ -246,7 +246,7 @@ module _ {K V S : Type 0} (same : K → K → Bool) (hash : S → K → ℕ) (fi
           subst (λ (x : Beginning K). Steps Took value_at scene.world.memory (new_map_plan {K = K} {V = V} x.machine) led.2 (led.3, led.4)) same_making
           (subst (λ (x : NewMap). Steps Took value_at scene.world.memory (new_map_plan {K = K} {V = V} x) led.2 (led.3, led.4)) (sym does.1.is)
           (subst (λ (x : Mem (Node K V)). Steps Took value_at scene.world.memory (new_map_plan {K = K} {V = V} machine) x (led.3, led.4)) memory_is
-          (subst (λ (x : NewMap × Progress Setting). Steps Took value_at scene.world.memory (new_map_plan {K = K} {V = V} machine) m2 x) end_is made.steps)))
+          (subst (λ (x : NewMap × Advance Setting). Steps Took value_at scene.world.memory (new_map_plan {K = K} {V = V} machine) m2 x) end_is made.steps)))
 
       ran : Ran deferred_word fixed.batch_size i scene.world w2
       ran = inl (did.step.events, as_users did.step.events did.step.users, did.step.runs)
@@ -317,7 +317,7 @@ module _ {K V S : Type 0} (same : K → K → Bool) (hash : S → K → ℕ) (fi
             (record {
               own = ((λ a k. 0), tt);
               others = λ j ne theirs. refl;
-              its = λ are. subst (λ (runs : List (Run K V)). AreRuns same hash n2 (calls_of id s.world.doings h.reached.1 []) runs) (sym calls_are) are;
+              its = λ are. subst (λ (runs : List (BegunCall K V)). AreRuns same hash n2 (calls_of id s.world.doings h.reached.1 []) runs) (sym calls_are) are;
               newest = λ other on. absurd (no_call other on);
               aside = λ j ne theirs. refl;
               seen = λ before b y shown. (let some = sym (ap (λ (l : List (ℕ × Node K V)). shown_in l b) none) ∙ shown in absurd (cc some));
@@ -337,7 +337,7 @@ module _ {K V S : Type 0} (same : K → K → Bool) (hash : S → K → ℕ) (fi
       none_more it a above =
           let less = so.fresh.1.1 i d led.1 in at_other scene.maps d.map (Some it) a (λ e. absurd (omega (arith, less, above, e))) ∙ so.fresh.1.0 a above
 
-      by : (so_told : View K V S → Type 0) (end : Progress Setting) → so_told (made_after v m hasher made.looks led.3 end) → MakingCame same hash fixed.batch_size fixed.roots slot_of scene i d w2 led.3 stage end
+      by : (so_told : View K V S → Type 0) (end : Advance Setting) → so_told (made_after v m hasher made.looks led.3 end) → MakingCame same hash fixed.batch_size fixed.roots slot_of scene i d w2 led.3 stage end
           → Goes (Holds same hash fixed) KeepsFor s m2 id so_told
       by so_told progress.Goes is came =
           let next = record d { machine = led.3 } in
@@ -379,7 +379,7 @@ module _ {K V S : Type 0} (same : K → K → Bool) (hash : S → K → ℕ) (fi
           })
           is
 
-      looks_same : (end : Progress Setting) → (made_after v m hasher made.looks led.3 end).looks ≡ made.looks
+      looks_same : (end : Advance Setting) → (made_after v m hasher made.looks led.3 end).looks ≡ made.looks
       looks_same progress.Goes = refl
       looks_same progress.Waits = refl
       looks_same (progress.Done setting) = refl
@@ -388,10 +388,10 @@ module _ {K V S : Type 0} (same : K → K → Bool) (hash : S → K → ℕ) (fi
       goes : (op : Op (Node K V)) → Goes (Holds same hash fixed) KeepsFor s m2 id (told same hash v op out)
       goes op =
           by (told same hash v op out) led.4
-          (subst (λ (k : Work K V S). told_by same hash v v.map k op out (made_after v m hasher made.looks led.3 led.4)) (sym works) (
+          (subst (λ (k : SeatWork K V S). told_by same hash v v.map k op out (made_after v m hasher made.looks led.3 led.4)) (sym works) (
             (led.3, led.4),
             subst (λ (l : List (ℕ × Node K V)). FollowsBy (shown_in l) (new_map_plan {K = K} {V = V} machine) out (led.3, led.4)) (sym (looks_same led.4))
-                (subst (λ (e : NewMap × Progress Setting). FollowsBy (shown_in made.looks) (new_map_plan {K = K} {V = V} machine) out e) end_is made.follows),
+                (subst (λ (e : NewMap × Advance Setting). FollowsBy (shown_in made.looks) (new_map_plan {K = K} {V = V} machine) out e) end_is made.follows),
             ap (λ (l : List (ℕ × Node K V)). made_after v m hasher l led.3 led.4) (sym (looks_same led.4)),
           )) led.8
 

@@ -20,9 +20,9 @@ use Rattle.seize_views.specs.declared.view.Fixed.{Fixed}
 use Rattle.seize_views.proofs.Views.Lists.{there, elsewhere}
 use Rattle.threads_rule.specs.Views.Listed.{Called, calls_then, calls_of, seen_then, seen_of, AreNumbered, IsItsOwn, IsNewest}
 use Rattle.threads_rule.specs.Views.Rule.{MapsWorld, IsSlot, IsIdle, Fits, AreSo, KnowsRow, AreRuns, HasSeen, Holds, KeepsFor, IsLeant, LeansOn, Leans, caller_at, acts_in, section_of, place_of, runs_of, IsFresh}
-use Rattle.threads_rule.specs.declared.view.Run.{Run}
+use Rattle.threads_rule.specs.declared.view.BegunCall.{BegunCall}
 use Rattle.threads_rule.specs.declared.view.View.{View}
-use Rattle.threads_rule.specs.declared.view.Work.TheVariants.{Nothing, Calls}
+use Rattle.threads_rule.specs.declared.view.SeatWork.TheVariants.{Nothing, Calls}
 use Rattle.threads_rule.proofs.Views.Alone.{alone_on_slot}
 use Rattle.threads_rule.proofs.Views.Knows.{row_of_it, by_kind, knows_on}
 use Rattle.threads_rule.proofs.Views.Listed.{all_more, as_long, calls_more, led_more, runs_on}
@@ -226,12 +226,12 @@ module _ {K V S : Type 0} (same : K → K → Bool) (hash : S → K → ℕ) (fi
 
     calls : (j : ℕ) → (j ≡ id) ⊎ (j ≢ id) → AreRuns same hash n (calls_of j (s.world.doings ++ Does act ∷ []) led_to.1 []) (runs_of (slice_get (slice_set s.views id w) j))
     calls j (inl e) =
-        subst (λ (runs : List (Run K V)). AreRuns same hash n (calls_of j (s.world.doings ++ Does act ∷ []) led_to.1 []) runs) (ap runs_of (sym (here j e)))
+        subst (λ (runs : List (BegunCall K V)). AreRuns same hash n (calls_of j (s.world.doings ++ Does act ∷ []) led_to.1 []) runs) (ap runs_of (sym (here j e)))
         (subst (λ (c : List (Called K V)). AreRuns same hash n c w.calls) (sym (more j))
         (subst (λ (a : ℕ). AreRuns same hash n (calls_then a (Does act) told (calls_before a)) w.calls) (sym e)
         (adds.its (subst (λ (o : Option (View K V S)). AreRuns same hash n (calls_before id) (runs_of o)) at_id (still id)))))
     calls j (inr ne) =
-        subst (λ (runs : List (Run K V)). AreRuns same hash n (calls_of j (s.world.doings ++ Does act ∷ []) led_to.1 []) runs) (ap runs_of (before j ne))
+        subst (λ (runs : List (BegunCall K V)). AreRuns same hash n (calls_of j (s.world.doings ++ Does act ∷ []) led_to.1 []) runs) (ap runs_of (before j ne))
         (subst (λ (c : List (Called K V)). AreRuns same hash n c (runs_of (view_of s j))) (sym (more j ∙ adds.others j ne (calls_before j))) (still j))
 
     newest : (j : ℕ) (x : View K V S) (machine : Machine K V K) → slice_get (slice_set s.views id w) j ≡ Some x → x.work ≡ Calls machine → (j ≡ id) ⊎ (j ≢ id)

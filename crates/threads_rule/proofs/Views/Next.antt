@@ -21,11 +21,11 @@ use Rattle.owner_calls.proofs.Given.CallersTogether.Came.{came_reached}
 use Rattle.seize_model.proofs.Alone.Histories.Reached.{Reached}
 use Rattle.seize_acts.proofs.Acts.Answers.{same_some}
 use Rattle.seize_views.specs.Views.Rows.{row_of, use_of}
-use Rattle.seize_views.specs.declared.view.View.{View as SlotView}
+use Rattle.seize_views.specs.declared.view.SlotView.{SlotView}
 use Rattle.threads_rule.specs.Views.Rule.{HasRow, IsSlot, IsUsedSo, IsAside, DoesSo, caller_at, section_of, IsFresh}
 use Rattle.threads_rule.specs.Views.Told.{call_after}
 use Rattle.threads_rule.specs.declared.view.Map.{Map}
-use Rattle.threads_rule.specs.declared.view.Work.TheVariants.{Calls}
+use Rattle.threads_rule.specs.declared.view.SeatWork.TheVariants.{Calls}
 use Rattle.threads_rule.proofs.Views.Made.{call_keeps}
 use Rattle.threads_rule.proofs.Views.Numbers.{slot_at}
 use Rattle.threads_rule.proofs.Views.Ran.{Ran, ran_stays, ran_ends_none, ran_keeps, ran_passes}

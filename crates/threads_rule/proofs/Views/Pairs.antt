@@ -2,19 +2,19 @@
 use Rattle.std.specs.Prelude.{Option, Some, None, Result, Ok, Err}
 use Rattle.std.proofs.Common.{◌≡◌, ℕ, Bool, List, [], ◌∷◌, inl, inr, refl, sym, subst, ap, ◌∙◌}
 use Rattle.seize_words.specs.OneMemory.Mem.{Mem}
-use Rattle.seize.specs.declared.progress.Progress.{Progress as Counting}
-use Rattle.seize.specs.declared.progress.Progress.TheVariants as counting
+use Rattle.seize.specs.declared.advance.Advance.{Advance as Counting}
+use Rattle.seize.specs.declared.advance.Advance.TheVariants as counting
 use Rattle.map_tables.specs.declared.node.Node.{Node}
 use Rattle.map_machines.specs.declared.sum.Sum.{Sum}
-use Rattle.map_machines.specs.declared.outcome.Outcome.{Outcome}
-use Rattle.map_machines.specs.declared.outcome.Outcome.TheVariants as outcome
+use Rattle.map_machines.specs.declared.yielding.Yielding.{Yielding}
+use Rattle.map_machines.specs.declared.yielding.Yielding.TheVariants as outcome
 use Rattle.papaya_raw.specs.CallAsks.{replied}
 use Rattle.papaya_raw.specs.Progress.{of_called, of_outcome, of_swept, of_counting}
 use Rattle.papaya_raw.specs.Given.ReservesDeclared.sweep.Swept.{Swept}
 use Rattle.papaya_raw.specs.Given.ReservesDeclared.sweep.Swept.TheVariants as swept
 use Rattle.papaya_raw.specs.declared.machines.answer.Called.{Called}
 use Rattle.papaya_raw.specs.declared.machines.answer.Called.TheVariants as tells
-use Rattle.papaya_raw.specs.declared.machines.asking.Reply.{Reply}
+use Rattle.papaya_raw.specs.declared.machines.asking.MachineReply.{MachineReply}
 use Rattle.papaya_raw.specs.declared.machines.machine.Machine.{Machine}
 use Rattle.papaya_raw.specs.declared.machines.progress.Progress.{Progress}
 use Rattle.papaya_raw.specs.declared.machines.progress.Progress.TheVariants as progress
@@ -29,7 +29,7 @@ use Rattle.many_acts.specs.Given.FinishesMaps.{Standing}
 use Rattle.seize_acts.proofs.Acts.Answers.{same_some}
 use Rattle.threads_rule.specs.Views.Rule.{given_pair, pair_of}
 use Rattle.threads_rule.specs.Views.Told.{HandsBack, begun_with, newest_told, pair_in}
-use Rattle.threads_rule.specs.declared.view.Run.{Run}
+use Rattle.threads_rule.specs.declared.view.BegunCall.{BegunCall}
 
 module _ {K V : Type 0} where
   -- a call is under way with the pair with which it has begun
@@ -37,17 +37,17 @@ module _ {K V : Type 0} where
   begun_pair same slot s i (Get key) = refl
   begun_pair same slot s i _ = refl
 
-  pub newest_pair : (told : Progress (Node K V)) (runs : List (Run K V)) → pair_in (newest_told told runs) ≡ pair_in runs
+  pub newest_pair : (told : Progress (Node K V)) (runs : List (BegunCall K V)) → pair_in (newest_told told runs) ≡ pair_in runs
   newest_pair told [] = refl
   newest_pair told (run ∷ before) = refl
 
   -- what it is told changes nothing of that,
-  told_given : (given : Given K V) (about : Option ℕ) (told : Reply V) (taken : Result Unit (Reply V)) → given_pair (and_told given about told taken) ≡ given_pair given
+  told_given : (given : Given K V) (about : Option ℕ) (told : MachineReply V) (taken : Result Unit (MachineReply V)) → given_pair (and_told given about told taken) ≡ given_pair given
   told_given (Begun kind pair) about told taken = refl
   told_given (IsTold kind its asked) about told (Ok u) = refl
   told_given (IsTold kind its asked) about told (Err back) = refl
 
-  pub told_pair : (same : K → K → Bool) (batch_size roots : ℕ) (slot : ℕ → ℕ) (s : Standing K) (i : ℕ) (u : UnderWay K V K) (told : Reply V) (next : UnderWay K V K)
+  pub told_pair : (same : K → K → Bool) (batch_size roots : ℕ) (slot : ℕ → ℕ) (s : Standing K) (i : ℕ) (u : UnderWay K V K) (told : MachineReply V) (next : UnderWay K V K)
       → ToldOfKind V same same batch_size roots slot s i u told next → pair_of next ≡ pair_of u
   told_pair same batch_size roots slot s i (OnKey u) told next (inl (asks_at, about, at, asks, is)) = ap pair_of is ∙ told_given u.pair about told (replied u.call told).1
   told_pair same batch_size roots slot s i (OnKey u) told next (inr is) = ap pair_of is
@@ -67,7 +67,7 @@ module _ {K V : Type 0} where
   key_next u (tells.Done answer) next is = absurd (cc is)
   key_next u (tells.Refused fault) next is = absurd (cc is)
 
-  room_next : (r : CallForRoom) (end : Outcome (Node K V) Unit) (next : UnderWay K V K) → next_for_room r end ≡ Some next → pair_of next ≡ None
+  room_next : (r : CallForRoom) (end : Yielding (Node K V) Unit) (next : UnderWay K V K) → next_for_room r end ≡ Some next → pair_of next ≡ None
   room_next r outcome.Goes next is = ap pair_of (sym (same_some (ForRoom r) next is))
   room_next r outcome.Waits next is = ap pair_of (sym (same_some (ForRoom r) next is))
   room_next r (outcome.Gave value) next is = ap pair_of (sym (same_some (ForRoom r) next is))
@@ -91,7 +91,7 @@ module _ {K V : Type 0} where
   over_next o (swept.Refused fault) next is = absurd (cc is)
 
   -- what a call on one key hands back
-  key_hands : (given : Given K V) (runs : List (Run K V)) → given_pair given ≡ pair_in runs → (end : Called (Node K V))
+  key_hands : (given : Given K V) (runs : List (BegunCall K V)) → given_pair given ≡ pair_in runs → (end : Called (Node K V))
       → ((value : Node K V) → end ≡ tells.Unstored value → HandsGiven given value) → HandsBack runs (of_called end)
   key_hands given runs is tells.Goes hands = tt
   key_hands given runs is tells.Waits hands = tt
@@ -105,20 +105,20 @@ module _ {K V : Type 0} where
       by (Begun kind its) is it pair has = same_some value pair (sym it ∙ is ∙ has)
       by (IsTold kind its asked) is it pair has = absurd (cc (is, has))
 
-  room_hands : (runs : List (Run K V)) (end : Outcome (Node K V) Unit) → HandsBack runs (of_outcome end)
+  room_hands : (runs : List (BegunCall K V)) (end : Yielding (Node K V) Unit) → HandsBack runs (of_outcome end)
   room_hands runs outcome.Goes = tt
   room_hands runs outcome.Waits = tt
   room_hands runs (outcome.Gave value) = tt
   room_hands runs (outcome.Done end) = tt
   room_hands runs (outcome.Refused fault) = tt
 
-  counting_hands : (runs : List (Run K V)) (end : Counting ℕ) → HandsBack runs (of_counting end)
+  counting_hands : (runs : List (BegunCall K V)) (end : Counting ℕ) → HandsBack runs (of_counting end)
   counting_hands runs counting.Goes = tt
   counting_hands runs counting.Waits = tt
   counting_hands runs (counting.Done count) = tt
   counting_hands runs (counting.Refused fault) = tt
 
-  over_hands : (runs : List (Run K V)) (end : Swept (Node K V)) → HandsBack runs (of_swept end)
+  over_hands : (runs : List (BegunCall K V)) (end : Swept (Node K V)) → HandsBack runs (of_swept end)
   over_hands runs swept.Goes = tt
   over_hands runs swept.Waits = tt
   over_hands runs (swept.Gave value) = tt
@@ -145,7 +145,7 @@ module _ {K V : Type 0} (same : K → K → Bool) (batch_size roots : ℕ) (s : 
       by (OverAll c) (p2, end, e, f, inl (to, moved)) = over_next _ end next (sym moved.2 ∙ is)
       by (OverAll c) (p2, end, e, f, inr (to, stayed)) = over_next _ end next (sym stayed.2 ∙ is)
 
-  pub step_hands : (runs : List (Run K V)) → pair_of u ≡ pair_in runs → HandsBack runs told
+  pub step_hands : (runs : List (BegunCall K V)) → pair_of u ≡ pair_in runs → HandsBack runs told
   step_hands runs = by u did.did
     where
       told_so : (so : Progress (Node K V)) → told ≡ so → HandsBack runs so → HandsBack runs told

@@ -25,16 +25,16 @@ use Rattle.seize_views.specs.Views.Rows.{row_of, use_of, hand_of, IsPlain}
 use Rattle.seize_views.specs.declared.view.Began.{Began as Noted}
 use Rattle.seize_views.specs.declared.view.Fixed.{Fixed}
 use Rattle.seize_views.specs.declared.view.Has.TheVariants.{Nothing as NoBlock}
-use Rattle.seize_views.specs.declared.view.View.{View as SlotView}
-use Rattle.seize_views.specs.declared.view.View.TheVariants as slot_view
+use Rattle.seize_views.specs.declared.view.SlotView.{SlotView}
+use Rattle.seize_views.specs.declared.view.SlotView.TheVariants as slot_view
 use Rattle.seize_views.specs.declared.view.Why.TheVariants.{Retiring, Ending}
 use Rattle.seize_views.proofs.Views.InWorld.{IsJustSo, IsUsedLike, HasRow as RowIn, Began, BeginsTo, slot_in, HasNoBlock}
 use Rattle.threads_rule.specs.Views.Listed.{AreNumbered}
 use Rattle.threads_rule.specs.Views.Rule.{MapsWorld, IsSlot, IsUsedSo, DoesSo, Holds, KeepsFor, LeansOn, Leans, caller_at, held_slot, acts_in, section_of, place_of}
 use Rattle.threads_rule.specs.declared.view.Map.{Map}
 use Rattle.threads_rule.specs.declared.view.View.{View}
-use Rattle.threads_rule.specs.declared.view.Work.{Work}
-use Rattle.threads_rule.specs.declared.view.Work.TheVariants.{Nothing, Calls, Makes}
+use Rattle.threads_rule.specs.declared.view.SeatWork.{SeatWork}
+use Rattle.threads_rule.specs.declared.view.SeatWork.TheVariants.{Nothing, Calls, Makes}
 use Rattle.threads_rule.proofs.Views.Alone.{alone_on_slot, lone_on}
 use Rattle.threads_rule.proofs.Views.Exact.{none_inside, none_outside}
 use Rattle.threads_rule.proofs.Views.Leaves.{Leaves, own_section, alike_same}
@@ -160,7 +160,7 @@ module _ {K V S : Type 0} (same : K → K → Bool) (hash : S → K → ℕ) (fi
 
   -- a call that is under way is another seat's, in the section of that one's slot
   module _ (m k : ℕ) (u : UnderWay K V K) (a : Use) (on : here.calls m k ≡ Some u) (mine : use_of v.slot ≡ Some (slot_of k, a)) where
-    by_work : (j : ℕ) (x : View K V S) → view_of s j ≡ Some x → k ≡ caller_at j (acts_in x.under x.slot) → (work : Work K V S) (map : Option (Map S)) → x.work ≡ work
+    by_work : (j : ℕ) (x : View K V S) → view_of s j ≡ Some x → k ≡ caller_at j (acts_in x.under x.slot) → (work : SeatWork K V S) (map : Option (Map S)) → x.work ≡ work
         → DoesSo same hash here k x.under x.slot map work → ⊥
     by_work j x at e Nothing map is d = let none = d.calls m in cc (none, on)
     by_work j x at e (Makes n hasher opening) map is d = let none = d.1.calls m in cc (none, on)

@@ -18,8 +18,8 @@ use Rattle.seize_seats.specs.Seats.State.{State, view_of}
 use Rattle.seize_views.specs.Views.Rows.{row_of, use_of, IsPlain, IsShort, IsKnown, IsBounded}
 use Rattle.seize_views.specs.declared.view.Began.{Began}
 use Rattle.seize_views.specs.declared.view.Fixed.{Fixed}
-use Rattle.seize_views.specs.declared.view.View.{View as SlotView}
-use Rattle.seize_views.specs.declared.view.View.TheVariants as slot_view
+use Rattle.seize_views.specs.declared.view.SlotView.{SlotView}
+use Rattle.seize_views.specs.declared.view.SlotView.TheVariants as slot_view
 use Rattle.seize_views.specs.declared.view.Why.TheVariants.{Retiring, Ending}
 use Rattle.seize_views.proofs.Views.InWorld.{slot_held, slot_of as same_number}
 use Rattle.seize_views.proofs.Views.Moved.{not_vacant}
@@ -27,8 +27,8 @@ use Rattle.threads_rule.specs.Views.Listed.{AreNumbered}
 use Rattle.threads_rule.specs.Views.Rule.{MapsWorld, IsSlot, IsIdle, IsUsedSo, HasRow, DoesSo, Fits, AreSo, KnowsRow, Holds, IsFresh, Leans, caller_at, acts_in, section_of, place_of, held_slot}
 use Rattle.threads_rule.specs.declared.view.Map.{Map}
 use Rattle.threads_rule.specs.declared.view.View.{View}
-use Rattle.threads_rule.specs.declared.view.Work.{Work}
-use Rattle.threads_rule.specs.declared.view.Work.TheVariants.{Nothing, Calls, Makes}
+use Rattle.threads_rule.specs.declared.view.SeatWork.{SeatWork}
+use Rattle.threads_rule.specs.declared.view.SeatWork.TheVariants.{Nothing, Calls, Makes}
 use Rattle.threads_rule.proofs.Views.Knows.{row_of_it}
 use Rattle.threads_rule.proofs.Views.Leaves.{Leaves, own_slot, own_section, alike_vacant, map_on, own_idle}
 use Rattle.threads_rule.proofs.Views.Moved.{scene_of, all_stand, are_so, Moved}
@@ -103,7 +103,7 @@ module _ {K V S : Type 0} (same : K → K → Bool) (hash : S → K → ℕ) (fi
       lone : x.under ≡ None
       lone = own_slot x.under x.slot t a (so.seats j x at).aside uses
 
-      by : (work : Work K V S) (map : Option (Map S)) → DoesSo same hash scene (caller_at j (acts_in x.under x.slot)) x.under x.slot map work → ⊥
+      by : (work : SeatWork K V S) (map : Option (Map S)) → DoesSo same hash scene (caller_at j (acts_in x.under x.slot)) x.under x.slot map work → ⊥
       by Nothing map d = not_vacant x.slot t a uses (alike_vacant a (there (use_of x.slot) uses d.slot))
       by (Calls p) None d = d
       by (Calls p) (Some map) d =

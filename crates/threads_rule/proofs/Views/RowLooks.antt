@@ -4,7 +4,7 @@ use Rattle.seize_words.specs.OneMemory.Mem.{Mem}
 use Rattle.seize.specs.Defer as defer
 use Rattle.seize.specs.Defer.{defer_plan}
 use Rattle.seize.specs.Settle.{settle_plan}
-use Rattle.seize.specs.declared.progress.Progress.{Progress as Told}
+use Rattle.seize.specs.declared.advance.Advance.{Advance as Told}
 use Rattle.seize.specs.declared.rows.defer.Defer.{Defer}
 use Rattle.seize.specs.declared.rows.defer.Deferring.{Deferring}
 use Rattle.seize.specs.declared.rows.defer.Deferring.TheVariants as deferring
@@ -25,8 +25,8 @@ use Rattle.map_machines.specs.declared.copier.Copying.TheVariants as copies
 use Rattle.map_machines.specs.declared.dispose.Dispose.{Dispose}
 use Rattle.map_machines.specs.declared.dispose.Disposing.{Disposing}
 use Rattle.map_machines.specs.declared.dispose.Disposing.TheVariants as disposes
-use Rattle.map_machines.specs.declared.outcome.Outcome.{Outcome}
-use Rattle.map_machines.specs.declared.outcome.Outcome.TheVariants as outcome
+use Rattle.map_machines.specs.declared.yielding.Yielding.{Yielding}
+use Rattle.map_machines.specs.declared.yielding.Yielding.TheVariants as outcome
 use Rattle.papaya_raw.specs.Given.ReservesReserve as reserve
 use Rattle.papaya_raw.specs.Given.ReservesReserve.{reserve_plan}
 use Rattle.papaya_raw.specs.Given.ReservesDeclared.reserve.Reserve.{Reserve}
@@ -89,15 +89,15 @@ module _ {K V : Type 0} (b : ℕ) (m n : Mem (Node K V)) where
     disposes_at (disposes.Walks table) row saw = absurd (cc row)
     disposes_at disposes.Over row saw = absurd (cc row)
 
-  module _ (hash : K → ℕ) (p : Copier) (end : Copier × Outcome (Node K V) Table) where
+  module _ (hash : K → ℕ) (p : Copier) (end : Copier × Yielding (Node K V) Table) where
     abbrev Copies : Type 0
     Copies = CopiesNext end.0.stands b × (end.1 ≡ outcome.Goes)
 
     retires_on : (rest : ℕ) (settle : Settle) (told : Settled (Node K V)) → end ≡ promotes.retired p rest (settle, told) → IsToReclaim settle b → told ≡ settled.Goes → Copies
     retires_on rest settle told is next goes =
         let to = is ∙ ap (λ (x : Settled (Node K V)). promotes.retired p rest (settle, x)) goes in (
-          subst (λ (x : Copier × Outcome (Node K V) Table). CopiesNext x.0.stands b) (sym to) next,
-          ap (λ (x : Copier × Outcome (Node K V) Table). x.1) to,
+          subst (λ (x : Copier × Yielding (Node K V) Table). CopiesNext x.0.stands b) (sym to) next,
+          ap (λ (x : Copier × Yielding (Node K V) Table). x.1) to,
         )
 
     copies_at : (stands : Copying) → copies_at_row stands ≡ true → HasSeen b m (copier.plan_at hash p stands) n end → Copies
@@ -122,26 +122,26 @@ module _ {K V : Type 0} (b : ℕ) (m n : Mem (Node K V)) where
     calls_at (at.Helps c goal) row saw =
         let s = seen_as (call.helped p goal) b m (copier_plan hash c) n end saw in
         let r = copies_at hash c s.0 c.stands row s.2 in
-        calls_on (call.helped p goal (s.0.0, outcome.Goes)) (s.1 ∙ ap (λ (x : Outcome (Node K V) Table). call.helped p goal (s.0.0, x)) r.1) r.0 refl
+        calls_on (call.helped p goal (s.0.0, outcome.Goes)) (s.1 ∙ ap (λ (x : Yielding (Node K V) Table). call.helped p goal (s.0.0, x)) r.1) r.0 refl
     calls_at (at.Copies c) row saw =
         let s = seen_as (call.copied p) b m (copier_plan hash c) n end saw in
         let r = copies_at hash c s.0 c.stands row s.2 in
-        calls_on (call.copied p (s.0.0, outcome.Goes)) (s.1 ∙ ap (λ (x : Outcome (Node K V) Table). call.copied p (s.0.0, x)) r.1) r.0 refl
+        calls_on (call.copied p (s.0.0, outcome.Goes)) (s.1 ∙ ap (λ (x : Yielding (Node K V) Table). call.copied p (s.0.0, x)) r.1) r.0 refl
     calls_at _ row saw = absurd (cc row)
 
-  module _ (hash : K → ℕ) (p : Reserve) (end : Reserve × Outcome (Node K V) Unit) where
+  module _ (hash : K → ℕ) (p : Reserve) (end : Reserve × Yielding (Node K V) Unit) where
     abbrev Reserves : Type 0
     Reserves = ReservesNext end.0.stands b × (end.1 ≡ outcome.Goes)
 
-    reserves_on : (to : Reserve × Outcome (Node K V) Unit) → end ≡ to → ReservesNext to.0.stands b → to.1 ≡ outcome.Goes → Reserves
+    reserves_on : (to : Reserve × Yielding (Node K V) Unit) → end ≡ to → ReservesNext to.0.stands b → to.1 ≡ outcome.Goes → Reserves
     reserves_on to is next goes =
-        (subst (λ (x : Reserve × Outcome (Node K V) Unit). ReservesNext x.0.stands b) (sym is) next, ap (λ (x : Reserve × Outcome (Node K V) Unit). x.1) is ∙ goes)
+        (subst (λ (x : Reserve × Yielding (Node K V) Unit). ReservesNext x.0.stands b) (sym is) next, ap (λ (x : Reserve × Yielding (Node K V) Unit). x.1) is ∙ goes)
 
     reserves_at : (stands : Reserving) → reserves_at_row stands ≡ true → HasSeen b m (reserve.plan_at hash p stands) n end → Reserves
     reserves_at (reserving.Copies c) row saw =
         let s = seen_as (reserve.copied p) b m (copier_plan hash c) n end saw in
         let r = copies_at hash c s.0 c.stands row s.2 in
-        reserves_on (reserve.copied p (s.0.0, outcome.Goes)) (s.1 ∙ ap (λ (x : Outcome (Node K V) Table). reserve.copied p (s.0.0, x)) r.1) r.0 refl
+        reserves_on (reserve.copied p (s.0.0, outcome.Goes)) (s.1 ∙ ap (λ (x : Yielding (Node K V) Table). reserve.copied p (s.0.0, x)) r.1) r.0 refl
     reserves_at _ row saw = absurd (cc row)
 
   module _ (hash : K → ℕ) (p : Sweep) (end : Sweep × Swept (Node K V)) where
@@ -156,7 +156,7 @@ module _ {K V : Type 0} (b : ℕ) (m n : Mem (Node K V)) where
     sweeps_at (sweeping.Copies c) row saw =
         let s = seen_as (sweep.copied p) b m (copier_plan hash c) n end saw in
         let r = copies_at hash c s.0 c.stands row s.2 in
-        sweeps_on (sweep.copied p (s.0.0, outcome.Goes)) (s.1 ∙ ap (λ (x : Outcome (Node K V) Table). sweep.copied p (s.0.0, x)) r.1) r.0 refl
+        sweeps_on (sweep.copied p (s.0.0, outcome.Goes)) (s.1 ∙ ap (λ (x : Yielding (Node K V) Table). sweep.copied p (s.0.0, x)) r.1) r.0 refl
     sweeps_at (sweeping.Disposes d) row saw =
         let s = seen_as (sweep.disposed p) b m (dispose_plan d) n end saw in
         let r = disposes_at d s.0 d.stands row s.2 in
@@ -182,7 +182,7 @@ module _ {K V : Type 0} (b : ℕ) (m n : Mem (Node K V)) where
       by (kinds.Reserve c) r s =
           let f = seen_as machines.reserved b m (reserve_plan hash c) n (next, told) s in
           let k = reserves_at hash c f.0 c.stands r f.2 in
-          on (machines.reserved (f.0.0, outcome.Goes)) (f.1 ∙ ap (λ (x : Outcome (Node K V) Unit). machines.reserved (f.0.0, x)) k.1) k.0 tt
+          on (machines.reserved (f.0.0, outcome.Goes)) (f.1 ∙ ap (λ (x : Yielding (Node K V) Unit). machines.reserved (f.0.0, x)) k.1) k.0 tt
       by (kinds.Sweep c) r s =
           let f = seen_as machines.swept b m (sweep_plan hash c) n (next, told) s in
           let k = sweeps_at hash c f.0 c.stands r f.2 in

@@ -25,13 +25,13 @@ use Rattle.seize_seats.specs.Seats.State.{State, view_of, Goes}
 use Rattle.seize_views.specs.Views.Rows.{use_of}
 use Rattle.seize_views.specs.declared.view.Began.{Began}
 use Rattle.seize_views.specs.declared.view.Fixed.{Fixed}
-use Rattle.seize_views.specs.declared.view.View.{View as SlotView}
+use Rattle.seize_views.specs.declared.view.SlotView.{SlotView}
 use Rattle.seize_views.proofs.Views.InWorld.{IsLikeness, IsUsedLike, HasRow as RowIn, Went, GoesTo}
 use Rattle.seize_views.proofs.Views.Steps.{works_on_own}
 use Rattle.threads_rule.specs.Views.Listed.{AreNumbered}
 use Rattle.threads_rule.specs.Views.Rule.{MapsWorld, IsSlot, IsUsedSo, Holds, KeepsFor, Leans, held_slot}
 use Rattle.threads_rule.specs.declared.view.View.{View}
-use Rattle.threads_rule.specs.declared.view.Work.TheVariants.{Nothing}
+use Rattle.threads_rule.specs.declared.view.SeatWork.TheVariants.{Nothing}
 use Rattle.threads_rule.proofs.Views.Alone.{alone_on_slot}
 use Rattle.threads_rule.proofs.Views.Made.{row_keeps}
 use Rattle.threads_rule.proofs.Views.Leaves.{Leaves, alike_same}

@@ -24,8 +24,8 @@ use Rattle.seize_views.specs.declared.view.Began.{Began}
 use Rattle.seize_views.specs.declared.view.Fixed.{Fixed}
 use Rattle.seize_views.specs.declared.view.Has.{Has}
 use Rattle.seize_views.specs.declared.view.Has.TheVariants.{Nothing as NoBlock, Made, Seen, Both, Cut}
-use Rattle.seize_views.specs.declared.view.View.{View as SlotView}
-use Rattle.seize_views.specs.declared.view.View.TheVariants as slot_view
+use Rattle.seize_views.specs.declared.view.SlotView.{SlotView}
+use Rattle.seize_views.specs.declared.view.SlotView.TheVariants as slot_view
 use Rattle.seize_views.specs.declared.view.Why.TheVariants.{Retiring}
 use Rattle.seize_views.proofs.Views.Begins.{resting, flushes}
 use Rattle.seize_views.proofs.Views.GoesOn.{goes_on}
@@ -37,8 +37,8 @@ use Rattle.threads_rule.specs.Views.Looks.{shown_in}
 use Rattle.threads_rule.specs.Views.Rule.{MapsWorld, Fits, Holds, KeepsFor, LeansOn, Leans}
 use Rattle.threads_rule.specs.Views.Told.{told, told_by}
 use Rattle.threads_rule.specs.declared.view.View.{View}
-use Rattle.threads_rule.specs.declared.view.Work.{Work}
-use Rattle.threads_rule.specs.declared.view.Work.TheVariants.{Nothing}
+use Rattle.threads_rule.specs.declared.view.SeatWork.{SeatWork}
+use Rattle.threads_rule.specs.declared.view.SeatWork.TheVariants.{Nothing}
 use Rattle.threads_rule.proofs.Views.RowBegins.{row_just, nobody_else, begins_to}
 use Rattle.threads_rule.proofs.Views.RowFits.{scene, so, i, knows}
 use Rattle.threads_rule.proofs.Views.RowSteps.{alike, row_in, steps_to}
@@ -106,7 +106,7 @@ module _ {K V S : Type 0} (same : K → K → Bool) (hash : S → K → ℕ) (fi
     with_it : (u x : SlotView (Node K V)) (began : Began) → x ≡ u → record { slot = x; under = None; map = v.map; work = Nothing; looks = []; held = []; began = began; calls = v.calls } ≡ with_slot v u began
     with_it u x began e =
         ap (λ (y : SlotView (Node K V)). record { slot = y; under = None; map = v.map; work = Nothing; looks = []; held = []; began = began; calls = v.calls }) e
-        ∙ ap (λ (k : Work K V S). record { slot = u; under = None; map = v.map; work = k; looks = []; held = []; began = began; calls = v.calls }) (sym free)
+        ∙ ap (λ (k : SeatWork K V S). record { slot = u; under = None; map = v.map; work = k; looks = []; held = []; began = began; calls = v.calls }) (sym free)
         ∙ ap (λ (o : Option (ℕ × ℕ)). record { slot = u; under = o; map = v.map; work = v.work; looks = []; held = []; began = began; calls = v.calls }) (sym own)
 
     turns : (u : SlotView (Node K V)) (began : Began) → Turning deferred_word fixed IsUsedAlike alike me v.slot u
@@ -169,7 +169,7 @@ module _ {K S : Type 0} (V : Type 0) (same : K → K → Bool) (hash : S → K �
             steps_to same hash fixed s h id v at_id own free (unlent_within same hash fixed s h id v at_id op makes) m v.began (row_told deferred_word v.slot op out) (told same hash v op out)
             (k.1 out m (subst (λ (x : Mem (Node K V)). Took x op out m) is took))
             (λ u tells.
-            subst (λ (x : Work K V S). told_by same hash v v.map x op out record { slot = u; under = None; map = v.map; work = Nothing; looks = []; held = []; began = v.began; calls = v.calls }) (sym free)
+            subst (λ (x : SeatWork K V S). told_by same hash v v.map x op out record { slot = u; under = None; map = v.map; work = Nothing; looks = []; held = []; began = v.began; calls = v.calls }) (sym free)
             (u, tells, ap (λ (o : Option (ℕ × ℕ)). record { slot = u; under = o; map = v.map; work = Nothing; looks = []; held = []; began = v.began; calls = v.calls }) (sym own))),
       )
 

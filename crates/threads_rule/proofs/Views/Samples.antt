@@ -21,17 +21,17 @@ use Rattle.seize_views.specs.declared.view.Has.TheVariants.{Nothing as NoBlock}
 use Rattle.seize_views.specs.Views.Promises.{IsNext}
 use Rattle.seize_views.specs.declared.view.Becomes.TheVariants.{Idle}
 use Rattle.seize_views.specs.declared.view.Fixed.{Fixed}
-use Rattle.seize_views.specs.declared.view.View.{View as SlotView}
-use Rattle.seize_views.specs.declared.view.View.TheVariants.{Outside, Enters, Inside, Leaves}
+use Rattle.seize_views.specs.declared.view.SlotView.{SlotView}
+use Rattle.seize_views.specs.declared.view.SlotView.TheVariants.{Outside, Enters, Inside, Leaves}
 use Rattle.threads_rule.specs.Views.Begun.{machine_for, with_slot}
 use Rattle.threads_rule.specs.Views.Notes.{notes_of}
 use Rattle.seize_views.specs.declared.view.Began.TheVariants.{NotYet, Section}
 use Rattle.threads_rule.specs.Views.Told.{HandsBack, told, call_after, untold}
 use Rattle.threads_rule.specs.declared.view.Map.{Map}
-use Rattle.threads_rule.specs.declared.view.Run.{Run}
+use Rattle.threads_rule.specs.declared.view.BegunCall.{BegunCall}
 use Rattle.threads_rule.specs.declared.view.View.{View}
-use Rattle.threads_rule.specs.declared.view.Work.{Work}
-use Rattle.threads_rule.specs.declared.view.Work.TheVariants.{Nothing, Calls}
+use Rattle.threads_rule.specs.declared.view.SeatWork.{SeatWork}
+use Rattle.threads_rule.specs.declared.view.SeatWork.TheVariants.{Nothing, Calls}
 
 -- batches of 32 blocks, and four roots
 abbrev chosen : Fixed
@@ -53,10 +53,10 @@ abbrev machine : Machine ℕ ℕ ℕ
 machine = machine_for same hash map 0 (Get 5)
 
 -- it has begun just this call, which has told this
-abbrev ran : Progress (Node ℕ ℕ) → List (Run ℕ ℕ)
+abbrev ran : Progress (Node ℕ ℕ) → List (BegunCall ℕ ℕ)
 ran told = record { began = machine; told = told } ∷ []
 
-abbrev with_work : Work ℕ ℕ ℕ → View ℕ ℕ ℕ
+abbrev with_work : SeatWork ℕ ℕ ℕ → View ℕ ℕ ℕ
 with_work work = record { slot = Inside 0 NoBlock; under = None; map = Some map; work = work; looks = []; held = []; began = NotYet; calls = ran untold }
 
 abbrev answered : KeyAnswer → View ℕ ℕ ℕ
@@ -71,7 +71,7 @@ ends : told same hash (with_work (Calls machine)) (Load (Root 3)) (Found 0) (ans
 ends = (_, refl, refl, tt, (no_tables, no_tables, (Found 0, (refl, refl), refl)), tt)
 
 -- and not that it is
-abbrev last_told : List (Run ℕ ℕ) → Progress (Node ℕ ℕ)
+abbrev last_told : List (BegunCall ℕ ℕ) → Progress (Node ℕ ℕ)
 last_told [] = untold
 last_told (run ∷ before) = run.told
 
@@ -86,7 +86,7 @@ not_on (end, follows, is, may, came, hands) =
     let then = ap (λ (e : Machine ℕ ℕ ℕ × Progress (Node ℕ ℕ)). call_after {S = ℕ} e.0 e.1) follows in cc (work, then)
 
 -- a call that has begun to store a pair hands that one back, and no other one
-abbrev stores : List (Run ℕ ℕ)
+abbrev stores : List (BegunCall ℕ ℕ)
 stores = record { began = machine_for same hash map 0 (Insert 5 7); told = untold } ∷ []
 
 hands_no_other : HandsBack stores (Unstored (Pair 5 8)) → ⊥

@@ -14,9 +14,9 @@ use Rattle.threads_rule.specs.Views.Promises.{RulesStart, SeatsCome}
 use Rattle.threads_rule.specs.Views.Listed.{calls_of, seen_of, IsNewest}
 use Rattle.threads_rule.specs.Views.Looks.{shown_in}
 use Rattle.threads_rule.specs.Views.Rule.{MapsWorld, Fits, KnowsRow, AreRuns, HasSeen, IsIdle, IsSlot, caller_at, IsLeant, acts_in, at_rest, runs_of}
-use Rattle.threads_rule.specs.declared.view.Run.{Run}
+use Rattle.threads_rule.specs.declared.view.BegunCall.{BegunCall}
 use Rattle.threads_rule.specs.declared.view.View.{View}
-use Rattle.threads_rule.specs.declared.view.Work.TheVariants.{Calls}
+use Rattle.threads_rule.specs.declared.view.SeatWork.TheVariants.{Calls}
 use Rattle.threads_rule.proofs.Views.Knows.{knows_rests}
 use Rattle.threads_rule.proofs.Views.Numbers.{first_slot}
 
@@ -87,7 +87,7 @@ module _ {K S : Type 0} (V : Type 0) (same : K → K → Bool) (hash : S → K �
       rows = λ j x e. row j x (with_last s.views j at_rest x e);
       own = h.own;
       calls = λ j.
-          subst (λ (runs : List (Run K V)). AreRuns same hash s.world.scene (calls_of j s.world.doings h.reached.1 []) runs) (as_before j (slice_get (s.views ++ at_rest ∷ []) j) refl) (h.calls j);
+          subst (λ (runs : List (BegunCall K V)). AreRuns same hash s.world.scene (calls_of j s.world.doings h.reached.1 []) runs) (as_before j (slice_get (s.views ++ at_rest ∷ []) j) refl) (h.calls j);
       newest = λ j x machine e works. newest j x machine works (with_last s.views j at_rest x e);
       seen = λ j x e. seen j x (with_last s.views j at_rest x e);
     },

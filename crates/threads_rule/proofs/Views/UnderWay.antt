@@ -49,8 +49,8 @@ use Rattle.threads_rule.specs.Views.Reclaims.{IsNextOf, copies_at_row, disposes_
 use Rattle.threads_rule.specs.Views.Told.{HandsBack, call_after, called, newest_told}
 use Rattle.threads_rule.specs.declared.view.Map.{Map}
 use Rattle.threads_rule.specs.declared.view.View.{View}
-use Rattle.threads_rule.specs.declared.view.Work.{Work}
-use Rattle.threads_rule.specs.declared.view.Work.TheVariants.{Calls}
+use Rattle.threads_rule.specs.declared.view.SeatWork.{SeatWork}
+use Rattle.threads_rule.specs.declared.view.SeatWork.TheVariants.{Calls}
 use Rattle.threads_rule.proofs.Views.Knows.{knows_within}
 use Rattle.threads_rule.proofs.Views.Leaves.{Leaves, section_place, call_here, own_idle, map_on}
 use Rattle.threads_rule.proofs.Views.Held.{value_of}
@@ -86,7 +86,7 @@ module _ {K V S : Type 0} (same : K → K → Bool) (hash : S → K → ℕ) (fi
 
   pub does : DoesSo same hash scene (caller_at id place) v.under v.slot (Some map) (Calls machine)
   does =
-      subst (λ (x : Work K V S). DoesSo same hash scene (caller_at id place) v.under v.slot (Some map) x) works
+      subst (λ (x : SeatWork K V S). DoesSo same hash scene (caller_at id place) v.under v.slot (Some map) x) works
       (subst (λ (x : Option (Map S)). DoesSo same hash scene (caller_at id place) v.under v.slot x v.work) knows fits.does)
 
   pub it : KnowsMap same hash scene (Some map)
@@ -250,7 +250,7 @@ module _ {K V S : Type 0} (same : K → K → Bool) (hash : S → K → ℕ) (fi
 
     knows_pair : KnowsPair same hash scene i (Some map) (Calls machine) v.calls
     knows_pair =
-        subst (λ (x : Work K V S). KnowsPair same hash scene i (Some map) x v.calls) works
+        subst (λ (x : SeatWork K V S). KnowsPair same hash scene i (Some map) x v.calls) works
         (subst (λ (x : Option (Map S)). KnowsPair same hash scene i x v.work v.calls) knows fits.pair)
 
     -- the call that goes on was begun with the pair that it was begun with

@@ -10,13 +10,13 @@ use Rattle.seize_acts.proofs.Acts.Answers.{same_some}
 use Rattle.seize_seats.specs.Seats.State.{State, view_of}
 use Rattle.seize_views.specs.Views.Rows.{use_of}
 use Rattle.seize_views.specs.declared.view.Fixed.{Fixed}
-use Rattle.seize_views.specs.declared.view.View.{View as SlotView}
+use Rattle.seize_views.specs.declared.view.SlotView.{SlotView}
 use Rattle.threads_rule.specs.Views.Listed.{calls_of, seen_of, IsNewest}
 use Rattle.threads_rule.specs.Views.Looks.{shown_in}
 use Rattle.threads_rule.specs.Views.Rule.{MapsWorld, Fits, KnowsRow, AreRuns, HasSeen, Holds, caller_at, IsLeant, acts_in, runs_of}
-use Rattle.threads_rule.specs.declared.view.Run.{Run}
+use Rattle.threads_rule.specs.declared.view.BegunCall.{BegunCall}
 use Rattle.threads_rule.specs.declared.view.View.{View}
-use Rattle.threads_rule.specs.declared.view.Work.TheVariants.{Nothing, Calls}
+use Rattle.threads_rule.specs.declared.view.SeatWork.TheVariants.{Nothing, Calls}
 
 module _ {K V S : Type 0} (same : K → K → Bool) (hash : S → K → ℕ) (fixed : Fixed) (s : State (Node K V) (View K V S) (MapsWorld K V S)) (h : Holds same hash fixed s)
     (views : List (View K V S)) where
@@ -54,7 +54,7 @@ module _ {K V S : Type 0} (same : K → K → Bool) (hash : S → K → ℕ) (fi
     rows = λ k x at. let o = had k x at in subst (λ (z : SlotView (Node K V)). KnowsRow fixed s.world.scene k z) (sym o.slot) (h.rows k o.knew o.at);
     own = h.own;
     calls = λ k.
-        subst (λ (runs : List (Run K V)). AreRuns same hash s.world.scene (calls_of k s.world.doings h.reached.1 []) runs) (as_before k (slice_get views k) refl) (h.calls k);
+        subst (λ (runs : List (BegunCall K V)). AreRuns same hash s.world.scene (calls_of k s.world.doings h.reached.1 []) runs) (as_before k (slice_get views k) refl) (h.calls k);
     newest = λ k x machine at works.
         let o = had k x at in newest k x machine works o o.under;
     seen = λ k x at. let o = had k x at in sees k x o o.under;

@@ -12,8 +12,8 @@ use Rattle.papaya_raw.specs.declared.machines.answer.Missing.TheVariants as miss
 use Rattle.papaya_raw.specs.declared.machines.asking.Asking.TheVariants as asking
 use Rattle.papaya_raw.specs.declared.machines.asking.Gap.{Gap}
 use Rattle.papaya_raw.specs.declared.machines.asking.Replies.{Replies}
-use Rattle.papaya_raw.specs.declared.machines.asking.Reply.{Reply}
-use Rattle.papaya_raw.specs.declared.machines.asking.Reply.TheVariants as reply
+use Rattle.papaya_raw.specs.declared.machines.asking.MachineReply.{MachineReply}
+use Rattle.papaya_raw.specs.declared.machines.asking.MachineReply.TheVariants as reply
 use Rattle.papaya_raw.specs.declared.machines.asking.Takes.{Takes}
 use Rattle.papaya_raw.specs.declared.machines.asking.Takes.TheVariants as takes
 use Rattle.papaya_raw.specs.declared.machines.asking.Told.{Told}
@@ -142,7 +142,7 @@ TakesChoices _ = ⊥
 
 module _ {V : Type 0} where
   -- What may be told where it asks, by which replies it takes: a value only once.
-  abbrev pub IsFit : Takes → Bool → Option ℕ → Reply V → Type 0
+  abbrev pub IsFit : Takes → Bool → Option ℕ → MachineReply V → Type 0
   IsFit kind told pair (reply.Insert value) = TakesValues kind × (told ≡ false)
   IsFit kind told pair reply.Remove = TakesChanges kind
   IsFit kind told pair reply.Abort = TakesChanges kind
@@ -152,7 +152,7 @@ module _ {V : Type 0} where
   IsFit kind told None reply.No = ⊥
 
   -- how far it has come then
-  abbrev pub stage_after : Stage → Option ℕ → Reply V → Stage
+  abbrev pub stage_after : Stage → Option ℕ → MachineReply V → Stage
   stage_after s None (reply.Insert value) = record { told = true; gap = true }
   stage_after s (Some word) (reply.Insert value) = record { told = true; gap = s.gap }
   stage_after s pair told = s

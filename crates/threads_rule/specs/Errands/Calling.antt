@@ -25,7 +25,7 @@ use Rattle.threads_rule.specs.Views.Looks.{shown_in}
 use Rattle.threads_rule.specs.Views.Rule.{section_of}
 use Rattle.threads_rule.specs.declared.view.Map.{Map}
 use Rattle.threads_rule.specs.declared.view.View.{View}
-use Rattle.threads_rule.specs.declared.view.Work.TheVariants.{Nothing, Calls}
+use Rattle.threads_rule.specs.declared.view.SeatWork.TheVariants.{Nothing, Calls}
 use Rattle.threads_rule.specs.CallKinds.Kinds.{Kind, Stage, AsksSo, GoesOn}
 use Rattle.threads_rule.specs.Errands.Looking.{HasRun, HasTold, StaysThere}
 

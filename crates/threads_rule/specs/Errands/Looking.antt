@@ -1,8 +1,8 @@
 -- What a seat knows while its call looks for a key, and once it has ended.
 use Rattle.std.specs.Prelude.{◌≡◌, ℕ, Bool, true, ◌∷◌, Some, None, IfSome, Option}
 use Rattle.seize_words.specs.OneMemory.Word.{block_in}
-use Rattle.seize.specs.declared.progress.Progress.{Progress as Told}
-use Rattle.seize.specs.declared.progress.Progress.TheVariants as told_as
+use Rattle.seize.specs.declared.advance.Advance.{Advance as Told}
+use Rattle.seize.specs.declared.advance.Advance.TheVariants as told_as
 use Rattle.map_tables.specs.Chunks.{is_incremental}
 use Rattle.map_tables.specs.declared.node.Node.{Node}
 use Rattle.map_tables.specs.declared.node.Node.TheVariants.{Pair}
@@ -26,7 +26,7 @@ use Rattle.threads_rule.specs.Views.Looks.{shown_in}
 use Rattle.threads_rule.specs.Views.Rule.{section_of, stand_of}
 use Rattle.threads_rule.specs.declared.view.Map.{Map}
 use Rattle.threads_rule.specs.declared.view.View.{View}
-use Rattle.threads_rule.specs.declared.view.Work.TheVariants.{Nothing, Calls}
+use Rattle.threads_rule.specs.declared.view.SeatWork.TheVariants.{Nothing, Calls}
 use Rattle.map_straight.specs.Straight.Looking.{looks}
 use Rattle.map_straight.specs.declared.looking.Sight.{Sight}
 use Rattle.map_straight.specs.declared.looking.Sight.TheVariants as sight

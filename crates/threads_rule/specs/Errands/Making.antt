@@ -2,8 +2,8 @@
 use Rattle.std.specs.Prelude.{◌≡◌, ℕ, ◌+◌, ◌-◌, ◌^◌, ◌<◌, Some, Result, IfOk, IfErr}
 use Rattle.std.specs.Int.{IsPowerOfTwo}
 use Rattle.seize_words.specs.declared.fault.Fault.{Fault}
-use Rattle.seize.specs.declared.progress.Progress.{Progress}
-use Rattle.seize.specs.declared.progress.Progress.TheVariants as progress
+use Rattle.seize.specs.declared.advance.Advance.{Advance}
+use Rattle.seize.specs.declared.advance.Advance.TheVariants as progress
 use Rattle.map_tables.specs.declared.setting.Setting.{Setting}
 use Rattle.map_machines.specs.NewMap.{opening}
 use Rattle.map_machines.specs.declared.new_map.NewMap.{NewMap}
@@ -13,7 +13,7 @@ use Rattle.seize_views.specs.declared.view.Fixed.{Fixed}
 use Rattle.threads_rule.specs.Views.Begun.{making}
 use Rattle.threads_rule.specs.Views.Rule.{stand_of}
 use Rattle.threads_rule.specs.declared.view.View.{View}
-use Rattle.threads_rule.specs.declared.view.Work.TheVariants.{Nothing, Makes}
+use Rattle.threads_rule.specs.declared.view.SeatWork.TheVariants.{Nothing, Makes}
 
 -- it has a root to take, or shards to make, or gives its root up
 abbrev pub IsEarly : Opening → Type 0
@@ -71,7 +71,7 @@ module _ {K V S : Type 0} where
     pub knows : v.map ≡ Some record { number = number; setting = setting; hasher = hasher }
 
   -- what a step of the making tells: it goes on, the map is there, or it was refused
-  abbrev pub MadeSo : S → NewMap → Progress Setting → View K V S → Type 0
+  abbrev pub MadeSo : S → NewMap → Advance Setting → View K V S → Type 0
   MadeSo hasher c progress.Goes v = MakesMap hasher c v
   MadeSo hasher c progress.Waits v = ⊥
   MadeSo hasher c (progress.Done setting) v = HasMap hasher setting v
@@ -85,16 +85,16 @@ module _ {K V S : Type 0} where
     pub calls : w.calls ≡ v.calls
 
   -- the map that it knows is the same, but where it has made one
-  abbrev pub KnowsStill : Progress Setting → View K V S → View K V S → Type 0
+  abbrev pub KnowsStill : Advance Setting → View K V S → View K V S → Type 0
   KnowsStill (progress.Done setting) v w = Unit {0}
   KnowsStill _ v w = w.map ≡ v.map
 
 -- what was chosen stays so
-abbrev pub StaysChosen : NewMap → NewMap → Progress Setting → Type 0
+abbrev pub StaysChosen : NewMap → NewMap → Advance Setting → Type 0
 StaysChosen c d (progress.Done setting) = chosen_of setting ≡ chosen_of c.setting
 StaysChosen c d _ = chosen_of d.setting ≡ chosen_of c.setting
 
 -- fewer steps are left, where it goes on
-abbrev pub GetsOn : NewMap → NewMap → Progress Setting → Type 0
+abbrev pub GetsOn : NewMap → NewMap → Advance Setting → Type 0
 GetsOn c d progress.Goes = left_of d < left_of c
 GetsOn c d _ = Unit {0}

@@ -2,18 +2,18 @@
 use Rattle.std.specs.Prelude.{ℕ, Bool, Option, [], ◌∷◌, Some}
 use Rattle.map_machines.specs.declared.new_map.NewMap.{NewMap}
 use Rattle.papaya_raw.specs.Machine.{machine_replied}
-use Rattle.papaya_raw.specs.declared.machines.asking.Reply.{Reply}
+use Rattle.papaya_raw.specs.declared.machines.asking.MachineReply.{MachineReply}
 use Rattle.papaya_raw.specs.declared.machines.machine.Machine.{Machine}
 use Rattle.many_acts.specs.Given.FinishesMachines.{machine_of}
 use Rattle.many_acts.specs.Given.FinishesMaps.{new_map}
 use Rattle.many_acts.specs.Acts.Acts.{Wanted, begun}
 use Rattle.map_tables.specs.declared.node.Node.{Node}
 use Rattle.seize_views.specs.declared.view.Began.{Began}
-use Rattle.seize_views.specs.declared.view.View.{View as SlotView}
+use Rattle.seize_views.specs.declared.view.SlotView.{SlotView}
 use Rattle.threads_rule.specs.Views.Told.{untold}
 use Rattle.threads_rule.specs.declared.view.Map.{Map}
 use Rattle.threads_rule.specs.declared.view.View.{View}
-use Rattle.threads_rule.specs.declared.view.Work.TheVariants.{Calls, Makes}
+use Rattle.threads_rule.specs.declared.view.SeatWork.TheVariants.{Calls, Makes}
 
 module _ {K V S : Type 0} (same : K → K → Bool) (hash : S → K → ℕ) where
   -- the machine of a call that begins to do this on a map, in this slot
@@ -26,7 +26,7 @@ module _ {K V S : Type 0} where
   calling v machine = record { slot = v.slot; under = v.under; map = v.map; work = Calls machine; looks = []; held = []; began = v.began; calls = record { began = machine; told = untold } ∷ v.calls }
 
   -- its call was told this
-  abbrev pub replied : View K V S → Machine K V K → Reply V → View K V S
+  abbrev pub replied : View K V S → Machine K V K → MachineReply V → View K V S
   replied v machine reply = record { slot = v.slot; under = v.under; map = v.map; work = Calls (machine_replied machine reply).0; looks = []; held = []; began = v.began; calls = v.calls }
 
   -- it knows this map

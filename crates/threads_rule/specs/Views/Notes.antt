@@ -5,13 +5,13 @@ use Rattle.seize_views.specs.Views.Notes.{noted}
 use Rattle.seize_views.specs.Views.Rows.{IsAtRest}
 use Rattle.seize_views.specs.declared.view.Deed.TheVariants.{NoneYet}
 use Rattle.seize_views.specs.declared.view.Noted.{Noted}
-use Rattle.seize_views.specs.declared.view.View.{View as SlotView}
-use Rattle.seize_views.specs.declared.view.View.TheVariants.{Inside, Busy}
+use Rattle.seize_views.specs.declared.view.SlotView.{SlotView}
+use Rattle.seize_views.specs.declared.view.SlotView.TheVariants.{Inside, Busy}
 use Rattle.threads_rule.specs.declared.view.Map.{Map}
-use Rattle.threads_rule.specs.declared.view.Run.{Run}
+use Rattle.threads_rule.specs.declared.view.BegunCall.{BegunCall}
 use Rattle.threads_rule.specs.declared.view.View.{View}
-use Rattle.threads_rule.specs.declared.view.Work.{Work}
-use Rattle.threads_rule.specs.declared.view.Work.TheVariants.{Nothing, Calls, Makes}
+use Rattle.threads_rule.specs.declared.view.SeatWork.{SeatWork}
+use Rattle.threads_rule.specs.declared.view.SeatWork.TheVariants.{Nothing, Calls, Makes}
 
 -- a seat that has something else under way, within the section of its slot or without one, is busy, and so is one that leans on another
 abbrev pub busy : {T : Type 0} → SlotView T → SlotView T
@@ -19,7 +19,7 @@ busy (Inside t has) = Busy (Some t)
 busy slot = Busy None
 
 module _ {K V S : Type 0} where
-  abbrev pub row_known : Option (ℕ × ℕ) → SlotView (Node K V) → Work K V S → SlotView (Node K V)
+  abbrev pub row_known : Option (ℕ × ℕ) → SlotView (Node K V) → SeatWork K V S → SlotView (Node K V)
   row_known (Some leant) slot work = Busy None
   row_known None slot Nothing = slot
   row_known None slot (Calls machine) = busy slot
@@ -30,7 +30,7 @@ module _ {K V S : Type 0} where
   notes_of v = noted (row_known v.under v.slot v.work) NoneYet v.began 0
 
   -- and beside that: the map that it knows, and the calls that it has begun
-  abbrev pub beside_of : View K V S → Option (Map S) × List (Run K V)
+  abbrev pub beside_of : View K V S → Option (Map S) × List (BegunCall K V)
   beside_of v = (v.map, v.calls)
 
   -- it has nothing under way

@@ -10,7 +10,7 @@ use Rattle.map_tables.specs.declared.setting.Setting.{Setting}
 use Rattle.map_machines.specs.NewMap.{new_map_plan, opening}
 use Rattle.map_machines.specs.declared.new_map.NewMap.{NewMap}
 use Rattle.papaya_raw.specs.Machine.{machine_plan}
-use Rattle.papaya_raw.specs.declared.machines.asking.Reply.{Reply}
+use Rattle.papaya_raw.specs.declared.machines.asking.MachineReply.{MachineReply}
 use Rattle.papaya_raw.specs.declared.machines.machine.Machine.{Machine}
 use Rattle.papaya_raw.specs.declared.machines.progress.Progress.{Progress}
 use Rattle.owner_calls.specs.Given.PointsSteps.{AreLawful}
@@ -25,8 +25,8 @@ use Rattle.seize_views.specs.declared.view.Becomes.{Becomes}
 use Rattle.seize_views.specs.declared.view.Began.{Began}
 use Rattle.seize_views.specs.declared.view.Fixed.{Fixed}
 use Rattle.seize_views.specs.declared.view.Has.TheVariants.{Nothing as NoBlock}
-use Rattle.seize_views.specs.declared.view.View.{View as SlotView}
-use Rattle.seize_views.specs.declared.view.View.TheVariants.{Rests, Inside, Settles}
+use Rattle.seize_views.specs.declared.view.SlotView.{SlotView}
+use Rattle.seize_views.specs.declared.view.SlotView.TheVariants.{Rests, Inside, Settles}
 use Rattle.seize_views.specs.declared.view.Why.{Why}
 use Rattle.seize_views.specs.declared.view.Why.TheVariants.{Retiring}
 use Rattle.threads_rule.specs.Views.Begun.{machine_for, calling, replied, shown_map, leaning, making, with_slot}
@@ -35,7 +35,7 @@ use Rattle.threads_rule.specs.Views.Rule.{Holds, KeepsFor, Leans, section_of, at
 use Rattle.threads_rule.specs.Views.Told.{told, turned}
 use Rattle.threads_rule.specs.declared.view.Map.{Map}
 use Rattle.threads_rule.specs.declared.view.View.{View}
-use Rattle.threads_rule.specs.declared.view.Work.TheVariants.{Nothing, Calls, Makes}
+use Rattle.threads_rule.specs.declared.view.SeatWork.TheVariants.{Nothing, Calls, Makes}
 
 module _ {K S : Type 0} (V : Type 0) (same : K → K → Bool) (hash : S → K → ℕ) where
   -- The promise: the rule may start, whatever is chosen, where each hasher is lawful.
@@ -75,7 +75,7 @@ module _ {K S : Type 0} (V : Type 0) (same : K → K → Bool) (hash : S → K �
   -- what it has under way may be told anything
   abbrev pub CallsAreTold : Type 0
   CallsAreTold =
-      (fixed : Fixed) (id : ℕ) (v : View K V S) (map : Map S) (machine : Machine K V K) (reply : Reply V) → v.map ≡ Some map → v.work ≡ Calls machine
+      (fixed : Fixed) (id : ℕ) (v : View K V S) (map : Map S) (machine : Machine K V K) (reply : MachineReply V) → v.map ≡ Some map → v.work ≡ Calls machine
       → Turns (Holds same hash fixed) KeepsFor id v (λ w. w ≡ replied v machine reply)
 
   -- and a map that one seat knows may be handed on to another one that has nothing under way

@@ -2,8 +2,8 @@
 use Rattle.std.specs.Prelude.{◌≡◌, ℕ, Bool, Option, Some, None}
 use Rattle.std.proofs.Common.{refl, sym, subst, ap, ◌∙◌}
 use Rattle.seize_words.specs.OneMemory.Op.{Op, Out}
-use Rattle.seize.specs.declared.progress.Progress.{Progress as Told}
-use Rattle.seize.specs.declared.progress.Progress.TheVariants as told_as
+use Rattle.seize.specs.declared.advance.Advance.{Advance as Told}
+use Rattle.seize.specs.declared.advance.Advance.TheVariants as told_as
 use Rattle.map_tables.specs.Nodes.{deferred_word}
 use Rattle.map_tables.specs.declared.node.Node.{Node}
 use Rattle.map_tables.specs.declared.setting.Setting.{Setting}
@@ -11,15 +11,15 @@ use Rattle.seize_views.specs.Views.Notes.{noted, deed}
 use Rattle.seize_views.specs.Views.Resting.{resting_stay as row_stays}
 use Rattle.seize_views.specs.Views.Rows.{IsAtRest}
 use Rattle.seize_views.specs.declared.view.Deed.TheVariants.{NoneYet}
-use Rattle.seize_views.specs.declared.view.View.{View as SlotView}
-use Rattle.seize_views.specs.declared.view.View.TheVariants.{Inside}
+use Rattle.seize_views.specs.declared.view.SlotView.{SlotView}
+use Rattle.seize_views.specs.declared.view.SlotView.TheVariants.{Inside}
 use Rattle.threads_rule.specs.Views.Notes.{busy, row_known, IsResting}
 use Rattle.threads_rule.specs.Views.Rule.{LeansOn, Leans}
 use Rattle.threads_rule.specs.Views.Told.{told, told_by, made_after}
 use Rattle.threads_rule.specs.declared.view.Map.{Map}
 use Rattle.threads_rule.specs.declared.view.View.{View}
-use Rattle.threads_rule.specs.declared.view.Work.{Work}
-use Rattle.threads_rule.specs.declared.view.Work.TheVariants.{Nothing, Calls, Makes}
+use Rattle.threads_rule.specs.declared.view.SeatWork.{SeatWork}
+use Rattle.threads_rule.specs.declared.view.SeatWork.TheVariants.{Nothing, Calls, Makes}
 
 -- who is busy does not rest
 busy_not : {T : Type 0} (slot : SlotView T) → IsAtRest (busy slot) → ⊥
@@ -27,7 +27,7 @@ busy_not (Inside t has) is = is
 busy_not _ is = is
 
 module _ {K V S : Type 0} (same : K → K → Bool) (hash : S → K → ℕ) where
-  by_work : (v : View K V S) (op : Op (Node K V)) (out : Out (Node K V)) (w : View K V S) (under : Option (ℕ × ℕ)) → v.under ≡ under → (map : Option (Map S)) (work : Work K V S)
+  by_work : (v : View K V S) (op : Op (Node K V)) (out : Out (Node K V)) (w : View K V S) (under : Option (ℕ × ℕ)) → v.under ≡ under → (map : Option (Map S)) (work : SeatWork K V S)
       → told_by same hash v map work op out w → IsAtRest (row_known under v.slot work) → IsResting w
   by_work v op out w (Some leant) own map work is rests = absurd rests
   by_work v op out w None own map Nothing (slot, tells, is) rests =
@@ -38,7 +38,7 @@ module _ {K V S : Type 0} (same : K → K → Bool) (hash : S → K → ℕ) whe
   by_work v op out w None own map (Makes m hasher opening) is rests = absurd rests
 
   -- a step leaves a seat on whom it leans
-  same_under : (v : View K V S) (op : Op (Node K V)) (out : Out (Node K V)) (w : View K V S) (map : Option (Map S)) (work : Work K V S) → told_by same hash v map work op out w → w.under ≡ v.under
+  same_under : (v : View K V S) (op : Op (Node K V)) (out : Out (Node K V)) (w : View K V S) (map : Option (Map S)) (work : SeatWork K V S) → told_by same hash v map work op out w → w.under ≡ v.under
   same_under v op out w map Nothing is = ap (λ (x : View K V S). x.under) is.2
   same_under v op out w None (Calls machine) is = absurd is
   same_under v op out w (Some map) (Calls machine) is = ap (λ (x : View K V S). x.under) is.2

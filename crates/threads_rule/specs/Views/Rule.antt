@@ -26,18 +26,18 @@ use Rattle.seize_views.specs.Views.Rows.{row_of, use_of, IsPlain, IsShort, IsKno
 use Rattle.seize_views.specs.declared.view.Began.TheVariants.{NotYet}
 use Rattle.seize_views.specs.declared.view.Fixed.{Fixed}
 use Rattle.seize_views.specs.declared.view.Has.TheVariants.{Nothing as NoBlock}
-use Rattle.seize_views.specs.declared.view.View.{View as SlotView}
-use Rattle.seize_views.specs.declared.view.View.TheVariants as slot_view
+use Rattle.seize_views.specs.declared.view.SlotView.{SlotView}
+use Rattle.seize_views.specs.declared.view.SlotView.TheVariants as slot_view
 use Rattle.threads_rule.specs.Views.Begun.{machine_for}
 use Rattle.threads_rule.specs.Views.Listed.{Called, plain, calls_of, seen_of, AreNumbered, IsItsOwn, IsNewest}
 use Rattle.threads_rule.specs.Views.Looks.{shown_in}
 use Rattle.threads_rule.specs.Views.Reclaims.{IsNextOf}
 use Rattle.threads_rule.specs.Views.Told.{pair_in}
 use Rattle.threads_rule.specs.declared.view.Map.{Map}
-use Rattle.threads_rule.specs.declared.view.Run.{Run}
+use Rattle.threads_rule.specs.declared.view.BegunCall.{BegunCall}
 use Rattle.threads_rule.specs.declared.view.View.{View}
-use Rattle.threads_rule.specs.declared.view.Work.{Work}
-use Rattle.threads_rule.specs.declared.view.Work.TheVariants.{Nothing, Calls, Makes}
+use Rattle.threads_rule.specs.declared.view.SeatWork.{SeatWork}
+use Rattle.threads_rule.specs.declared.view.SeatWork.TheVariants.{Nothing, Calls, Makes}
 
 -- A seat is another caller in each slot.
 abbrev pub caller_at : ℕ → ℕ → ℕ
@@ -91,7 +91,7 @@ abbrev pub at_rest : {K V S : Type 0} → View K V S
 at_rest = record { slot = slot_view.Rests; under = None; map = None; work = Nothing; looks = []; held = []; began = NotYet; calls = [] }
 
 -- the calls that a seat has begun; one that has not come has begun none
-abbrev pub runs_of : {K V S : Type 0} → Option (View K V S) → List (Run K V)
+abbrev pub runs_of : {K V S : Type 0} → Option (View K V S) → List (BegunCall K V)
 runs_of None = []
 runs_of (Some v) = v.calls
 
@@ -164,7 +164,7 @@ module _ {K V : Type 0} where
 
 module _ {K V S : Type 0} (same : K → K → Bool) (hash : S → K → ℕ) where
   -- what it has under way, as this caller
-  abbrev pub DoesSo : Scene K V → ℕ → Option (ℕ × ℕ) → SlotView (Node K V) → Option (Map S) → Work K V S → Type 0
+  abbrev pub DoesSo : Scene K V → ℕ → Option (ℕ × ℕ) → SlotView (Node K V) → Option (Map S) → SeatWork K V S → Type 0
   DoesSo s i under slot map Nothing = HasRow s i slot
   DoesSo s i under slot None (Calls machine) = ⊥
   DoesSo s i under slot (Some map) (Calls machine) =
@@ -177,7 +177,7 @@ module _ {K V S : Type 0} (same : K → K → Bool) (hash : S → K → ℕ) whe
   KnowsMap s (Some map) = (it : Standing K) × (s.maps map.number ≡ Some it) × (it.setting ≡ map.setting) × (it.hash ≡ hash map.hasher)
 
   -- the call that is under way was begun with the pair with which the newest of these began
-  abbrev pub KnowsPair : Scene K V → ℕ → Option (Map S) → Work K V S → List (Run K V) → Type 0
+  abbrev pub KnowsPair : Scene K V → ℕ → Option (Map S) → SeatWork K V S → List (BegunCall K V) → Type 0
   KnowsPair s i map Nothing runs = Unit {0}
   KnowsPair s i map (Makes m hasher opening) runs = Unit {0}
   KnowsPair s i None (Calls machine) runs = Unit {0}
@@ -188,20 +188,20 @@ module _ {K V S : Type 0} (same : K → K → Bool) (hash : S → K → ℕ) whe
   IsInSection s under slot b = (t : ℕ) × (section_of under slot ≡ Some t) × (holds t b s.world.log ≡ true) × (is_over b s.world.log ≡ false)
 
   -- the call that is under way has it: as its own pair, or to reclaim it next, by a row of the collector
-  abbrev pub IsOfCall : Work K V S → ℕ → Type 0
+  abbrev pub IsOfCall : SeatWork K V S → ℕ → Type 0
   IsOfCall (Calls machine) b = IsOwnOf machine b ⊎ IsNextOf machine b
   IsOfCall work b = ⊥
 
   -- the block is there with this value, and why it lasts until the seat's next step
-  abbrev pub IsHeld : Scene K V → Option (ℕ × ℕ) → SlotView (Node K V) → Work K V S → ℕ × Node K V → Type 0
+  abbrev pub IsHeld : Scene K V → Option (ℕ × ℕ) → SlotView (Node K V) → SeatWork K V S → ℕ × Node K V → Type 0
   IsHeld s under slot work look = (value_at s.world.memory look.0 ≡ Some look.1) × (IsInSection s under slot look.0 ⊎ IsOfCall work look.0)
 
-  abbrev pub AllHeld : Scene K V → Option (ℕ × ℕ) → SlotView (Node K V) → Work K V S → List (ℕ × Node K V) → Type 0
+  abbrev pub AllHeld : Scene K V → Option (ℕ × ℕ) → SlotView (Node K V) → SeatWork K V S → List (ℕ × Node K V) → Type 0
   AllHeld s under slot work [] = Unit {0}
   AllHeld s under slot work (look ∷ looks) = IsHeld s under slot work look × AllHeld s under slot work looks
 
   -- A call that a seat knows of is this one of the list: it began as that does on a map that stands, in the slot of its caller, and has told the same last.
-  pub record IsRun (s : Scene K V) (call : Called K V) (run : Run K V) : Type 0 where
+  pub record IsRun (s : Scene K V) (call : Called K V) (run : BegunCall K V) : Type 0 where
     pub map : Map S
     pub stands : KnowsMap s (Some map)
     pub number : map.number ≡ call.map
@@ -210,7 +210,7 @@ module _ {K V S : Type 0} (same : K → K → Bool) (hash : S → K → ℕ) whe
     pub told : run.told ≡ call.told
 
   -- each of them, and there are no others
-  abbrev pub AreRuns : Scene K V → List (Called K V) → List (Run K V) → Type 0
+  abbrev pub AreRuns : Scene K V → List (Called K V) → List (BegunCall K V) → Type 0
   AreRuns s [] [] = Unit {0}
   AreRuns s (call ∷ calls) (run ∷ runs) = IsRun s call run × AreRuns s calls runs
   AreRuns s calls runs = ⊥

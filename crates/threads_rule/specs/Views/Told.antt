@@ -3,8 +3,8 @@ use Rattle.std.specs.Prelude.{◌≡◌, ℕ, Bool, List, [], ◌∷◌, Option,
 use Rattle.seize_words.specs.OneMemory.Mem.{Mem, Took, value_at}
 use Rattle.seize_words.specs.OneMemory.Op.{Op, Out}
 use Rattle.seize_words.specs.OneMemory.Plan.{Plan, Steps}
-use Rattle.seize.specs.declared.progress.Progress.{Progress as Told}
-use Rattle.seize.specs.declared.progress.Progress.TheVariants as told_as
+use Rattle.seize.specs.declared.advance.Advance.{Advance as Told}
+use Rattle.seize.specs.declared.advance.Advance.TheVariants as told_as
 use Rattle.map_tables.specs.Chunks.{is_incremental}
 use Rattle.map_tables.specs.Nodes.{deferred_word}
 use Rattle.map_tables.specs.declared.node.Node.{Node}
@@ -17,13 +17,13 @@ use Rattle.papaya_raw.specs.declared.machines.machine.Machine.TheVariants as kin
 use Rattle.papaya_raw.specs.declared.machines.progress.Progress.{Progress}
 use Rattle.papaya_raw.specs.declared.machines.progress.Progress.TheVariants as progress
 use Rattle.seize_views.specs.Views.Told.{FollowsBy, told as row_told}
-use Rattle.seize_views.specs.declared.view.View.{View as SlotView}
+use Rattle.seize_views.specs.declared.view.SlotView.{SlotView}
 use Rattle.threads_rule.specs.Views.Looks.{shown_in, TurnsTo, MayFollow}
 use Rattle.threads_rule.specs.declared.view.Map.{Map}
-use Rattle.threads_rule.specs.declared.view.Run.{Run}
+use Rattle.threads_rule.specs.declared.view.BegunCall.{BegunCall}
 use Rattle.threads_rule.specs.declared.view.View.{View}
-use Rattle.threads_rule.specs.declared.view.Work.{Work}
-use Rattle.threads_rule.specs.declared.view.Work.TheVariants.{Nothing, Calls, Makes}
+use Rattle.threads_rule.specs.declared.view.SeatWork.{SeatWork}
+use Rattle.threads_rule.specs.declared.view.SeatWork.TheVariants.{Nothing, Calls, Makes}
 
 -- the step comes to this outcome in some memory
 abbrev pub MayCome : {T R : Type 0} → Plan T R → R → Type 0
@@ -40,23 +40,23 @@ module _ {K V : Type 0} where
   begun_with _ = None
 
   -- that of the newest call of a seat
-  abbrev pub pair_in : List (Run K V) → Option (Node K V)
+  abbrev pub pair_in : List (BegunCall K V) → Option (Node K V)
   pair_in [] = None
   pair_in (run ∷ before) = begun_with run.began
 
   -- what a call hands back that it has not stored is the pair that it began with, if it began with one
-  abbrev pub HandsBack : List (Run K V) → Progress (Node K V) → Type 0
+  abbrev pub HandsBack : List (BegunCall K V) → Progress (Node K V) → Type 0
   HandsBack runs (progress.Unstored value) = (pair : Node K V) → pair_in runs ≡ Some pair → value ≡ pair
   HandsBack runs told = Unit {0}
 
   -- the calls of a seat, where the newest one has told this last
-  abbrev pub newest_told : Progress (Node K V) → List (Run K V) → List (Run K V)
+  abbrev pub newest_told : Progress (Node K V) → List (BegunCall K V) → List (BegunCall K V)
   newest_told told [] = []
   newest_told told (run ∷ before) = record run { told = told } ∷ before
 
 module _ {K V S : Type 0} where
   -- a call that has come so far: it goes on, or has ended
-  abbrev pub call_after : Machine K V K → Progress (Node K V) → Work K V S
+  abbrev pub call_after : Machine K V K → Progress (Node K V) → SeatWork K V S
   call_after machine (progress.Done answer) = Nothing
   call_after machine (progress.Refused fault) = Nothing
   call_after machine told = Calls machine
@@ -77,7 +77,7 @@ module _ {K V S : Type 0} where
   made_after v m hasher looks opening told = record { slot = v.slot; under = v.under; map = v.map; work = Makes m hasher opening; looks = looks; held = []; began = v.began; calls = v.calls }
 
 module _ {K V S : Type 0} (same : K → K → Bool) (hash : S → K → ℕ) where
-  abbrev pub told_by : View K V S → Option (Map S) → Work K V S → Op (Node K V) → Out (Node K V) → View K V S → Type 0
+  abbrev pub told_by : View K V S → Option (Map S) → SeatWork K V S → Op (Node K V) → Out (Node K V) → View K V S → Type 0
   told_by v map Nothing op out w =
       (slot : SlotView (Node K V)) × row_told deferred_word v.slot op out slot × (w ≡ record { slot = slot; under = v.under; map = v.map; work = Nothing; looks = []; held = []; began = v.began; calls = v.calls })
   told_by v (Some map) (Calls machine) op out w =
@@ -92,7 +92,7 @@ module _ {K V S : Type 0} (same : K → K → Bool) (hash : S → K → ℕ) whe
   told v op out w = told_by v v.map v.work op out w
 
   -- what a seat knows once its call has taken a step without an operation
-  abbrev pub turned_by : View K V S → Option (Map S) → Work K V S → View K V S → Type 0
+  abbrev pub turned_by : View K V S → Option (Map S) → SeatWork K V S → View K V S → Type 0
   turned_by v (Some map) (Calls machine) w =
       (end : Machine K V K × Progress (Node K V)) × TurnsTo (shown_in w.looks) (machine_plan same same (hash map.hasher) machine) end × (w ≡ called v map machine end w.looks)
       × MayCome (machine_plan same same (hash map.hasher) machine) end × HandsBack v.calls end.1

@@ -8,7 +8,7 @@ use Rattle.seize_acts.specs.Acts.Answers.{Grant, then_on}
 use Rattle.seize_acts.proofs.Acts.Answers.{same_some}
 use Rattle.run_shows.specs.Given.TablesDeclared.node.Node.{Node}
 use Rattle.run_shows.specs.Given.RawMachine.{machine_plan, machine_replied, machine_asked}
-use Rattle.run_shows.specs.Given.RawDeclared.machines.asking.Reply.{Reply}
+use Rattle.run_shows.specs.Given.RawDeclared.machines.asking.MachineReply.{MachineReply}
 use Rattle.run_shows.specs.Given.RawDeclared.machines.machine.Machine.{Machine}
 use Rattle.run_shows.specs.Given.RawDeclared.machines.progress.Progress.{Progress}
 use Rattle.owner_facts.specs.Given.PointsSteps.{AreLawful}
@@ -138,16 +138,16 @@ module _ {K V S : Type 0} (same : K → K → Bool) (by_hasher : S → K → ℕ
         (let so = one_call came.call came.here GoesTo (goes stand, refl) in ((came.progress, came.tells, λ k u has. (so k u has).0, λ k u has. (so k u has).1), there stand)))
 
   -- what a call is told, and asked for, and that it is given up
-  abbrev Replied : Reply V → Result Unit (Reply V) → ℕ → UnderWay K V K → Type 0
+  abbrev Replied : MachineReply V → Result Unit (MachineReply V) → ℕ → UnderWay K V K → Type 0
   Replied reply result k u =
       (standing : Standing K) × (next : UnderWay K V K) × (s.maps k ≡ Some standing) × (machine_of next ≡ (machine_replied (machine_of u) reply).0)
       × (result ≡ (machine_replied (machine_of u) reply).1) × ToldOfKind V same same batch_size roots slot_of standing i u reply next
       × (s.world.memory ≡ s.world.memory) × IsAt same hash (held_in batch_size roots NoChange s) (scene_with k i next s)
 
-  abbrev RepliedTo : UnderWay K V K → Reply V → Result Unit (Reply V) → ℕ → UnderWay K V K → Type 0
+  abbrev RepliedTo : UnderWay K V K → MachineReply V → Result Unit (MachineReply V) → ℕ → UnderWay K V K → Type 0
   RepliedTo next reply result k u = (so : Replied reply result k u) × (is_err result ≡ true → so.1 ≡ u) × (scene_with m i next s ≡ scene_with k i so.1 s)
 
-  pub told_as : (reply : Reply V) (told : Answer K V) → Led same by_hasher batch_size roots slot_of (TellsCall i m reply) s told n → Leads (TellsCall i m reply) told NoChange n
+  pub told_as : (reply : MachineReply V) (told : Answer K V) → Led same by_hasher batch_size roots slot_of (TellsCall i m reply) s told n → Leads (TellsCall i m reply) told NoChange n
   told_as reply told (standing, stands, u, next, here, machine_is, told_is, kind, is) =
       onto (TellsCall i m reply) told NoChange (scene_with m i next s) is
       (λ stand. let there = calls_there same hash batch_size roots s before at (with_call s.calls m i (Some next)) NoChange stand in

@@ -6,8 +6,8 @@ use Rattle.run_shows.specs.Given.SeizeWordsMem.{Mem}
 use Rattle.run_shows.specs.Given.SeizeWordsPlan.{Plan}
 use Rattle.run_shows.specs.Given.SeizeLaw.{Ended}
 use Rattle.run_shows.specs.Given.SeizeWorld.{Row, with_at, with_effect}
-use Rattle.run_shows.specs.Given.SeizeDeclared.progress.Progress.{Progress}
-use Rattle.run_shows.specs.Given.SeizeDeclared.progress.Progress.TheVariants as progress
+use Rattle.run_shows.specs.Given.SeizeDeclared.advance.Advance.{Advance}
+use Rattle.run_shows.specs.Given.SeizeDeclared.advance.Advance.TheVariants as progress
 use Rattle.run_shows.specs.Given.SeizeDeclared.rows.settle.Settled.{Settled}
 use Rattle.run_shows.specs.Given.SeizeDeclared.rows.settle.Settled.TheVariants as settled
 use Rattle.seize_acts.specs.Acts.Answers.{Grant}
@@ -80,13 +80,13 @@ module _ {K V S : Type 0} (same : K → K → Bool) (by_hasher : S → K → ℕ
 
   -- it takes a step
   module _ (b : Beginning K) (makes : s.makers i ≡ Some b) (g : Grant) (m2 : Mem (Node K V)) (machine : NewMap) where
-    abbrev making : Plan (Node K V) (NewMap × Progress Setting)
+    abbrev making : Plan (Node K V) (NewMap × Advance Setting)
     making = new_map_plan b.machine
 
     abbrev new : Held K V
     new = record { memory = m2; changed = changed_of s.world.memory g making; batch_size = batch_size; roots = roots }
 
-    module _ (told : Progress Setting) (did : MakingStepsAmong V same same batch_size roots slot_of s.world s.maps s.calls s.makers s.enders i b m2 (machine, told)) where
+    module _ (told : Advance Setting) (did : MakingStepsAmong V same same batch_size roots slot_of s.world s.maps s.calls s.makers s.enders i b m2 (machine, told)) where
       on_slots : OnSlots same hash batch_size roots s before at did.step.w2
       on_slots j =
           subst (λ (f : ℕ → Row). IsRowOn (slot_of j) (f j))
@@ -105,12 +105,12 @@ module _ {K V S : Type 0} (same : K → K → Bool) (by_hasher : S → K → ℕ
       }
 
     -- where it has come
-    abbrev Made : (told : Progress Setting) → MakingStepsAmong V same same batch_size roots slot_of s.world s.maps s.calls s.makers s.enders i b m2 (machine, told) → Scene K V → Type 0
+    abbrev Made : (told : Advance Setting) → MakingStepsAmong V same same batch_size roots slot_of s.world s.maps s.calls s.makers s.enders i b m2 (machine, told) → Scene K V → Type 0
     Made told did x =
         (x.world.memory ≡ m2) × ((comes : MakingComesToThere same (IsAt same hash new) s old i b machine did.step.w2 told) × MadeTo same hash s old new i b machine did.step.w2 told comes x)
         × IsAt same hash new x
 
-    made : (told : Progress Setting) (did : MakingStepsAmong V same same batch_size roots slot_of s.world s.maps s.calls s.makers s.enders i b m2 (machine, told))
+    made : (told : Advance Setting) (did : MakingStepsAmong V same same batch_size roots slot_of s.world s.maps s.calls s.makers s.enders i b m2 (machine, told))
         → MakingCame same by_hasher batch_size roots slot_of s i b did.step.w2 machine n told → Made told did n
     made progress.Goes did is =
         onto (Made progress.Goes did) (record s { world = did.step.w2; makers = with_at s.makers i (Some (record b { machine = machine })) }) is
@@ -133,12 +133,12 @@ module _ {K V S : Type 0} (same : K → K → Bool) (by_hasher : S → K → ℕ
         onto (Made (progress.Refused fault) did) (record s { world = did.step.w2; makers = with_at s.makers i None }) is
         (λ stand. let there = made_there (progress.Refused fault) did s.maps None at.hashes (λ c is. absurd (cc is)) stand in (did.step.memory, (there, refl), there))
 
-    module _ (told : Progress Setting) (computed : making_steps same by_hasher batch_size roots slot_of s g b ≡ Some (m2, (machine, told)))
+    module _ (told : Advance Setting) (computed : making_steps same by_hasher batch_size roots slot_of s g b ≡ Some (m2, (machine, told)))
         (did : MakingStepsAmong V same same batch_size roots slot_of s.world s.maps s.calls s.makers s.enders i b m2 (machine, told))
         (came : MakingCame same by_hasher batch_size roots slot_of s i b did.step.w2 machine n told) where
       abbrev Goes : Beginning K → Type 0
       Goes c =
-          (opening : NewMap) × StepsTold K V (NewMap × Progress Setting) s.world.memory NoChange (new_map_plan c.machine) m2 new.changed (opening, told)
+          (opening : NewMap) × StepsTold K V (NewMap × Advance Setting) s.world.memory NoChange (new_map_plan c.machine) m2 new.changed (opening, told)
           × (did : MakingStepsAmong V same same batch_size roots slot_of s.world s.maps s.calls s.makers s.enders i c m2 (opening, told))
           × MakingComesToThere same (IsAt same hash new) s old i c opening did.step.w2 told
 

@@ -10,8 +10,8 @@ use Rattle.run_shows.specs.Given.SeizeLeave.{leave_plan}
 use Rattle.run_shows.specs.Given.SeizeRegister.{register_plan}
 use Rattle.run_shows.specs.Given.SeizeSettle.{settle_plan}
 use Rattle.run_shows.specs.Given.SeizeWorld.{World, Row, Rests, Registers, Enters, Settles, Leaves, Defers, Frees, Inside, Vacant, Request, Begin, Step, Happens, Steps', after_step, left_row, registers_on, settles_on, leaves_on, with_at, with_use}
-use Rattle.run_shows.specs.Given.SeizeDeclared.progress.Progress.{Progress}
-use Rattle.run_shows.specs.Given.SeizeDeclared.progress.Progress.TheVariants as progress
+use Rattle.run_shows.specs.Given.SeizeDeclared.advance.Advance.{Advance}
+use Rattle.run_shows.specs.Given.SeizeDeclared.advance.Advance.TheVariants as progress
 use Rattle.run_shows.specs.Given.SeizeDeclared.rows.enter.Enter.{Enter}
 use Rattle.run_shows.specs.Given.SeizeDeclared.rows.enter.Unregister.{Unregister}
 use Rattle.run_shows.specs.Given.SeizeDeclared.rows.leave.Leave.{Leave}
@@ -64,7 +64,7 @@ module _ {K V : Type 0} (w : World (Node K V)) (i : ℕ) (g : Grant) where
   here row = with_here w.row i row
 
   module _ (m2 : Mem (Node K V)) where
-    registers_go : (c c2 : Register) (p : Progress ℕ) → stepped w.memory g (register_plan c) ≡ Some (m2, (c2, p))
+    registers_go : (c c2 : Register) (p : Advance ℕ) → stepped w.memory g (register_plan c) ≡ Some (m2, (c2, p))
         → Goes (rows.Registers c) (changed_of w.memory g (register_plan c)) (registers_on w i c m2 (c2, p)) (of_registering p)
     registers_go c c2 progress.Goes e = record {
       after = rows.Registers c2;
@@ -92,26 +92,26 @@ module _ {K V : Type 0} (w : World (Node K V)) (i : ℕ) (g : Grant) where
     }
 
     -- a row of one store has ended
-    has_ended : (after : SlotRow) (p : Progress Unit) → p ≡ progress.Done tt → with_at w.row i Rests i ≡ row_then {T = Node K V} after (of_storing p)
-    has_ended after p done = subst (λ (x : Progress Unit). with_at w.row i Rests i ≡ row_then {T = Node K V} after (of_storing x)) (sym done) (here Rests)
+    has_ended : (after : SlotRow) (p : Advance Unit) → p ≡ progress.Done tt → with_at w.row i Rests i ≡ row_then {T = Node K V} after (of_storing p)
+    has_ended after p done = subst (λ (x : Advance Unit). with_at w.row i Rests i ≡ row_then {T = Node K V} after (of_storing x)) (sym done) (here Rests)
 
-    enters_go : (c c2 : Enter) (p : Progress Unit) → stepped w.memory g (enter_plan c) ≡ Some (m2, (c2, p))
+    enters_go : (c c2 : Enter) (p : Advance Unit) → stepped w.memory g (enter_plan c) ≡ Some (m2, (c2, p))
         → Goes (rows.Enters c) (changed_of w.memory g (enter_plan c)) (with_use (after_step w i m2 Rests (Entered c.slot ∷ [])) c.slot (Inside 0)) (of_storing p)
     enters_go c c2 p e =
         let st : Steps Took value_at w.memory (enter_plan c) m2 (c2, p) = was_stepped w.memory g (enter_plan c) (m2, (c2, p)) e in record {
           after = rows.Enters c2;
           steps = ((c2, p), was_told w.memory g (enter_plan c) (m2, (c2, p)) e, refl);
-          row_is = has_ended (rows.Enters c2) p (ap (λ (x : Enter × Progress Unit). x.1) st.2);
+          row_is = has_ended (rows.Enters c2) p (ap (λ (x : Enter × Advance Unit). x.1) st.2);
           on_slot = λ slot on. subst (IsRowOn slot) (sym (here Rests)) tt;
         }
 
-    frees_go : (c c2 : Unregister) (p : Progress Unit) → stepped w.memory g (unregister_plan c) ≡ Some (m2, (c2, p))
+    frees_go : (c c2 : Unregister) (p : Advance Unit) → stepped w.memory g (unregister_plan c) ≡ Some (m2, (c2, p))
         → Goes (rows.Frees c) (changed_of w.memory g (unregister_plan c)) (with_use (after_step w i m2 Rests []) c.slot Vacant) (of_storing p)
     frees_go c c2 p e =
         let st : Steps Took value_at w.memory (unregister_plan c) m2 (c2, p) = was_stepped w.memory g (unregister_plan c) (m2, (c2, p)) e in record {
           after = rows.Frees c2;
           steps = ((c2, p), was_told w.memory g (unregister_plan c) (m2, (c2, p)) e, refl);
-          row_is = has_ended (rows.Frees c2) p (ap (λ (x : Unregister × Progress Unit). x.1) st.2);
+          row_is = has_ended (rows.Frees c2) p (ap (λ (x : Unregister × Advance Unit). x.1) st.2);
           on_slot = λ slot on. subst (IsRowOn slot) (sym (here Rests)) tt;
         }
 

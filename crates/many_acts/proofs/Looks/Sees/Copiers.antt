@@ -27,8 +27,8 @@ use Rattle.run_shows.specs.Given.ResizeNewTable.{new_table_plan}
 use Rattle.run_shows.specs.Given.ResizeDeclared.copier.Copier.{Copier}
 use Rattle.run_shows.specs.Given.ResizeDeclared.copier.Copying.{Copying}
 use Rattle.run_shows.specs.Given.ResizeDeclared.copier.Copying.TheVariants as at
-use Rattle.run_shows.specs.Given.ResizeDeclared.outcome.Outcome.{Outcome}
-use Rattle.run_shows.specs.Given.ResizeDeclared.outcome.Outcome.TheVariants.{Goes}
+use Rattle.run_shows.specs.Given.ResizeDeclared.yielding.Yielding.{Yielding}
+use Rattle.run_shows.specs.Given.ResizeDeclared.yielding.Yielding.TheVariants.{Goes}
 use Rattle.run_shows.specs.Given.RuleChart.{Chart}
 use Rattle.run_shows.specs.Given.RuleLinks.{LeadsTo}
 use Rattle.run_shows.specs.Given.RuleWords.{Blocks, place_word}
@@ -71,7 +71,7 @@ module _ {K V : Type 0} (same : K → K → Bool) (hash : K → ℕ) (fits : (k 
       (pair_held w slot c seen within_setting within hash fits setting.root w.memory map.map.shows (are_stored same (spot_of hash) (is_incremental setting.mode) c map.map.rule.common) t i
       entered.made entered.known (omega (arith, is, ne)))
 
-  module _ (p : Copier) (setting_is : p.setting ≡ setting) (b : ℕ) (n : Mem (Node K V)) (end : Copier × Outcome (Node K V) Table) where
+  module _ (p : Copier) (setting_is : p.setting ≡ setting) (b : ℕ) (n : Mem (Node K V)) (end : Copier × Yielding (Node K V) Table) where
     abbrev IsHeld : Type 0
     IsHeld = holds slot b w.log ≡ true
 
@@ -86,7 +86,7 @@ module _ {K V : Type 0} (same : K → K → Bool) (hash : K → ℕ) (fits : (k 
         let l = loads b w.memory n (Root p.setting.root) end (claims.root_read p) saw in
         let read : word_at w.memory (Root setting.root) ≡ Some l.0 = ap (λ (x : Setting). word_at w.memory (Root x.root)) (sym setting_is) ∙ l.1 in
         subst (λ (x : ℕ). holds slot x w.log ≡ true)
-        (sym (sees_one {R = Copier × Outcome (Node K V) Table} b (l.0 / 2048) shown (λ value. (record p { source = table_seen l.0 value; stands = at.Follows }, Goes)) l.3.1)) (root_held some l.0 read)
+        (sym (sees_one {R = Copier × Yielding (Node K V) Table} b (l.0 / 2048) shown (λ value. (record p { source = table_seen l.0 value; stands = at.Follows }, Goes)) l.3.1)) (root_held some l.0 read)
 
     follows : (t : ℕ) → IsTable c seen p.source t → Saw at.Follows → IsHeld
     follows t entered saw =
@@ -116,7 +116,7 @@ module _ {K V : Type 0} (same : K → K → Bool) (hash : K → ℕ) (fits : (k 
             | inl none ↦ absurd none.1
             | inr some ↦
                 subst (λ (x : ℕ). holds slot x w.log ≡ true)
-                (sym (sees_one {R = Copier × Outcome (Node K V) Table} b (l.0 / 2048) shown (λ value. (marks.probing p (marks.without_copying l.0) (marks.key_hash hash value) p.target, Goes)) some.1))
+                (sym (sees_one {R = Copier × Yielding (Node K V) Table} b (l.0 / 2048) shown (λ value. (marks.probing p (marks.without_copying l.0) (marks.key_hash hash value) p.target, Goes)) some.1))
                 (place_held p.source t p.place entered inside l.0 l.1 some.0)
           ]
           | inr other ↦ absurd (none_if b shown (marks.is_awaited p l.0) _ _ (λ x. x) (λ x. x) other.1)
@@ -181,6 +181,6 @@ module _ {K V : Type 0} (same : K → K → Bool) (hash : K → ℕ) (fits : (k 
     by_point at.Over point none saw = absurd saw.2
     by_point (at.Refused fault) point none saw = absurd saw.2
 
-  pub copier_sees : (p : Copier) → CopierFacts same hash w caller setting c seen p → (IsRowOfCopier p.stands → ⊥) → (b : ℕ) (n : Mem (Node K V)) (end : Copier × Outcome (Node K V) Table)
+  pub copier_sees : (p : Copier) → CopierFacts same hash w caller setting c seen p → (IsRowOfCopier p.stands → ⊥) → (b : ℕ) (n : Mem (Node K V)) (end : Copier × Yielding (Node K V) Table)
       → HasSeen b w.memory (copier_plan hash p) n end → holds slot b w.log ≡ true
   copier_sees p facts none b n end saw = by_point p facts.setting_is b n end p.stands facts.point none saw

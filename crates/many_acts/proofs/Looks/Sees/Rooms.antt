@@ -19,8 +19,8 @@ use Rattle.run_shows.specs.Given.ResizeCopierStates.{copying_all}
 use Rattle.run_shows.specs.Given.ResizeNewTable.{new_table_plan}
 use Rattle.run_shows.specs.Given.ResizeSum.{sum_plan}
 use Rattle.run_shows.specs.Given.ResizeDeclared.copier.Copier.{Copier}
-use Rattle.run_shows.specs.Given.ResizeDeclared.outcome.Outcome.{Outcome}
-use Rattle.run_shows.specs.Given.ResizeDeclared.outcome.Outcome.TheVariants.{Goes}
+use Rattle.run_shows.specs.Given.ResizeDeclared.yielding.Yielding.{Yielding}
+use Rattle.run_shows.specs.Given.ResizeDeclared.yielding.Yielding.TheVariants.{Goes}
 use Rattle.run_shows.specs.Given.ReservesReserve as reserve
 use Rattle.run_shows.specs.Given.ReservesReserve.{reserve_plan}
 use Rattle.run_shows.specs.Given.ReservesDeclared.reserve.Reserve.{Reserve}
@@ -59,7 +59,7 @@ module _ {K V : Type 0} (same : K → K → Bool) (hash : K → ℕ) (fits : (k 
   IsHeld = holds slot b w.log ≡ true
 
   -- the copier of a whole table
-  whole_sees : (p : Copier) → CopiesWhole same hash w caller setting c seen p → (IsRowOfCopier p.stands → ⊥) → (end : Outcome (Node K V) Table) (to : Copier)
+  whole_sees : (p : Copier) → CopiesWhole same hash w caller setting c seen p → (IsRowOfCopier p.stands → ⊥) → (end : Yielding (Node K V) Table) (to : Copier)
       → HasSeen b w.memory (copier_plan hash p) n (to, end) → IsHeld
   whole_sees p facts none end to saw =
       let whole : (p.whole ≡ true) × CopierFacts same hash w caller setting c seen p × IsEnding same hash w caller setting c seen p p.stands =
@@ -67,7 +67,7 @@ module _ {K V : Type 0} (same : K → K → Bool) (hash : K → ℕ) (fits : (k 
       (CopierFactsBlocking same hash w caller setting c seen p)) incremental facts in
       copier_sees same hash fits w slot caller c seen setting within_setting within map p whole.1 none b n (to, end) saw
 
-  module _ (p : Reserve) (facts : ReserveFacts same hash w caller setting c seen p) (end : Reserve × Outcome (Node K V) Unit) where
+  module _ (p : Reserve) (facts : ReserveFacts same hash w caller setting c seen p) (end : Reserve × Yielding (Node K V) Unit) where
     root_at : (root : ℕ) → word_at w.memory (Root p.setting.root) ≡ Some root → word_at w.memory (Root setting.root) ≡ Some root
     root_at root read = ap (λ (x : Setting). word_at w.memory (Root x.root)) (sym facts.setting_is) ∙ read
 
@@ -101,7 +101,7 @@ module _ {K V : Type 0} (same : K → K → Bool) (hash : K → ℕ) (fits : (k 
     sweep_root : (root : ℕ) → word_at w.memory (Root p.setting.root) ≡ Some root → word_at w.memory (Root setting.root) ≡ Some root
     sweep_root root read = ap (λ (x : Setting). word_at w.memory (Root x.root)) (sym facts.setting_is) ∙ read
 
-    table_sees : (p2 : Copier) → CopiesTable same hash w caller setting c seen began p2 → (IsRowOfCopier p2.stands → ⊥) → (to : Outcome (Node K V) Table) (next : Copier)
+    table_sees : (p2 : Copier) → CopiesTable same hash w caller setting c seen began p2 → (IsRowOfCopier p2.stands → ⊥) → (to : Yielding (Node K V) Table) (next : Copier)
         → HasSeen b w.memory (copier_plan hash p2) n (next, to) → IsHeld
     table_sees p2 (inl whole) none to next saw = whole_sees p2 whole none to next saw
     table_sees p2 (inr late) none to next saw = absurd (let blocking = late.0 in cc (blocking, incremental))

@@ -6,7 +6,7 @@ use Rattle.run_shows.specs.Given.SeizeWordsDeclared.at.At.TheVariants.{Word}
 use Rattle.run_shows.specs.Given.SeizeWordsMem.{Mem, value_at}
 use Rattle.run_shows.specs.Given.SeizeLaw.{holds}
 use Rattle.run_shows.specs.Given.SeizeWorld.{World}
-use Rattle.run_shows.specs.Given.SeizeDeclared.progress.Progress.{Progress}
+use Rattle.run_shows.specs.Given.SeizeDeclared.advance.Advance.{Advance}
 use Rattle.run_shows.specs.Given.TablesNodes.{table_seen}
 use Rattle.run_shows.specs.Given.TablesDeclared.node.Node.{Node}
 use Rattle.run_shows.specs.Given.TablesDeclared.setting.Setting.{Setting}
@@ -30,7 +30,7 @@ use Rattle.many_acts.proofs.Looks.Sees.Held.{table_held}
 use Rattle.many_acts.proofs.Looks.Sees.Operations.{none_if, loads, exchanges, makes}
 use Rattle.many_acts.proofs.Looks.Sees.Plans.{seen_as, sees_one}
 
-module _ {T : Type 0} (b : ℕ) (m n : Mem T) (c : Sum) (end : Sum × Progress ℕ) where
+module _ {T : Type 0} (b : ℕ) (m n : Mem T) (c : Sum) (end : Sum × Advance ℕ) where
   none_at : (stands : Summing) → HasSeen b m (sum.plan_at c stands) n end → ⊥
   none_at (summing.Adds shard total) seen =
       let l = loads b m n (Word c.setting.counter shard) end (sum.added c shard total) seen in
@@ -41,7 +41,7 @@ module _ {T : Type 0} (b : ℕ) (m n : Mem T) (c : Sum) (end : Sum × Progress �
   sum_sees_none = none_at c.stands
 
 module _ {K V : Type 0} (w : World (Node K V)) (slot caller : ℕ) (c : Chart K) (seen : Blocks) (setting within_setting : Setting) (within : IsWithin w slot c seen within_setting)
-    (link : At) (turn : ℕ) (p : NewTable) (b : ℕ) (n : Mem (Node K V)) (end : NewTable × Progress Table) where
+    (link : At) (turn : ℕ) (p : NewTable) (b : ℕ) (n : Mem (Node K V)) (end : NewTable × Advance Table) where
   abbrev IsHeld : Type 0
   IsHeld = holds slot b w.log ≡ true
 

@@ -13,7 +13,7 @@ use Rattle.many_calls.proofs.Given.SeizeWordsOneOwner.Operations.{may_make, made
 use Rattle.many_calls.proofs.Given.SeizeMemoryWords.Named.{block_there}
 use Rattle.many_calls.specs.Given.SeizeLaw.{Nowhere, Dropped, where_is}
 use Rattle.many_calls.specs.Given.SeizeWorld.{World, Hand, NoBlock, Making, Makes, Drops, with_at, with_hand, with_effect, made_by}
-use Rattle.many_calls.specs.Given.SeizeDeclared.progress.Progress.{Progress}
+use Rattle.many_calls.specs.Given.SeizeDeclared.advance.Advance.{Advance}
 use Rattle.many_calls.specs.Given.TablesNodes.{deferred_word}
 use Rattle.many_calls.specs.Given.TablesDeclared.node.Node.{Node}
 use Rattle.many_calls.specs.Given.TablesDeclared.node.Node.TheVariants as node
@@ -44,7 +44,7 @@ module _ {K Q : Type 0} (V : Type 0) (same : K → K → Bool) (asks : Q → K �
   abbrev n : NewMap
   n = b.machine
 
-  abbrev Told : World (Node K V) → NewMap × Progress Setting → Type 0
+  abbrev Told : World (Node K V) → NewMap × Advance Setting → Type 0
   Told = GoesTo V same asks batch_size roots slot w i b
 
   -- the counter is made
@@ -145,7 +145,7 @@ module _ {K Q : Type 0} (V : Type 0) (same : K → K → Bool) (asks : Q → K �
     not_new : (x y : ℕ) → IsOut (with_at w.hand x (Making i) y) → IsOut (w.hand y)
     not_new x y = at_cases (λ (h : Hand). IsOut h → IsOut (w.hand y)) w.hand x (Making i) y (λ e none. absurd none) (λ ne is. is)
 
-    pub went_shards : (m2 : Mem (Node K V)) (end : NewMap × Progress Setting) → Steps Took value_at w.memory (shards b.machine) m2 end → MakingWent V same asks batch_size roots slot w i b m2 end
+    pub went_shards : (m2 : Mem (Node K V)) (end : NewMap × Advance Setting) → Steps Took value_at w.memory (shards b.machine) m2 end → MakingWent V same asks batch_size roots slot w i b m2 end
     went_shards m2 end s =
         elim (make_made w.memory (made n) node.Shards words m2 end s) as (λ _. MakingWent V same asks batch_size roots slot w i b m2 end) [
           | inl d ↦ record {
@@ -208,7 +208,7 @@ module _ {K Q : Type 0} (V : Type 0) (same : K → K → Bool) (asks : Q → K �
     taken_away : value_at gone.memory b.machine.setting.counter ≡ None
     taken_away = ap value_in (let z = block_there w.memory x there in block_of-with_block w.memory x x z.0 None z.1 ∙ ap (λ q. cond q None (block_of w.memory x)) (eq-eqb x x refl))
 
-    pub went_unmakes : (m2 : Mem (Node K V)) (end : NewMap × Progress Setting) → Steps Took value_at w.memory (unmakes b.machine fault) m2 end → MakingWent V same asks batch_size roots slot w i b m2 end
+    pub went_unmakes : (m2 : Mem (Node K V)) (end : NewMap × Advance Setting) → Steps Took value_at w.memory (unmakes b.machine fault) m2 end → MakingWent V same asks batch_size roots slot w i b m2 end
     went_unmakes m2 end s =
         let d = taken w.memory (λ out. Now (goes n (at.Frees fault))) x m2 end s in
         record {

@@ -8,8 +8,8 @@ use Rattle.many_calls.specs.Given.SeizeWordsMem.{Mem, value_at, Took}
 use Rattle.many_calls.specs.Given.SeizeWordsPlan.{Now, Steps}
 use Rattle.many_calls.proofs.Given.SeizeWordsOneOwner.Operations.{exchanged, stored, made as make_made}
 use Rattle.many_calls.specs.Given.SeizeWorld.{World}
-use Rattle.many_calls.specs.Given.SeizeDeclared.progress.Progress.{Progress}
-use Rattle.many_calls.specs.Given.SeizeDeclared.progress.Progress.TheVariants as progress
+use Rattle.many_calls.specs.Given.SeizeDeclared.advance.Advance.{Advance}
+use Rattle.many_calls.specs.Given.SeizeDeclared.advance.Advance.TheVariants as progress
 use Rattle.many_calls.specs.Given.ResizeNewTable.{planned, first_table, with_block, after_making, goes, made, linked, plan_at, new_table_plan}
 use Rattle.many_calls.specs.Given.TablesProbes.{limit_of}
 use Rattle.many_calls.specs.Given.TablesDeclared.node.Node.{Node}
@@ -34,7 +34,7 @@ first_len setting len = by (nat_le (max len 8) (2 ^ 48))
     by false = tt
 
 -- where a step of its making leads
-abbrev pub LensTo : ℕ → NewTable × Progress Table → Type 0
+abbrev pub LensTo : ℕ → NewTable × Advance Table → Type 0
 LensTo len (n, progress.Goes) = HasLen len n.stands
 LensTo len (n, progress.Waits) = Unit {0}
 LensTo len (n, progress.Done table) = table.len ≡ len
@@ -48,7 +48,7 @@ len_after len (Entry b i) table is = is
 len_after len (Word b i) table is = is
 
 module _ {K V : Type 0} (w : World (Node K V)) (caller : ℕ) (setting : Setting) (blocks : Blocks) (m : Mem (Node K V)) (n : NewTable) (len : ℕ) where
-  lens_at : (stands : Making) → MakingFacts w caller setting (no_table {K = K}) blocks (Root setting.root) 0 stands → HasLen len stands → (m2 : Mem (Node K V)) (end : NewTable × Progress Table)
+  lens_at : (stands : Making) → MakingFacts w caller setting (no_table {K = K}) blocks (Root setting.root) 0 stands → HasLen len stands → (m2 : Mem (Node K V)) (end : NewTable × Advance Table)
       → Steps Took value_at m (plan_at n stands) m2 end → LensTo len end
   lens_at (at.Sums before reason sum) facts is m2 end s = absurd (let made = facts.0.1.made in omega (arith, made))
   lens_at (at.Makes table) facts is m2 end s =
@@ -67,6 +67,6 @@ module _ {K V : Type 0} (w : World (Node K V)) (caller : ℕ) (setting : Setting
   lens_at (at.Over table) facts is m2 end s = absurd (let made = facts.2.made in omega (arith, made))
   lens_at (at.Refused fault) facts is m2 end s = subst (LensTo len) (sym s.1) tt
 
-  pub lens_told : NewTableFacts w caller setting (no_table {K = K}) blocks (Root setting.root) 0 n → HasLen len n.stands → (m2 : Mem (Node K V)) (end : NewTable × Progress Table)
+  pub lens_told : NewTableFacts w caller setting (no_table {K = K}) blocks (Root setting.root) 0 n → HasLen len n.stands → (m2 : Mem (Node K V)) (end : NewTable × Advance Table)
       → Steps Took value_at m (new_table_plan n) m2 end → LensTo len end
   lens_told f is m2 end s = lens_at n.stands f.point is m2 end s

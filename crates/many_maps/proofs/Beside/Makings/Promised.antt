@@ -4,7 +4,7 @@ use Rattle.std.proofs.Common.{refl, sym, subst}
 use Rattle.many_calls.specs.Given.SeizeWordsMem.{Mem, Can, Took, value_at}
 use Rattle.many_calls.specs.Given.SeizeWordsPlan.{May, Steps}
 use Rattle.many_calls.specs.Given.SeizeWorld.{World}
-use Rattle.many_calls.specs.Given.SeizeDeclared.progress.Progress.{Progress}
+use Rattle.many_calls.specs.Given.SeizeDeclared.advance.Advance.{Advance}
 use Rattle.many_calls.specs.Given.TablesDeclared.node.Node.{Node}
 use Rattle.many_calls.specs.Given.TablesDeclared.setting.Setting.{Setting}
 use Rattle.many_calls.specs.Given.ResizeNewMap.{new_map_plan, opening, plan_at}
@@ -77,7 +77,7 @@ module _ {K Q : Type 0} (V : Type 0) (same : K → K → Bool) (asks : Q → K �
     may_at at.Over here point = absurd point
     may_at (at.Refused fault) here point = absurd point
 
-    went_at : (stage : Opening) → b.machine.stands ≡ stage → OpeningFacts w roots i b.machine stage → (m2 : Mem (Node K V)) (end : NewMap × Progress Setting)
+    went_at : (stage : Opening) → b.machine.stands ≡ stage → OpeningFacts w roots i b.machine stage → (m2 : Mem (Node K V)) (end : NewMap × Advance Setting)
         → Steps Took value_at w.memory (plan_at b.machine stage) m2 end → MakingWent V same asks batch_size roots slot w i b m2 end
     went_at at.Takes here point m2 end s = went_takes V same asks batch_size roots slot w i b f free here point m2 end s
     went_at at.Shards here point m2 end s = went_shards V same asks batch_size roots slot w came i b f free here point m2 end s
@@ -90,7 +90,7 @@ module _ {K Q : Type 0} (V : Type 0) (same : K → K → Bool) (asks : Q → K �
   -- whoever takes a step of a making, before it is put together with all else
   pub makings_went : (w : World (Node K V)) (maps : ℕ → Option (Standing K)) (calls : ℕ → ℕ → Option (UnderWay K V Q)) (makers : ℕ → Option (Beginning K)) → MakingsTogether V same asks batch_size roots slot w maps calls makers
       → (i : ℕ) (b : Beginning K) → makers i ≡ Some b → May Can Took value_at w.memory (new_map_plan {K = K} {V = V} b.machine)
-      × ((m2 : Mem (Node K V)) (end : NewMap × Progress Setting) → Steps Took value_at w.memory (new_map_plan b.machine) m2 end → MakingWent V same asks batch_size roots slot w i b m2 end)
+      × ((m2 : Mem (Node K V)) (end : NewMap × Advance Setting) → Steps Took value_at w.memory (new_map_plan b.machine) m2 end → MakingWent V same asks batch_size roots slot w i b m2 end)
   makings_went w maps calls makers all i b makes =
       let f = all.facts i b makes in
       (may_at w all.standing.came i b f all.free b.machine.stands refl f.point, λ m2 end s. went_at w all.standing.came i b f all.free b.machine.stands refl f.point m2 end s)

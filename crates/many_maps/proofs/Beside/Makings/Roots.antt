@@ -11,8 +11,8 @@ use Rattle.many_calls.specs.Given.SeizeWordsPlan.{Now, May, Steps}
 use Rattle.many_calls.proofs.Given.SeizeWordsOneOwner.AfterWrites.{word_at-with_word}
 use Rattle.many_calls.proofs.Given.SeizeWordsOneOwner.Operations.{may_exchange, exchanged, may_store, stored}
 use Rattle.many_calls.specs.Given.SeizeWorld.{World, Operates, IsOwnOp}
-use Rattle.many_calls.specs.Given.SeizeDeclared.progress.Progress.{Progress}
-use Rattle.many_calls.specs.Given.SeizeDeclared.progress.Progress.TheVariants as progress
+use Rattle.many_calls.specs.Given.SeizeDeclared.advance.Advance.{Advance}
+use Rattle.many_calls.specs.Given.SeizeDeclared.advance.Advance.TheVariants as progress
 use Rattle.many_calls.specs.Given.TablesNodes.{deferred_word}
 use Rattle.many_calls.specs.Given.TablesDeclared.node.Node.{Node}
 use Rattle.many_calls.specs.Given.TablesDeclared.setting.Setting.{Setting}
@@ -116,7 +116,7 @@ module _ {K Q : Type 0} (V : Type 0) (same : K → K → Bool) (asks : Q → K �
     free_root : word_at w.memory (Used b.machine.setting.root) ≡ Some 0 → word_at w.memory (Root b.machine.setting.root) ≡ Some 0
     free_root read = let h = free root point in h.2 (let is = h.1 in cc (is, read))
 
-    pub went_takes : (m2 : Mem (Node K V)) (end : NewMap × Progress Setting) → Steps Took value_at w.memory (takes b.machine) m2 end → MakingWent V same asks batch_size roots slot w i b m2 end
+    pub went_takes : (m2 : Mem (Node K V)) (end : NewMap × Advance Setting) → Steps Took value_at w.memory (takes b.machine) m2 end → MakingWent V same asks batch_size roots slot w i b m2 end
     went_takes m2 end s =
         elim (exchanged w.memory (taken n) (Used root) 0 1 m2 end s) as (λ _. MakingWent V same asks batch_size roots slot w i b m2 end) [
           | inl d ↦ (let read : word_at w.memory (Used b.machine.setting.root) ≡ Some 0 = d.1.0 ∙ ap Some d.1.1 in record {
@@ -125,7 +125,7 @@ module _ {K Q : Type 0} (V : Type 0) (same : K → K → Bool) (asks : Q → K �
             left = left_written 1 there (Exchange (Used root) 0 1) (Exchanged (Ok d.0)) tt (d.1, refl) (λ e. absurd (omega (arith, e))) (λ was other. refl);
             keeps = subst (KeepsIts V same asks batch_size roots slot w (written 1 there) b.machine) (sym d.3) (λ has. absurd (not_taken has), λ made. absurd (not_made made));
             unused = λ r is. (elim (cases_eq r b.machine.setting.root) as (λ _. (word_at (written 1 there).memory (Used r) ≡ Some 0) ⊎ HasComeTo {Q = Q} V same asks batch_size roots slot end r) [
-              | inl e ↦ inr (subst (λ (x : NewMap × Progress Setting). HasComeTo {Q = Q} V same asks batch_size roots slot x r) (sym d.3) (tt, sym e))
+              | inl e ↦ inr (subst (λ (x : NewMap × Advance Setting). HasComeTo {Q = Q} V same asks batch_size roots slot x r) (sym d.3) (tt, sym e))
               | inr ne ↦ inl (used_kept 1 there r ne ∙ is)
             ]);
             links = λ x out. inl out;
@@ -146,7 +146,7 @@ module _ {K Q : Type 0} (V : Type 0) (same : K → K → Bool) (asks : Q → K �
     pub may_frees : May Can Took value_at w.memory (frees {T = Node K V} b.machine fault)
     may_frees = may_store w.memory (λ out. Now (refused n fault)) (Used root) 0 taken_there tt
 
-    pub went_frees : (m2 : Mem (Node K V)) (end : NewMap × Progress Setting) → Steps Took value_at w.memory (frees b.machine fault) m2 end → MakingWent V same asks batch_size roots slot w i b m2 end
+    pub went_frees : (m2 : Mem (Node K V)) (end : NewMap × Advance Setting) → Steps Took value_at w.memory (frees b.machine fault) m2 end → MakingWent V same asks batch_size roots slot w i b m2 end
     went_frees m2 end s =
         let d = stored w.memory (λ out. Now (refused n fault)) (Used root) 0 m2 end s in
         record {

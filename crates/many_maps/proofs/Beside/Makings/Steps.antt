@@ -7,8 +7,8 @@ use Rattle.std.proofs.lemmas.Bool.{cases_eq}
 use Rattle.many_calls.specs.Given.SeizeWordsDeclared.at.At.TheVariants.{Used}
 use Rattle.many_calls.specs.Given.SeizeWordsMem.{Mem, value_at, word_at}
 use Rattle.many_calls.specs.Given.SeizeWorld.{World, Making, LeftTo, with_at}
-use Rattle.many_calls.specs.Given.SeizeDeclared.progress.Progress.{Progress}
-use Rattle.many_calls.specs.Given.SeizeDeclared.progress.Progress.TheVariants as progress
+use Rattle.many_calls.specs.Given.SeizeDeclared.advance.Advance.{Advance}
+use Rattle.many_calls.specs.Given.SeizeDeclared.advance.Advance.TheVariants as progress
 use Rattle.many_calls.specs.Given.TablesDeclared.node.Node.{Node}
 use Rattle.many_calls.specs.Given.TablesDeclared.setting.Setting.{Setting}
 use Rattle.many_calls.specs.Given.ResizeDeclared.new_map.NewMap.{NewMap}
@@ -191,7 +191,7 @@ module _ {K Q : Type 0} (V : Type 0) (same : K → K → Bool) (asks : Q → K �
 module _ {K Q : Type 0} (V : Type 0) (same : K → K → Bool) (asks : Q → K → Bool) (batch_size roots : ℕ) (slot : ℕ → ℕ)
     (w : World (Node K V)) (maps : ℕ → Option (Standing K)) (calls : ℕ → ℕ → Option (UnderWay K V Q)) (makers : ℕ → Option (Beginning K))
     (all : MakingsTogether V same asks batch_size roots slot w maps calls makers) (i : ℕ) (b : Beginning K) (makes : makers i ≡ Some b) where
-  pub told : (w2 : World (Node K V)) → LeavesOthers i b.machine w w2 batch_size roots → (end : NewMap × Progress Setting) → GoesTo V same asks batch_size roots slot w i b w2 end
+  pub told : (w2 : World (Node K V)) → LeavesOthers i b.machine w w2 batch_size roots → (end : NewMap × Advance Setting) → GoesTo V same asks batch_size roots slot w i b w2 end
       → MakingTold V same asks batch_size roots slot w maps calls makers i b w2 end
   told w2 left (n, progress.Goes) t =
       goes_together V same asks batch_size roots slot w maps calls makers all i b makes w2 left (Some (record b { machine = n }))
@@ -202,7 +202,7 @@ module _ {K Q : Type 0} (V : Type 0) (same : K → K → Bool) (asks : Q → K �
   told w2 left (n, progress.Refused fault) t = goes_together V same asks batch_size roots slot w maps calls makers all i b makes w2 left None (λ d is. absurd (cc is))
 
   -- what it leaves of what is nobody's
-  module _ (m2 : Mem (Node K V)) (end : NewMap × Progress Setting) (went : MakingWent V same asks batch_size roots slot w i b m2 end) where
+  module _ (m2 : Mem (Node K V)) (end : NewMap × Advance Setting) (went : MakingWent V same asks batch_size roots slot w i b m2 end) where
     not_made : (x j : ℕ) → w.hand x ≡ LeftTo j → w.hand x ≡ Making i → ⊥
     not_made x j is making = cc (is, making)
 
@@ -224,7 +224,7 @@ module _ {K Q : Type 0} (V : Type 0) (same : K → K → Bool) (asks : Q → K �
     }
 
   -- where a step of the making leads
-  abbrev pub making_leads : (m2 : Mem (Node K V)) (end : NewMap × Progress Setting) → MakingWent V same asks batch_size roots slot w i b m2 end → StepsOfMaking V same asks batch_size roots slot w maps calls makers i b m2 end
+  abbrev pub making_leads : (m2 : Mem (Node K V)) (end : NewMap × Advance Setting) → MakingWent V same asks batch_size roots slot w i b m2 end → StepsOfMaking V same asks batch_size roots slot w maps calls makers i b m2 end
   making_leads m2 end went = record {
     w2 = went.w2;
     events = went.left.events;

@@ -10,9 +10,9 @@ use Rattle.many_calls.proofs.Given.SeizeWordsPlans.{as_may}
 use Rattle.many_calls.proofs.Given.SeizeRuleRows.Leaving.{steps_back}
 use Rattle.many_calls.specs.Given.SeizeLaw.{Place, Nowhere, Standing, With, where_is, owner_of}
 use Rattle.many_calls.specs.Given.SeizeWorld.{World, Row, Making, Runs, IsOnto}
-use Rattle.many_calls.specs.Given.SeizeDeclared.progress.Progress.{Progress}
+use Rattle.many_calls.specs.Given.SeizeDeclared.advance.Advance.{Advance}
 use Rattle.many_calls.specs.Given.SeizeDeclared.states.TheConstants.{NEXT}
-use Rattle.many_calls.specs.Given.SeizeDeclared.progress.Progress.TheVariants as progress
+use Rattle.many_calls.specs.Given.SeizeDeclared.advance.Advance.TheVariants as progress
 use Rattle.many_calls.specs.Given.TablesChunks.{is_incremental}
 use Rattle.many_calls.specs.Given.TablesNodes.{deferred_word}
 use Rattle.many_calls.specs.Given.TablesDeclared.node.Node.{Node}
@@ -201,7 +201,7 @@ module _ {K Q : Type 0} (V : Type 0) (same : K → K → Bool) (asks : Q → K �
         owned3 : owner_of (went.blocks2.table 0) went.w2.log ≡ b.machine.setting.counter
         owned3 = owned2 0 (subst (λ (x : Chart K). 0 < x.past) (sym is) (omega arith)) (subst IsOut (sym (map2.tables 0 (omega arith) (omega arith))) tt)
 
-    goes_to : (end : NewTable × Progress Table) → LensTo (max b.machine.len 8) end → LinksLast b.hash b.machine.setting.mode 0 no_table went.c2 end → NewTableTold went.w2 i b.machine.setting went.c2 went.blocks2 (Root b.machine.setting.root) 0 end
+    goes_to : (end : NewTable × Advance Table) → LensTo (max b.machine.len 8) end → LinksLast b.hash b.machine.setting.mode 0 no_table went.c2 end → NewTableTold went.w2 i b.machine.setting went.c2 went.blocks2 (Root b.machine.setting.root) 0 end
         → GoesTo V same asks batch_size roots slot w i b went.w2 (opened b.machine end)
     goes_to (making2, progress.Goes) lens links told = (
       facts_at V same asks batch_size roots slot w i b f free went.w2 (record b.machine { stands = at.Tables making2 }) f.setting_is refl refl
@@ -235,7 +235,7 @@ module _ {K Q : Type 0} (V : Type 0) (same : K → K → Bool) (asks : Q → K �
           | inr l ↦ absurd (let is = l.2 in cc is)
         ]
 
-    keeps_to : (end : NewTable × Progress Table) → NewTableTold went.w2 i b.machine.setting went.c2 went.blocks2 (Root b.machine.setting.root) 0 end
+    keeps_to : (end : NewTable × Advance Table) → NewTableTold went.w2 i b.machine.setting went.c2 went.blocks2 (Root b.machine.setting.root) 0 end
         → KeepsIts V same asks batch_size roots slot w went.w2 b.machine (opened b.machine end)
     keeps_to (making2, progress.Goes) told = (λ has. (tt, refl), λ has. inl (tt, refl))
     keeps_to (making2, progress.Waits) told = told
@@ -257,14 +257,14 @@ module _ {K Q : Type 0} (V : Type 0) (same : K → K → Bool) (asks : Q → K �
         let map2 = subst (λ (y : Chart K). IsMapIn same b.hash its went.w2 y went.blocks2) is went.map in
         map2.map.shows.root_there ∙ ap (λ (y : ℕ). Some (y * 2048)) (sym (first_known x len limit (subst (λ (y : Chart K). IsKnownBlock y went.blocks2 x) is known)))
 
-    comes_first : (x : ℕ) (end : NewTable × Progress Table) → LinksLast b.hash b.machine.setting.mode 0 no_table went.c2 end → IsKnownBlock went.c2 went.blocks2 x → IsFirstTable went.w2 (opened b.machine end) x
+    comes_first : (x : ℕ) (end : NewTable × Advance Table) → LinksLast b.hash b.machine.setting.mode 0 no_table went.c2 end → IsKnownBlock went.c2 went.blocks2 x → IsFirstTable went.w2 (opened b.machine end) x
     comes_first x (making2, said) (inl e) known = absurd (none_known x (subst (λ (y : Chart K). IsKnownBlock y went.blocks2 x) e known))
     comes_first x (making2, progress.Done table) (inr l) known = led x l.1.len l.1.limit l.3 known
     comes_first x (making2, progress.Goes) (inr l) known = absurd (let is = l.2 in cc is)
     comes_first x (making2, progress.Waits) (inr l) known = absurd (let is = l.2 in cc is)
     comes_first x (making2, progress.Refused fault) (inr l) known = absurd (let is = l.2 in cc is)
 
-    links_its : (x : ℕ) (end : NewTable × Progress Table) → LinksLast b.hash b.machine.setting.mode 0 no_table went.c2 end → IsOut (went.w2.hand x) → IsOut (w.hand x) ⊎ IsFirstTable went.w2 (opened b.machine end) x
+    links_its : (x : ℕ) (end : NewTable × Advance Table) → LinksLast b.hash b.machine.setting.mode 0 no_table went.c2 end → IsOut (went.w2.hand x) → IsOut (w.hand x) ⊎ IsFirstTable went.w2 (opened b.machine end) x
     links_its x end links out =
         elim (out_from its i w no_table no_blocks (λ y known. absurd (none_known_before y known)) x its.batch_size went.events went.w2 went.its went.runs out) as (λ _. IsOut (w.hand x) ⊎ IsFirstTable went.w2 (opened b.machine end) x) [
           | inl was ↦ inl was
@@ -275,7 +275,7 @@ module _ {K Q : Type 0} (V : Type 0) (same : K → K → Bool) (asks : Q → K �
         none_known_before y (inl (t, l, known, is)) = omega (arith, l)
         none_known_before y (inr (n, l, known, is)) = omega (arith, l)
 
-  pub went_tables : (m2 : Mem (Node K V)) (end : NewMap × Progress Setting) → Steps Took value_at w.memory (plan_as (opened b.machine) (new_table_plan making)) m2 end
+  pub went_tables : (m2 : Mem (Node K V)) (end : NewMap × Advance Setting) → Steps Took value_at w.memory (plan_as (opened b.machine) (new_table_plan making)) m2 end
       → MakingWent V same asks batch_size roots slot w i b m2 end
   went_tables m2 end s =
       let back = steps_back (opened b.machine) w.memory m2 (new_table_plan making) end s in
@@ -286,6 +286,6 @@ module _ {K Q : Type 0} (V : Type 0) (same : K → K → Bool) (asks : Q → K �
         left = left m2 _ went;
         keeps = subst (KeepsIts V same asks batch_size roots slot w went.w2 b.machine) (sym back.2) (keeps_to m2 _ went back.0 went.told.2);
         unused = λ r is. inl (used_stays m2 _ went r 0 is);
-        links = λ x out. subst (λ (e : NewMap × Progress Setting). IsOut (w.hand x) ⊎ IsFirstTable went.w2 e x) (sym back.2) (links_its m2 _ went x back.0 went.told.1 out);
+        links = λ x out. subst (λ (e : NewMap × Advance Setting). IsOut (w.hand x) ⊎ IsFirstTable went.w2 e x) (sym back.2) (links_its m2 _ went x back.0 went.told.1 out);
         told = subst (GoesTo V same asks batch_size roots slot w i b went.w2) (sym back.2) (goes_to m2 _ went back.0 (lens_told w i its no_blocks w.memory making (max b.machine.len 8) point.2 point.4 m2 back.0 back.1) went.told.1 went.told.2);
       }

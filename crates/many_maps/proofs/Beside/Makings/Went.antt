@@ -4,8 +4,8 @@ use Rattle.std.proofs.Common.{refl, sym, subst, ◌∙◌, inl}
 use Rattle.many_calls.specs.Given.SeizeWordsDeclared.at.At.TheVariants.{Used}
 use Rattle.many_calls.specs.Given.SeizeWordsMem.{Mem, value_at, word_at}
 use Rattle.many_calls.specs.Given.SeizeWorld.{World}
-use Rattle.many_calls.specs.Given.SeizeDeclared.progress.Progress.{Progress}
-use Rattle.many_calls.specs.Given.SeizeDeclared.progress.Progress.TheVariants as progress
+use Rattle.many_calls.specs.Given.SeizeDeclared.advance.Advance.{Advance}
+use Rattle.many_calls.specs.Given.SeizeDeclared.advance.Advance.TheVariants as progress
 use Rattle.many_calls.specs.Given.TablesLengths.{IsTableLen}
 use Rattle.many_calls.specs.Given.TablesDeclared.node.Node.{Node}
 use Rattle.many_calls.specs.Given.TablesDeclared.setting.Setting.{Setting}
@@ -37,7 +37,7 @@ module _ {K Q : Type 0} (V : Type 0) (same : K → K → Bool) (asks : Q → K �
     pub used : word_at w2.memory (Used s.setting.root) ≡ Some 1
 
   -- it goes on with what its next point knows, or its map stands, or it is refused
-  abbrev pub GoesTo : World (Node K V) → NewMap × Progress Setting → Type 0
+  abbrev pub GoesTo : World (Node K V) → NewMap × Advance Setting → Type 0
   GoesTo w2 (n, progress.Goes) =
       MakingFacts w2 same batch_size roots i (record b { machine = n }) × (HasTaken n.stands → IsOwnRoot n.setting.root) × (HasMade n.stands → IsOwnCounter n.setting.counter)
   GoesTo w2 (n, progress.Waits) = ⊥
@@ -45,7 +45,7 @@ module _ {K Q : Type 0} (V : Type 0) (same : K → K → Bool) (asks : Q → K �
   GoesTo w2 (n, progress.Refused fault) = Unit {0}
 
   -- A step of it came to this memory.
-  pub record MakingWent (m2 : Mem (Node K V)) (end : NewMap × Progress Setting) : Type 0 where
+  pub record MakingWent (m2 : Mem (Node K V)) (end : NewMap × Advance Setting) : Type 0 where
     pub w2 : World (Node K V)
     pub memory : w2.memory ≡ m2
     pub left : LeavesOthers i b.machine w w2 batch_size roots
@@ -83,7 +83,7 @@ module _ {K Q : Type 0} (V : Type 0) (same : K → K → Bool) (asks : Q → K �
     }
 
     -- the step changed nothing
-    pub still : (m2 : Mem (Node K V)) → m2 ≡ w.memory → (end other : NewMap × Progress Setting) → end ≡ other → KeepsIts V same asks batch_size roots slot w w b.machine other → GoesTo w other → MakingWent m2 end
+    pub still : (m2 : Mem (Node K V)) → m2 ≡ w.memory → (end other : NewMap × Advance Setting) → end ≡ other → KeepsIts V same asks batch_size roots slot w w b.machine other → GoesTo w other → MakingWent m2 end
     still m2 is end other e keeps told = record {
       w2 = w;
       memory = sym is;

@@ -26,8 +26,8 @@ use Rattle.map_facts.specs.Given.RawDeclared.machines.asking.Asking.TheVariants 
 use Rattle.map_facts.specs.Given.RawDeclared.machines.asking.Gap.{Gap}
 use Rattle.map_facts.specs.Given.RawDeclared.machines.asking.Gap.TheVariants as gaps
 use Rattle.map_facts.specs.Given.RawDeclared.machines.asking.Replies.{Replies}
-use Rattle.map_facts.specs.Given.RawDeclared.machines.asking.Reply.{Reply}
-use Rattle.map_facts.specs.Given.RawDeclared.machines.asking.Reply.TheVariants as reply
+use Rattle.map_facts.specs.Given.RawDeclared.machines.asking.MachineReply.{MachineReply}
+use Rattle.map_facts.specs.Given.RawDeclared.machines.asking.MachineReply.TheVariants as reply
 use Rattle.map_facts.specs.Given.RawDeclared.machines.asking.Takes.{Takes}
 use Rattle.map_facts.specs.Given.RawDeclared.machines.asking.Takes.TheVariants as told
 use Rattle.map_facts.specs.Given.RawDeclared.machines.asking.Told.{Told}
@@ -234,7 +234,7 @@ module _ {K V Q : Type 0} (present : There) (absent : Missing) (takes : Takes) w
     absent_stored : absent ≡ missing.Asks → (value : V) (gap : Gap) → IsFit present absent takes (at_gap gap (with_absent p value)).0
     absent_stored asks value gap = (fit_gap (with_absent p value) is.0 is.1 (record { takes_is = is.2.takes_is; removes = is.2.removes; choices = is.2.choices }) is.3 asks gap).0
 
-    absent_fits : absent ≡ missing.Asks → (t : Takes) → takes ≡ t → (gap : Gap) (r : Reply V) → IsFit present absent takes (absent_told t p gap r).0
+    absent_fits : absent ≡ missing.Asks → (t : Takes) → takes ≡ t → (gap : Gap) (r : MachineReply V) → IsFit present absent takes (absent_told t p gap r).0
     absent_fits asks told.Values is_t gap (reply.Insert value) = absent_stored asks value gap
     absent_fits asks told.Changes is_t gap (reply.Insert value) = absent_stored asks value gap
     absent_fits asks told.Changes is_t gap reply.Remove = (fit_ending p is.0 is.1 is.2 is.3 (ends.Refused RemoveNothing) (inr (is_t, asks, refl))).0
@@ -268,7 +268,7 @@ module _ {K V Q : Type 0} (present : There) (absent : Missing) (takes : Takes) w
       present_found : takes ≢ told.Values → IsFit present absent takes (ending p (ends.Answered (answers.Found word))).0
       present_found other = (fit_ending p is.0 is.1 is.2 is.3 (ends.Answered (answers.Found word)) (inr (asks, other))).0
 
-      present_fits : (t : Takes) → takes ≡ t → (r : Reply V) → IsFit present absent takes (present_told t p word r).0
+      present_fits : (t : Takes) → takes ≡ t → (r : MachineReply V) → IsFit present absent takes (present_told t p word r).0
       present_fits told.Values is_t (reply.Insert value) = present_stored (λ choices. cc (is_t, choices)) value
       present_fits told.Changes is_t (reply.Insert value) = present_stored (λ choices. cc (is_t, choices)) value
       present_fits told.Changes is_t reply.Remove = present_removed is_t
@@ -287,7 +287,7 @@ module _ {K V Q : Type 0} (present : There) (absent : Missing) (takes : Takes) w
       present_fits told.Choices is_t reply.Abort = is
       present_fits told.Nothing is_t r = is
 
-    told_fits : (stands : Calling) → FitsAt present absent takes stands → (r : Reply V) → IsFit present absent takes (told_at stands p r).0
+    told_fits : (stands : Calling) → FitsAt present absent takes stands → (r : MachineReply V) → IsFit present absent takes (told_at stands p r).0
     told_fits (at.Asks (asking.Absent gap)) fits r = absent_fits fits p.replies.takes (sym is.2.takes_is) gap r
     told_fits (at.Asks (asking.Present word)) fits r = present_fits fits.0 word fits.1 p.replies.takes (sym is.2.takes_is) r
     told_fits (at.Asks (asking.Fills word)) fits r = is

@@ -5,8 +5,8 @@ use Rattle.std.proofs.lemmas.Bool.{eqb-false}
 use Rattle.map_facts.specs.Given.SeizeWordsMem.{Mem, value_at, Took}
 use Rattle.map_facts.specs.Given.SeizeWordsOp.{Out, Found, Stored, Exchanged, Made, Taken, Roomed}
 use Rattle.map_facts.specs.Given.SeizeWordsPlan.{Then, Steps}
-use Rattle.map_facts.specs.Given.SeizeDeclared.progress.Progress.{Progress}
-use Rattle.map_facts.specs.Given.SeizeDeclared.progress.Progress.TheVariants as progress
+use Rattle.map_facts.specs.Given.SeizeDeclared.advance.Advance.{Advance}
+use Rattle.map_facts.specs.Given.SeizeDeclared.advance.Advance.TheVariants as progress
 use Rattle.map_facts.specs.Given.SeizeDeclared.rows.settle.Settled.{Settled}
 use Rattle.map_facts.specs.Given.SeizeDeclared.rows.settle.Settled.TheVariants as settled
 use Rattle.map_facts.proofs.Given.SeizeRuleRows.Leaving.{steps_back}
@@ -27,8 +27,8 @@ use Rattle.map_facts.specs.Given.TablesTrials.{next_trial, with_met}
 use Rattle.map_facts.specs.Given.TablesDeclared.lengths.TheConstants.{FIRST_LEN}
 use Rattle.map_facts.specs.Given.TablesDeclared.marks.TheConstants.{TOMBSTONE}
 use Rattle.map_facts.specs.Given.TablesDeclared.node.Node.{Node}
-use Rattle.map_facts.specs.Given.ResizeDeclared.outcome.Outcome.{Outcome}
-use Rattle.map_facts.specs.Given.ResizeDeclared.outcome.Outcome.TheVariants as outcome
+use Rattle.map_facts.specs.Given.ResizeDeclared.yielding.Yielding.{Yielding}
+use Rattle.map_facts.specs.Given.ResizeDeclared.yielding.Yielding.TheVariants as outcome
 use Rattle.map_facts.specs.Given.TablesDeclared.setting.Setting.{Setting}
 use Rattle.map_facts.specs.Given.TablesDeclared.table.Table.{Table}
 use Rattle.map_facts.specs.Given.RawDeclared.machines.answer.KeyAnswer.{KeyAnswer}
@@ -70,12 +70,12 @@ use Rattle.map_facts_late.proofs.KindsKept.Rooms.Copying.{CopiesRoom, copier_roo
 use Rattle.map_facts_late.proofs.KindsKept.Rooms.Making.{MakesRoom, new_table_rooms, first_table_room}
 
 -- a lookup is never refused
-abbrev pub LooksOn : Lookup × Progress (Option ℕ) → Type 0
+abbrev pub LooksOn : Lookup × Advance (Option ℕ) → Type 0
 LooksOn (l, progress.Refused fault) = ⊥
 LooksOn (l, _) = Unit {0}
 
 module _ (l : Lookup) where
-  either_on : (b : Bool) (x y : Lookup × Progress (Option ℕ)) → LooksOn x → LooksOn y → LooksOn (if b then x else y)
+  either_on : (b : Bool) (x y : Lookup × Advance (Option ℕ)) → LooksOn x → LooksOn y → LooksOn (if b then x else y)
   either_on true x y f g = f
   either_on false x y f g = g
 
@@ -107,7 +107,7 @@ module _ (l : Lookup) where
     on_read keys trial (Taken value) = tt
     on_read keys trial (Roomed r) = tt
 
-    pub looks_on : (keys : K → Bool) (m m2 : Mem (Node K V)) (end : Lookup × Progress (Option ℕ)) → Steps Took value_at m (lookup_plan keys l) m2 end → LooksOn end
+    pub looks_on : (keys : K → Bool) (m m2 : Mem (Node K V)) (end : Lookup × Advance (Option ℕ)) → Steps Took value_at m (lookup_plan keys l) m2 end → LooksOn end
     looks_on keys m m2 end s = by l.stands s
       where
         by : (stands : Looking) → Steps Took value_at m (lookups.plan_at keys l stands) m2 end → LooksOn end
@@ -157,7 +157,7 @@ module _ {K V Q : Type 0} (present : There) (absent : Missing) (takes : Takes) w
         either present absent takes (removed == 0) (over p (ends.Answered (answers.Stored p.own))) (going p (at.Disposes (disposing p.setting removed p.trial.table) (answers.Removed removed)))
         (λ z. let f = fits.0 (eqb-true removed 0 z) in ((is_there, is_missing, is_told, is_own, f), f)) (λ z. ((is_there, is_missing, is_told, is_own, fits.1 (eqb-false removed 0 z)), tt))
 
-    fit_looked : (present ≡ there.Answers) × (absent ≡ missing.Answers) → (end : Lookup × Progress (Option ℕ)) → LooksOn end → ComesFit present absent takes (looked p end)
+    fit_looked : (present ≡ there.Answers) × (absent ≡ missing.Answers) → (end : Lookup × Advance (Option ℕ)) → LooksOn end → ComesFit present absent takes (looked p end)
     fit_looked fits (l, progress.Goes) on = ((is_there, is_missing, is_told, is_own, fits), tt)
     fit_looked fits (l, progress.Waits) on = ((is_there, is_missing, is_told, is_own, fits), tt)
     fit_looked fits (l, progress.Done (Some found)) on = ended_fits (ends.Answered (answers.Found found)) (inl fits.0)
@@ -224,26 +224,26 @@ module _ {K V Q : Type 0} (present : There) (absent : Missing) (takes : Takes) w
           (λ e. ((is_there, is_missing, is_told, is_own, (more, copying_room p.setting p.trial.table table)), tt))
 
       -- what machines within it tell
-      fit_first : (end : NewTable × Progress Table) → MakesRoom end → ComesFit present absent takes (first_made p end)
+      fit_first : (end : NewTable × Advance Table) → MakesRoom end → ComesFit present absent takes (first_made p end)
       fit_first (n, progress.Goes) room = ((is_there, is_missing, is_told, is_own, (more, room)), tt)
       fit_first (n, progress.Waits) room = ((is_there, is_missing, is_told, is_own, (more, room)), tt)
       fit_first (n, progress.Done table) room = ((is_there, is_missing, is_told, is_own, more), tt)
       fit_first (n, progress.Refused fault) room = ending_fits (ends.Refused fault) (inl (more, room.1))
 
-      fit_next : (end : NewTable × Progress Table) → MakesRoom end → ComesFit present absent takes (next_made p end)
+      fit_next : (end : NewTable × Advance Table) → MakesRoom end → ComesFit present absent takes (next_made p end)
       fit_next (n, progress.Goes) room = ((is_there, is_missing, is_told, is_own, (more, room)), tt)
       fit_next (n, progress.Waits) room = ((is_there, is_missing, is_told, is_own, (more, room)), tt)
       fit_next (n, progress.Done table) room = fit_on table
       fit_next (n, progress.Refused fault) room = ending_fits (ends.Refused fault) (inl (more, room.1))
 
-      fit_helped : (goal : Table) (end : Copier × Outcome (Node K V) Table) → CopiesRoom end → ComesFit present absent takes (helped p goal end)
+      fit_helped : (goal : Table) (end : Copier × Yielding (Node K V) Table) → CopiesRoom end → ComesFit present absent takes (helped p goal end)
       fit_helped goal (copier, outcome.Goes) room = ((is_there, is_missing, is_told, is_own, (more, room.0)), tt)
       fit_helped goal (copier, outcome.Waits) room = ((is_there, is_missing, is_told, is_own, (more, room.0)), tt)
       fit_helped goal (copier, outcome.Gave value) room = ((is_there, is_missing, is_told, is_own, (more, room.0)), tt)
       fit_helped goal (copier, outcome.Done table) room = ((is_there, is_missing, is_told, is_own, more), tt)
       fit_helped goal (copier, outcome.Refused fault) room = ending_fits (ends.Refused fault) (inl (more, room.1))
 
-      fit_copied : (end : Copier × Outcome (Node K V) Table) → CopiesRoom end → ComesFit present absent takes (copied p end)
+      fit_copied : (end : Copier × Yielding (Node K V) Table) → CopiesRoom end → ComesFit present absent takes (copied p end)
       fit_copied (copier, outcome.Goes) room = ((is_there, is_missing, is_told, is_own, (more, room.0)), tt)
       fit_copied (copier, outcome.Waits) room = ((is_there, is_missing, is_told, is_own, (more, room.0)), tt)
       fit_copied (copier, outcome.Gave value) room = ((is_there, is_missing, is_told, is_own, (more, room.0)), tt)

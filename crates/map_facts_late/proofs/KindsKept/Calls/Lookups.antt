@@ -3,8 +3,8 @@ use Rattle.std.specs.Prelude.{Option, Some, None}
 use Rattle.std.proofs.Common.{◌≡◌, ℕ, Bool, refl, sym, subst}
 use Rattle.map_facts.specs.Given.SeizeWordsMem.{Mem, value_at, Took}
 use Rattle.map_facts.specs.Given.SeizeWordsPlan.{Steps}
-use Rattle.map_facts.specs.Given.SeizeDeclared.progress.Progress.{Progress}
-use Rattle.map_facts.specs.Given.SeizeDeclared.progress.Progress.TheVariants as progress
+use Rattle.map_facts.specs.Given.SeizeDeclared.advance.Advance.{Advance}
+use Rattle.map_facts.specs.Given.SeizeDeclared.advance.Advance.TheVariants as progress
 use Rattle.map_facts.proofs.Given.SeizeRuleRows.Leaving.{steps_back}
 use Rattle.map_facts.specs.Given.RawCall.{looked, looks_for, plan_at}
 use Rattle.map_facts.specs.Given.ResizeLookup.{lookup_plan}
@@ -20,7 +20,7 @@ use Rattle.map_facts.specs.Given.ResizeDeclared.lookup.Looking.TheVariants as lo
 use Rattle.map_facts_late.specs.Kinds.{IsLookup, LooksAt}
 
 module _ {K V Q : Type 0} (asks : Q → K → Bool) (same : K → K → Bool) (hash : K → ℕ) (m m2 : Mem (Node K V)) where
-  looking_leaves : (keys : K → Bool) (l : Lookup) (end : Lookup × Progress (Option ℕ)) → Steps Took value_at m (lookup_plan keys l) m2 end → m2 ≡ m
+  looking_leaves : (keys : K → Bool) (l : Lookup) (end : Lookup × Advance (Option ℕ)) → Steps Took value_at m (lookup_plan keys l) m2 end → m2 ≡ m
   looking_leaves keys l end s = by l.stands s
     where
       by : (stands : Looking) → Steps Took value_at m (lookups.plan_at keys l stands) m2 end → m2 ≡ m
@@ -30,7 +30,7 @@ module _ {K V Q : Type 0} (asks : Q → K → Bool) (same : K → K → Bool) (h
       by (looks.Over found) s = s.0
 
   module _ (p : KeyCall K V Q) (own : p.own ≡ 0) where
-    looks_on : (x : Lookup × Progress (Option ℕ)) → IsLookup (looked {K = K} {V = V} p x).0
+    looks_on : (x : Lookup × Advance (Option ℕ)) → IsLookup (looked {K = K} {V = V} p x).0
     looks_on (l, progress.Goes) = (own, tt)
     looks_on (l, progress.Waits) = (own, tt)
     looks_on (l, progress.Done (Some found)) = (own, tt)

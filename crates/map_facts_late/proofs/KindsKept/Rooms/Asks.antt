@@ -5,15 +5,15 @@ use Rattle.map_facts.specs.Given.SeizeWordsDeclared.fault.Fault.TheVariants.{Cap
 use Rattle.map_facts.specs.Given.SeizeWordsMem.{Mem, value_at, Took}
 use Rattle.map_facts.specs.Given.SeizeWordsOp.{Out, Found, Stored, Exchanged, Made, Taken, Roomed}
 use Rattle.map_facts.specs.Given.SeizeWordsPlan.{Steps}
-use Rattle.map_facts.specs.Given.SeizeDeclared.progress.Progress.{Progress}
-use Rattle.map_facts.specs.Given.SeizeDeclared.progress.Progress.TheVariants as progress
+use Rattle.map_facts.specs.Given.SeizeDeclared.advance.Advance.{Advance}
+use Rattle.map_facts.specs.Given.SeizeDeclared.advance.Advance.TheVariants as progress
 use Rattle.map_facts.specs.Given.ResizeCopier.{copier_plan}
 use Rattle.map_facts.specs.Given.ResizeNewTable.{new_table_plan}
 use Rattle.map_facts.specs.Given.ReservesReserve.{standing, needed, refusing, enough, summed, made, grown, copied, root_read, next_read, plan_at, reserve_plan}
 use Rattle.map_facts.specs.Given.ResizeSum.{sum_plan}
 use Rattle.map_facts.specs.Given.TablesDeclared.node.Node.{Node}
-use Rattle.map_facts.specs.Given.ResizeDeclared.outcome.Outcome.{Outcome}
-use Rattle.map_facts.specs.Given.ResizeDeclared.outcome.Outcome.TheVariants as outcome
+use Rattle.map_facts.specs.Given.ResizeDeclared.yielding.Yielding.{Yielding}
+use Rattle.map_facts.specs.Given.ResizeDeclared.yielding.Yielding.TheVariants as outcome
 use Rattle.map_facts.specs.Given.TablesDeclared.table.Table.{Table}
 use Rattle.map_facts.specs.Given.ResizeDeclared.copier.Copier.{Copier}
 use Rattle.map_facts.specs.Given.ResizeDeclared.new_table.NewTable.{NewTable}
@@ -24,7 +24,7 @@ use Rattle.map_facts.specs.Given.ResizeDeclared.sum.Sum.{Sum}
 use Rattle.map_facts.proofs.Given.RuleKeys.Always.{Always, AlwaysOf, always_if, always_plan_as, always_steps}
 
 module _ (K V : Type 0) (hash : K → ℕ) (p : Reserve) where
-  abbrev AsksSo : Reserve × Outcome (Node K V) Unit → Type 0
+  abbrev AsksSo : Reserve × Yielding (Node K V) Unit → Type 0
   AsksSo end = end.0.additional ≡ p.additional
 
   enough_asks : (table : Table) (need : ℕ) → AsksSo (enough p table need)
@@ -35,25 +35,25 @@ module _ (K V : Type 0) (hash : K → ℕ) (p : Reserve) where
       by false true = refl
       by false false = refl
 
-  summed_asks : (table : Table) (end : Sum × Progress ℕ) → AsksSo (summed p table end)
+  summed_asks : (table : Table) (end : Sum × Advance ℕ) → AsksSo (summed p table end)
   summed_asks table (sum, progress.Goes) = refl
   summed_asks table (sum, progress.Waits) = refl
   summed_asks table (sum, progress.Done count) = enough_asks table (needed p.additional count)
   summed_asks table (sum, progress.Refused fault) = refl
 
-  made_asks : (end : NewTable × Progress Table) → AsksSo (made p end)
+  made_asks : (end : NewTable × Advance Table) → AsksSo (made p end)
   made_asks (making, progress.Goes) = refl
   made_asks (making, progress.Waits) = refl
   made_asks (making, progress.Done table) = refl
   made_asks (making, progress.Refused fault) = refl
 
-  grown_asks : (table : Table) (end : NewTable × Progress Table) → AsksSo (grown p table end)
+  grown_asks : (table : Table) (end : NewTable × Advance Table) → AsksSo (grown p table end)
   grown_asks table (making, progress.Goes) = refl
   grown_asks table (making, progress.Waits) = refl
   grown_asks table (making, progress.Done next) = refl
   grown_asks table (making, progress.Refused fault) = refl
 
-  copied_asks : (end : Copier × Outcome (Node K V) Table) → AsksSo (copied p end)
+  copied_asks : (end : Copier × Yielding (Node K V) Table) → AsksSo (copied p end)
   copied_asks (copier, outcome.Goes) = refl
   copied_asks (copier, outcome.Waits) = refl
   copied_asks (copier, outcome.Gave value) = refl
@@ -86,5 +86,5 @@ module _ (K V : Type 0) (hash : K → ℕ) (p : Reserve) where
   always_asks at.Over = refl
   always_asks (at.Refused fault) = refl
 
-  pub reserve_asks : (m m2 : Mem (Node K V)) (end : Reserve × Outcome (Node K V) Unit) → Steps Took value_at m (reserve_plan hash p) m2 end → end.0.additional ≡ p.additional
+  pub reserve_asks : (m m2 : Mem (Node K V)) (end : Reserve × Yielding (Node K V) Unit) → Steps Took value_at m (reserve_plan hash p) m2 end → end.0.additional ≡ p.additional
   reserve_asks m m2 end s = always_steps AsksSo m m2 (reserve_plan hash p) end (always_asks p.stands) s

@@ -7,8 +7,8 @@ use Rattle.map_facts.specs.Given.SeizeWordsPlan.{Steps}
 use Rattle.map_facts.specs.Given.SeizeWordsWord.{block_in}
 use Rattle.map_facts.specs.Given.SeizeWordsDeclared.fault.Fault.{Fault}
 use Rattle.map_facts.specs.Given.SeizeWordsDeclared.fault.Fault.TheVariants.{Memory, RemoveNothing}
-use Rattle.map_facts.specs.Given.SeizeDeclared.progress.Progress.{Progress as Counting}
-use Rattle.map_facts.specs.Given.SeizeDeclared.progress.Progress.TheVariants as progress
+use Rattle.map_facts.specs.Given.SeizeDeclared.advance.Advance.{Advance as Counting}
+use Rattle.map_facts.specs.Given.SeizeDeclared.advance.Advance.TheVariants as progress
 use Rattle.map_facts.specs.Given.SeizeDeclared.rows.settle.Settled.{Settled}
 use Rattle.map_facts.specs.Given.SeizeDeclared.rows.settle.Settled.TheVariants as settled
 use Rattle.map_facts.proofs.Given.SeizeWordsOneOwner.Operations.{loaded}
@@ -35,8 +35,8 @@ use Rattle.map_facts.specs.Given.ResizeDeclared.copier.Copier.{Copier}
 use Rattle.map_facts.specs.Given.ResizeDeclared.dispose.Dispose.{Dispose}
 use Rattle.map_facts.specs.Given.ResizeDeclared.lookup.Lookup.{Lookup}
 use Rattle.map_facts.specs.Given.ResizeDeclared.new_table.NewTable.{NewTable}
-use Rattle.map_facts.specs.Given.ResizeDeclared.outcome.Outcome.{Outcome}
-use Rattle.map_facts.specs.Given.ResizeDeclared.outcome.Outcome.TheVariants as outcome
+use Rattle.map_facts.specs.Given.ResizeDeclared.yielding.Yielding.{Yielding}
+use Rattle.map_facts.specs.Given.ResizeDeclared.yielding.Yielding.TheVariants as outcome
 use Rattle.map_facts.specs.Given.RawCall.{call_plan, made, makes_of, root_found, next_found, dropped, key_read, pair_read, word_read, word_found, tried, looked, looks_for, first_made, next_made, disposed, helped, copied}
 use Rattle.map_facts.specs.Given.RawCall as calls
 use Rattle.map_facts.specs.Given.RawCallAsks.{absent_told, present_told, told_at, with_absent, with_present}
@@ -56,8 +56,8 @@ use Rattle.map_facts.specs.Given.RawDeclared.machines.answer.There.TheVariants a
 use Rattle.map_facts.specs.Given.RawDeclared.machines.asking.Asking.TheVariants as asking
 use Rattle.map_facts.specs.Given.RawDeclared.machines.asking.Gap.{Gap}
 use Rattle.map_facts.specs.Given.RawDeclared.machines.asking.Gap.TheVariants as gaps
-use Rattle.map_facts.specs.Given.RawDeclared.machines.asking.Reply.{Reply}
-use Rattle.map_facts.specs.Given.RawDeclared.machines.asking.Reply.TheVariants as reply
+use Rattle.map_facts.specs.Given.RawDeclared.machines.asking.MachineReply.{MachineReply}
+use Rattle.map_facts.specs.Given.RawDeclared.machines.asking.MachineReply.TheVariants as reply
 use Rattle.map_facts.specs.Given.RawDeclared.machines.asking.Takes.{Takes}
 use Rattle.map_facts.specs.Given.RawDeclared.machines.asking.Takes.TheVariants as takes
 use Rattle.map_facts.specs.Given.RawDeclared.machines.asking.Told.{Told}
@@ -233,14 +233,14 @@ module _ (Is : Fault → Type 0) (Last : Table → Reason → Type 0) where
     next_as (n, progress.Done table) so = on_as table
     next_as (n, progress.Refused fault) so = ending_as (ends.Refused fault) so.1
 
-    pub helped_as : (goal : Table) (end : Copier × Outcome (Node K V) Table) → CopiesAs Is Last end → So (helped p goal end)
+    pub helped_as : (goal : Table) (end : Copier × Yielding (Node K V) Table) → CopiesAs Is Last end → So (helped p goal end)
     helped_as goal (copier, outcome.Goes) so = (so.0, tt)
     helped_as goal (copier, outcome.Waits) so = (so.0, tt)
     helped_as goal (copier, outcome.Gave value) so = (so.0, tt)
     helped_as goal (copier, outcome.Done table) so = (tt, tt)
     helped_as goal (copier, outcome.Refused fault) so = ending_as (ends.Refused fault) so.1
 
-    pub copied_as : (end : Copier × Outcome (Node K V) Table) → CopiesAs Is Last end → So (copied p end)
+    pub copied_as : (end : Copier × Yielding (Node K V) Table) → CopiesAs Is Last end → So (copied p end)
     copied_as (copier, outcome.Goes) so = (so.0, tt)
     copied_as (copier, outcome.Waits) so = (so.0, tt)
     copied_as (copier, outcome.Gave value) so = (so.0, tt)
@@ -352,7 +352,7 @@ module _ (Is : Fault → Type 0) (Last : Table → Reason → Type 0) where
 
 -- of a call that goes on with what it was told
 module _ (Is : Fault → Type 0) (Last : Table → Reason → Type 0) (nothing : Is RemoveNothing) {K V Q : Type 0} where
-  absent_told_as : (t : Takes) (p : KeyCall K V Q) → IsSoAt Is Last p → (gap : Gap) → GapSo Is Last p.trial.table gap → (r : Reply V) → IsSoAt Is Last (absent_told t p gap r).0
+  absent_told_as : (t : Takes) (p : KeyCall K V Q) → IsSoAt Is Last p → (gap : Gap) → GapSo Is Last p.trial.table gap → (r : MachineReply V) → IsSoAt Is Last (absent_told t p gap r).0
   absent_told_as takes.Values p here gap so (reply.Insert value) = (gap_as Is Last (with_absent p value) gap so).0
   absent_told_as takes.Changes p here gap so (reply.Insert value) = (gap_as Is Last (with_absent p value) gap so).0
   absent_told_as takes.Changes p here gap so reply.Remove = (ending_as Is Last p (ends.Refused RemoveNothing) nothing).0
@@ -366,7 +366,7 @@ module _ (Is : Fault → Type 0) (Last : Table → Reason → Type 0) (nothing :
   absent_told_as takes.Nothing p here gap so r = here
   absent_told_as takes.Choices p here gap so r = here
 
-  present_told_as : (t : Takes) (p : KeyCall K V Q) → IsSoAt Is Last p → (word : ℕ) (r : Reply V) → IsSoAt Is Last (present_told t p word r).0
+  present_told_as : (t : Takes) (p : KeyCall K V Q) → IsSoAt Is Last p → (word : ℕ) (r : MachineReply V) → IsSoAt Is Last (present_told t p word r).0
   present_told_as takes.Values p here word (reply.Insert value) = tt
   present_told_as takes.Changes p here word (reply.Insert value) = tt
   present_told_as takes.Changes p here word reply.Remove = (burying_as Is Last (with_present p word tells.Removes) word).0
@@ -384,12 +384,12 @@ module _ (Is : Fault → Type 0) (Last : Table → Reason → Type 0) (nothing :
   present_told_as takes.Choices p here word reply.Abort = here
   present_told_as takes.Nothing p here word r = here
 
-  told_at_as : (stands : Calling) (p : KeyCall K V Q) → IsSoAt Is Last p → StandsInCalling Is Last p.trial.table stands → (r : Reply V) → IsSoAt Is Last (told_at stands p r).0
+  told_at_as : (stands : Calling) (p : KeyCall K V Q) → IsSoAt Is Last p → StandsInCalling Is Last p.trial.table stands → (r : MachineReply V) → IsSoAt Is Last (told_at stands p r).0
   told_at_as (at.Asks (asking.Absent gap)) p here so r = absent_told_as p.replies.takes p here gap (gap_stands Is Last p.trial.table gap so) r
   told_at_as (at.Asks (asking.Present word)) p here so r = present_told_as p.replies.takes p here word r
   told_at_as _ p here so r = here
 
-  pub key_told_as : (p : KeyCall K V Q) → IsSoAt Is Last p → (r : Reply V) → IsSoAt Is Last (told_at p.stands p r).0
+  pub key_told_as : (p : KeyCall K V Q) → IsSoAt Is Last p → (r : MachineReply V) → IsSoAt Is Last (told_at p.stands p r).0
   key_told_as p here r = told_at_as p.stands p here here r
 
 -- The promise: each step leads to a point that is so, and a refusal is so.

@@ -8,8 +8,8 @@ use Rattle.map_facts.specs.Given.SeizeWordsOp.{Out, Found, Stored, Exchanged, Ma
 use Rattle.map_facts.specs.Given.SeizeWordsPlan.{Steps}
 use Rattle.map_facts.proofs.Given.SeizeWordsOneOwner.Operations.{loaded}
 use Rattle.map_facts.proofs.Given.SeizeRuleRows.Leaving.{steps_back}
-use Rattle.map_facts.specs.Given.SeizeDeclared.progress.Progress.{Progress}
-use Rattle.map_facts.specs.Given.SeizeDeclared.progress.Progress.TheVariants as progress
+use Rattle.map_facts.specs.Given.SeizeDeclared.advance.Advance.{Advance}
+use Rattle.map_facts.specs.Given.SeizeDeclared.advance.Advance.TheVariants as progress
 use Rattle.map_facts.specs.Given.SeizeDeclared.rows.settle.Settle.{Settle}
 use Rattle.map_facts.specs.Given.SeizeDeclared.rows.settle.Settled.{Settled}
 use Rattle.map_facts.specs.Given.SeizeDeclared.rows.settle.Settled.TheVariants as settled
@@ -30,8 +30,8 @@ use Rattle.map_facts.specs.Given.TablesTablePlaces.{at_word}
 use Rattle.map_facts.specs.Given.TablesDeclared.lengths.Reason.{Reason}
 use Rattle.map_facts.specs.Given.TablesDeclared.lengths.Reason.TheVariants.{NoPlace}
 use Rattle.map_facts.specs.Given.TablesDeclared.node.Node.{Node}
-use Rattle.map_facts.specs.Given.ResizeDeclared.outcome.Outcome.{Outcome}
-use Rattle.map_facts.specs.Given.ResizeDeclared.outcome.Outcome.TheVariants as outcome
+use Rattle.map_facts.specs.Given.ResizeDeclared.yielding.Yielding.{Yielding}
+use Rattle.map_facts.specs.Given.ResizeDeclared.yielding.Yielding.TheVariants as outcome
 use Rattle.map_facts.specs.Given.TablesDeclared.probe.Probe.{Probe}
 use Rattle.map_facts.specs.Given.TablesDeclared.status.TheConstants.Status.{PROMOTED, ABORTED}
 use Rattle.map_facts.specs.Given.TablesDeclared.table.Table.{Table}
@@ -47,7 +47,7 @@ use Rattle.map_facts_late.proofs.KindsKept.Rooms.Making.{MakesAs, MakesFor, alwa
 
 -- a fault that it has to tell is such a one, and a refusal is one for it
 module _ (Is : Fault → Type 0) (Last : Table → Reason → Type 0) where
-  abbrev pub CopiesAs : {T : Type 0} → Copier × Outcome T Table → Type 0
+  abbrev pub CopiesAs : {T : Type 0} → Copier × Yielding T Table → Type 0
   CopiesAs (p, told) = StandsInCopying Is Last p.stands × RefusesSo Is told
 
 -- it goes on with no machine within it
@@ -120,16 +120,16 @@ module _ (Is : Fault → Type 0) (Last : Table → Reason → Type 0) where
       by false = tt
 
   module _ (K V : Type 0) (hash : K → ℕ) (p : Copier) where
-    abbrev Rooms : Copier × Outcome (Node K V) Table → Type 0
+    abbrev Rooms : Copier × Yielding (Node K V) Table → Type 0
     Rooms end = CopiesAs Is Last end
 
-    pub grown_as : (word code : ℕ) (end : NewTable × Progress Table) → MakesAs Is Last end → Rooms (grown p word code end)
+    pub grown_as : (word code : ℕ) (end : NewTable × Advance Table) → MakesAs Is Last end → Rooms (grown p word code end)
     grown_as word code (making, progress.Goes) room = (room, tt)
     grown_as word code (making, progress.Waits) room = (room, tt)
     grown_as word code (making, progress.Done table) room = (tt, tt)
     grown_as word code (making, progress.Refused fault) room = (refusing_so p word fault room.1, tt)
 
-    pub remade_as : (end : NewTable × Progress Table) → MakesAs Is Last end → Rooms (remade p end)
+    pub remade_as : (end : NewTable × Advance Table) → MakesAs Is Last end → Rooms (remade p end)
     remade_as (making, progress.Goes) room = (room, tt)
     remade_as (making, progress.Waits) room = (room, tt)
     remade_as (making, progress.Done table) room = (tt, tt)
@@ -300,10 +300,10 @@ module _ (Is : Fault → Type 0) (long : Is Capacity) where
 
 -- The promise: each step leads to a point that is so, and a refusal is so.
 module _ (Is : Fault → Type 0) (Last : Table → Reason → Type 0) (short : Is Memory) (K V : Type 0) (hash : K → ℕ) (p : Copier) (here : StandsInCopying Is Last p.stands) where
-  abbrev CopiesHere : Copier × Outcome (Node K V) Table → Type 0
+  abbrev CopiesHere : Copier × Yielding (Node K V) Table → Type 0
   CopiesHere end = CopiesAs Is Last end
 
-  pub copier_as : (m m2 : Mem (Node K V)) (end : Copier × Outcome (Node K V) Table) → EndsInCopying Is Last m p p.stands → Steps Took value_at m (copier_plan hash p) m2 end → CopiesAs Is Last end
+  pub copier_as : (m m2 : Mem (Node K V)) (end : Copier × Yielding (Node K V) Table) → EndsInCopying Is Last m p p.stands → Steps Took value_at m (copier_plan hash p) m2 end → CopiesAs Is Last end
   copier_as m m2 end ends s = by p.stands here ends s
     where
       told : (stage : Copying) → AlwaysOf CopiesHere (plan_at hash p stage) → Steps Took value_at m (plan_at hash p stage) m2 end → CopiesHere end
@@ -330,17 +330,17 @@ module _ (Is : Fault → Type 0) (Last : Table → Reason → Type 0) (short : I
 
 -- where the fault is such a one in any case
 module _ (Is : Fault → Type 0) where
-  abbrev pub CopiesFor : {T : Type 0} → Copier × Outcome T Table → Type 0
+  abbrev pub CopiesFor : {T : Type 0} → Copier × Yielding T Table → Type 0
   CopiesFor end = CopiesAs Is AnyTable end
 
   module _ (long : Is Capacity) (K V : Type 0) (hash : K → ℕ) (p : Copier) where
-    abbrev RoomsFor : Copier × Outcome (Node K V) Table → Type 0
+    abbrev RoomsFor : Copier × Yielding (Node K V) Table → Type 0
     RoomsFor end = CopiesFor end
 
-    pub grown_so : (word code : ℕ) (end : NewTable × Progress Table) → MakesFor Is end → RoomsFor (grown p word code end)
+    pub grown_so : (word code : ℕ) (end : NewTable × Advance Table) → MakesFor Is end → RoomsFor (grown p word code end)
     grown_so word code end room = grown_as Is AnyTable K V hash p word code end room
 
-    pub remade_so : (end : NewTable × Progress Table) → MakesFor Is end → RoomsFor (remade p end)
+    pub remade_so : (end : NewTable × Advance Table) → MakesFor Is end → RoomsFor (remade p end)
     remade_so end room = remade_as Is AnyTable K V hash p end room
 
     pub settled_so : (rest : ℕ) (end : Settle × Settled (Node K V)) → RoomsFor (retired p rest end)
@@ -356,9 +356,9 @@ module _ (Is : Fault → Type 0) where
       own_so stage own room = own_as Is AnyTable K V hash p here stage own room (own_ends stage)
 
 -- so for room
-abbrev pub CopiesRoom : {T : Type 0} → Copier × Outcome T Table → Type 0
+abbrev pub CopiesRoom : {T : Type 0} → Copier × Yielding T Table → Type 0
 CopiesRoom end = CopiesFor IsRoom end
 
-pub copier_rooms : (K V : Type 0) (hash : K → ℕ) (p : Copier) → RoomInCopying p.stands → (m m2 : Mem (Node K V)) (end : Copier × Outcome (Node K V) Table)
+pub copier_rooms : (K V : Type 0) (hash : K → ℕ) (p : Copier) → RoomInCopying p.stands → (m m2 : Mem (Node K V)) (end : Copier × Yielding (Node K V) Table)
     → Steps Took value_at m (copier_plan hash p) m2 end → CopiesRoom end
 copier_rooms K V hash p here m m2 end s = copier_as IsRoom AnyTable (inl refl) K V hash p here m m2 end (copying_ends IsRoom (inr refl) m p p.stands) s

@@ -10,8 +10,8 @@ use Rattle.map_facts.specs.Given.SeizeWordsDeclared.fault.Fault.TheVariants.{Cap
 use Rattle.map_facts.specs.Given.SeizeWordsMem.{Mem, value_at, Took}
 use Rattle.map_facts.specs.Given.SeizeWordsOp.{Out, Found, Stored, Exchanged, Made, Taken, Roomed}
 use Rattle.map_facts.specs.Given.SeizeWordsPlan.{Then, Steps}
-use Rattle.map_facts.specs.Given.SeizeDeclared.progress.Progress.{Progress}
-use Rattle.map_facts.specs.Given.SeizeDeclared.progress.Progress.TheVariants as progress
+use Rattle.map_facts.specs.Given.SeizeDeclared.advance.Advance.{Advance}
+use Rattle.map_facts.specs.Given.SeizeDeclared.advance.Advance.TheVariants as progress
 use Rattle.map_facts.specs.Given.TablesLengths.{if_few, next_len, next_limit, next_turn, NoneFollows}
 use Rattle.map_facts.specs.Given.TablesProbes.{limit_of}
 use Rattle.map_facts.specs.Given.ResizeNewTable.{planned, making_first, following, making_of, begun_for, first_table, table_after, table_reserved, counted, made, linked, after_making, with_block, plan_at, new_table_plan}
@@ -142,7 +142,7 @@ pub table_after_room : (setting : Setting) (before : Table) (r : Reason) → Roo
 table_after_room setting before r = table_after_so IsRoom (inr refl) setting before r
 
 -- a counting is never refused
-abbrev pub CountsOn : Sum × Progress ℕ → Type 0
+abbrev pub CountsOn : Sum × Advance ℕ → Type 0
 CountsOn (sum, progress.Refused fault) = ⊥
 CountsOn (sum, _) = Unit {0}
 
@@ -170,12 +170,12 @@ IsPlain _ = Unit {0}
 
 module _ (Is : Fault → Type 0) (Last : Table → Reason → Type 0) where
   -- each step leads to a point that is so, and a refusal is so
-  abbrev pub MakesAs : NewTable × Progress Table → Type 0
+  abbrev pub MakesAs : NewTable × Advance Table → Type 0
   MakesAs (n, progress.Refused fault) = StandsInMaking Is Last n.stands × Is fault
   MakesAs (n, _) = StandsInMaking Is Last n.stands
 
   module _ (n : NewTable) where
-    pub counted_as : EndsSo Is Last n.setting → (before : Table) (r : Reason) → Last before r → (end : Sum × Progress ℕ) → CountsOn end → MakesAs (counted n before r end)
+    pub counted_as : EndsSo Is Last n.setting → (before : Table) (r : Reason) → Last before r → (end : Sum × Advance ℕ) → CountsOn end → MakesAs (counted n before r end)
     counted_as ends before r last (sum, progress.Goes) on = last
     counted_as ends before r last (sum, progress.Waits) on = last
     counted_as ends before r last (sum, progress.Done count) on = after_as Is Last r before count n.setting.initial (ends before r count last)
@@ -221,7 +221,7 @@ module _ (Is : Fault → Type 0) (Last : Table → Reason → Type 0) where
 
 -- The promise: each step leads to a point that is so, and a refusal is so, for memory where its block is refused.
 module _ (Is : Fault → Type 0) (Last : Table → Reason → Type 0) (short : Is Memory) {K V : Type 0} (n : NewTable) (ends : EndsSo Is Last n.setting) (here : StandsInMaking Is Last n.stands) where
-  pub new_table_as : (m m2 : Mem (Node K V)) (end : NewTable × Progress Table) → Steps Took value_at m (new_table_plan n) m2 end → MakesAs Is Last end
+  pub new_table_as : (m m2 : Mem (Node K V)) (end : NewTable × Advance Table) → Steps Took value_at m (new_table_plan n) m2 end → MakesAs Is Last end
   new_table_as m m2 end s = by n.stands here s
     where
       told : (stage : Making) → AlwaysOf (MakesAs Is Last) (plan_at {K = K} {V = V} n stage) → Steps Took value_at m (plan_at {K = K} {V = V} n stage) m2 end → MakesAs Is Last end
@@ -240,11 +240,11 @@ module _ (Is : Fault → Type 0) (Last : Table → Reason → Type 0) (short : I
 
 -- where the fault is such a one in any case
 module _ (Is : Fault → Type 0) where
-  abbrev pub MakesFor : NewTable × Progress Table → Type 0
+  abbrev pub MakesFor : NewTable × Advance Table → Type 0
   MakesFor end = MakesAs Is AnyTable end
 
   module _ (long : Is Capacity) (n : NewTable) where
-    pub counted_so : (before : Table) (r : Reason) (end : Sum × Progress ℕ) → CountsOn end → MakesFor (counted n before r end)
+    pub counted_so : (before : Table) (r : Reason) (end : Sum × Advance ℕ) → CountsOn end → MakesFor (counted n before r end)
     counted_so before r end on = counted_as Is AnyTable n (always_long Is long n.setting) before r tt end on
 
     module _ {K V : Type 0} (here : SoInMaking Is n.stands) where
@@ -256,8 +256,8 @@ module _ (Is : Fault → Type 0) where
       plain_so stage plain so = plain_as Is AnyTable n K V here stage plain so
 
 -- so for room
-abbrev pub MakesRoom : NewTable × Progress Table → Type 0
+abbrev pub MakesRoom : NewTable × Advance Table → Type 0
 MakesRoom end = MakesFor IsRoom end
 
-pub new_table_rooms : {K V : Type 0} (n : NewTable) → RoomInMaking n.stands → (m m2 : Mem (Node K V)) (end : NewTable × Progress Table) → Steps Took value_at m (new_table_plan n) m2 end → MakesRoom end
+pub new_table_rooms : {K V : Type 0} (n : NewTable) → RoomInMaking n.stands → (m m2 : Mem (Node K V)) (end : NewTable × Advance Table) → Steps Took value_at m (new_table_plan n) m2 end → MakesRoom end
 new_table_rooms n here m m2 end s = new_table_as IsRoom AnyTable (inl refl) n (always_long IsRoom (inr refl) n.setting) here m m2 end s

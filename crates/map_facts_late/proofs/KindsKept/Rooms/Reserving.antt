@@ -10,8 +10,8 @@ use Rattle.map_facts.specs.Given.SeizeWordsOp.{Out, Found, Stored, Exchanged, Ma
 use Rattle.map_facts.specs.Given.SeizeWordsPlan.{Steps}
 use Rattle.map_facts.proofs.Given.SeizeWordsOneOwner.Operations.{loaded}
 use Rattle.map_facts.proofs.Given.SeizeRuleRows.Leaving.{steps_back}
-use Rattle.map_facts.specs.Given.SeizeDeclared.progress.Progress.{Progress}
-use Rattle.map_facts.specs.Given.SeizeDeclared.progress.Progress.TheVariants as progress
+use Rattle.map_facts.specs.Given.SeizeDeclared.advance.Advance.{Advance}
+use Rattle.map_facts.specs.Given.SeizeDeclared.advance.Advance.TheVariants as progress
 use Rattle.map_facts.specs.Given.TablesChunks.{is_incremental}
 use Rattle.map_facts.specs.Given.ResizeCopier.{copier_plan}
 use Rattle.map_facts.specs.Given.ResizeCopierStates.{copying_all, resting}
@@ -21,8 +21,8 @@ use Rattle.map_facts.specs.Given.ResizeSum.{sum_plan}
 use Rattle.map_facts.specs.Given.TablesTablePlaces.{at_word}
 use Rattle.map_facts.specs.Given.TablesDeclared.lengths.Reason.{Reason}
 use Rattle.map_facts.specs.Given.TablesDeclared.node.Node.{Node}
-use Rattle.map_facts.specs.Given.ResizeDeclared.outcome.Outcome.{Outcome}
-use Rattle.map_facts.specs.Given.ResizeDeclared.outcome.Outcome.TheVariants as outcome
+use Rattle.map_facts.specs.Given.ResizeDeclared.yielding.Yielding.{Yielding}
+use Rattle.map_facts.specs.Given.ResizeDeclared.yielding.Yielding.TheVariants as outcome
 use Rattle.map_facts.specs.Given.TablesDeclared.setting.Setting.{Setting}
 use Rattle.map_facts.specs.Given.TablesDeclared.table.Table.{Table}
 use Rattle.map_facts.specs.Given.TablesDeclared.table_words.TheConstants.{NEXT}
@@ -41,7 +41,7 @@ use Rattle.map_facts_late.proofs.KindsKept.Rooms.Making.{CountsOn, sum_counts, M
 
 -- a fault that it has to tell is such a one, and a refusal is one for it
 module _ (Is : Fault → Type 0) (Last : Table → Reason → Type 0) where
-  abbrev pub ReservesAs : {T : Type 0} → Reserve × Outcome T Unit → Type 0
+  abbrev pub ReservesAs : {T : Type 0} → Reserve × Yielding T Unit → Type 0
   ReservesAs (p, told) = StandsInReserving Is Last p.stands × RefusesSo Is told
 
   -- a copying that begins
@@ -62,7 +62,7 @@ IsOwn _ = ⊥
 
 module _ (Is : Fault → Type 0) (Last : Table → Reason → Type 0) where
   module _ (K V : Type 0) (hash : K → ℕ) (p : Reserve) where
-    abbrev Rooms : Reserve × Outcome (Node K V) Unit → Type 0
+    abbrev Rooms : Reserve × Yielding (Node K V) Unit → Type 0
     Rooms end = ReservesAs Is Last end
 
     enough_as : (table : Table) (need : ℕ) → (2 ^ 48 < need → Is Capacity) → Rooms (enough p table need)
@@ -75,25 +75,25 @@ module _ (Is : Fault → Type 0) (Last : Table → Reason → Type 0) where
         by false false e = (tt, tt)
 
     -- where it has come to a count by which it needs too many places, the fault is such a one
-    pub summed_as : (table : Table) (end : Sum × Progress ℕ) → CountsOn end → ((count : ℕ) → end.1 ≡ progress.Done count → 2 ^ 48 < needed p.additional count → Is Capacity) → Rooms (summed p table end)
+    pub summed_as : (table : Table) (end : Sum × Advance ℕ) → CountsOn end → ((count : ℕ) → end.1 ≡ progress.Done count → 2 ^ 48 < needed p.additional count → Is Capacity) → Rooms (summed p table end)
     summed_as table (sum, progress.Goes) on many = (tt, tt)
     summed_as table (sum, progress.Waits) on many = (tt, tt)
     summed_as table (sum, progress.Done count) on many = enough_as table (needed p.additional count) (many count refl)
     summed_as table (sum, progress.Refused fault) on many = absurd on
 
-    pub made_as : (end : NewTable × Progress Table) → MakesAs Is Last end → Rooms (made p end)
+    pub made_as : (end : NewTable × Advance Table) → MakesAs Is Last end → Rooms (made p end)
     made_as (making, progress.Goes) room = (room, tt)
     made_as (making, progress.Waits) room = (room, tt)
     made_as (making, progress.Done table) room = (tt, tt)
     made_as (making, progress.Refused fault) room = (room.1, room.1)
 
-    pub grown_as : (table : Table) (end : NewTable × Progress Table) → MakesAs Is Last end → Rooms (grown p table end)
+    pub grown_as : (table : Table) (end : NewTable × Advance Table) → MakesAs Is Last end → Rooms (grown p table end)
     grown_as table (making, progress.Goes) room = (room, tt)
     grown_as table (making, progress.Waits) room = (room, tt)
     grown_as table (making, progress.Done next) room = (copying_as Is Last p.setting table next, tt)
     grown_as table (making, progress.Refused fault) room = (room.1, room.1)
 
-    pub copied_as : (end : Copier × Outcome (Node K V) Table) → CopiesAs Is Last end → Rooms (copied p end)
+    pub copied_as : (end : Copier × Yielding (Node K V) Table) → CopiesAs Is Last end → Rooms (copied p end)
     copied_as (copier, outcome.Goes) room = (room.0, tt)
     copied_as (copier, outcome.Waits) room = (room.0, tt)
     copied_as (copier, outcome.Gave value) room = (room.0, tt)
@@ -155,10 +155,10 @@ module _ (Is : Fault → Type 0) (long : Is Capacity) where
 
 -- The promise: each step leads to a point that is so, and a refusal is so.
 module _ (Is : Fault → Type 0) (Last : Table → Reason → Type 0) (short : Is Memory) (K V : Type 0) (hash : K → ℕ) (p : Reserve) (here : StandsInReserving Is Last p.stands) where
-  abbrev ReservesHere : Reserve × Outcome (Node K V) Unit → Type 0
+  abbrev ReservesHere : Reserve × Yielding (Node K V) Unit → Type 0
   ReservesHere end = ReservesAs Is Last end
 
-  pub reserve_as : (m m2 : Mem (Node K V)) (end : Reserve × Outcome (Node K V) Unit) → EndsInReserving Is Last m m2 p p.stands → Steps Took value_at m (reserve_plan hash p) m2 end → ReservesAs Is Last end
+  pub reserve_as : (m m2 : Mem (Node K V)) (end : Reserve × Yielding (Node K V) Unit) → EndsInReserving Is Last m m2 p p.stands → Steps Took value_at m (reserve_plan hash p) m2 end → ReservesAs Is Last end
   reserve_as m m2 end ends s = by p.stands here ends s
     where
       by : (stage : Reserving) → StandsInReserving Is Last stage → EndsInReserving Is Last m m2 p stage → Steps Took value_at m (plan_at hash p stage) m2 end → ReservesHere end
@@ -173,7 +173,7 @@ module _ (Is : Fault → Type 0) (Last : Table → Reason → Type 0) (short : I
           let d = steps_back (summed p table) m m2 (sum_plan sum) end s in
           subst ReservesHere (sym d.2)
           (summed_as Is Last K V hash p table d.0 (always_steps CountsOn m m2 (sum_plan sum) d.0 (sum_counts (Node K V) sum) d.1)
-          (λ count done. ends d.0.0 count (subst (λ (told : Progress ℕ). Steps Took value_at m (sum_plan sum) m2 (d.0.0, told)) done d.1)))
+          (λ count done. ends d.0.0 count (subst (λ (told : Advance ℕ). Steps Took value_at m (sum_plan sum) m2 (d.0.0, told)) done d.1)))
       by (at.Follows table need) so ends s =
           let d = loaded m (next_read p table need) (at_word table NEXT) m2 end s in
           always_ends ReservesHere (value_at m) (next_read p table need (Found d.0)) end
@@ -189,23 +189,23 @@ module _ (Is : Fault → Type 0) (Last : Table → Reason → Type 0) (short : I
 
 -- where the fault is such a one in any case
 module _ (Is : Fault → Type 0) where
-  abbrev pub ReservesFor : {T : Type 0} → Reserve × Outcome T Unit → Type 0
+  abbrev pub ReservesFor : {T : Type 0} → Reserve × Yielding T Unit → Type 0
   ReservesFor end = ReservesAs Is AnyTable end
 
   module _ (long : Is Capacity) (K V : Type 0) (hash : K → ℕ) (p : Reserve) where
-    abbrev RoomsFor : Reserve × Outcome (Node K V) Unit → Type 0
+    abbrev RoomsFor : Reserve × Yielding (Node K V) Unit → Type 0
     RoomsFor end = ReservesFor end
 
-    pub summed_so : (table : Table) (end : Sum × Progress ℕ) → CountsOn end → RoomsFor (summed p table end)
+    pub summed_so : (table : Table) (end : Sum × Advance ℕ) → CountsOn end → RoomsFor (summed p table end)
     summed_so table end on = summed_as Is AnyTable K V hash p table end on (λ count done many. long)
 
-    pub made_so : (end : NewTable × Progress Table) → MakesFor Is end → RoomsFor (made p end)
+    pub made_so : (end : NewTable × Advance Table) → MakesFor Is end → RoomsFor (made p end)
     made_so end room = made_as Is AnyTable K V hash p end room
 
-    pub grown_so : (table : Table) (end : NewTable × Progress Table) → MakesFor Is end → RoomsFor (grown p table end)
+    pub grown_so : (table : Table) (end : NewTable × Advance Table) → MakesFor Is end → RoomsFor (grown p table end)
     grown_so table end room = grown_as Is AnyTable K V hash p table end room
 
-    pub copied_so : (end : Copier × Outcome (Node K V) Table) → CopiesFor Is end → RoomsFor (copied p end)
+    pub copied_so : (end : Copier × Yielding (Node K V) Table) → CopiesFor Is end → RoomsFor (copied p end)
     copied_so end room = copied_as Is AnyTable K V hash p end room
 
     own_ends : (stage : Reserving) → EndsOwn Is AnyTable K V hash p stage
@@ -218,9 +218,9 @@ module _ (Is : Fault → Type 0) where
       own_so stage own room = own_as Is AnyTable K V hash p here stage own room (own_ends stage)
 
 -- so for room
-abbrev pub ReservesRoom : {T : Type 0} → Reserve × Outcome T Unit → Type 0
+abbrev pub ReservesRoom : {T : Type 0} → Reserve × Yielding T Unit → Type 0
 ReservesRoom end = ReservesFor IsRoom end
 
-pub reserve_rooms : (K V : Type 0) (hash : K → ℕ) (p : Reserve) → RoomInReserving p.stands → (m m2 : Mem (Node K V)) (end : Reserve × Outcome (Node K V) Unit)
+pub reserve_rooms : (K V : Type 0) (hash : K → ℕ) (p : Reserve) → RoomInReserving p.stands → (m m2 : Mem (Node K V)) (end : Reserve × Yielding (Node K V) Unit)
     → Steps Took value_at m (reserve_plan hash p) m2 end → ReservesRoom end
 reserve_rooms K V hash p here m m2 end s = reserve_as IsRoom AnyTable (inl refl) K V hash p here m m2 end (reserving_ends IsRoom (inr refl) m m2 p p.stands) s

@@ -20,8 +20,8 @@ use Rattle.map_facts.specs.Given.ResizeCopier.{copier_plan}
 use Rattle.map_facts.specs.Given.ResizeDispose.{dispose_plan}
 use Rattle.map_facts.specs.Given.ResizeDeclared.copier.Copier.{Copier}
 use Rattle.map_facts.specs.Given.ResizeDeclared.dispose.Dispose.{Dispose}
-use Rattle.map_facts.specs.Given.ResizeDeclared.outcome.Outcome.{Outcome}
-use Rattle.map_facts.specs.Given.ResizeDeclared.outcome.Outcome.TheVariants as outcome
+use Rattle.map_facts.specs.Given.ResizeDeclared.yielding.Yielding.{Yielding}
+use Rattle.map_facts.specs.Given.ResizeDeclared.yielding.Yielding.TheVariants as outcome
 use Rattle.map_facts.specs.Given.SweepsSweep.{word_found, tried, disposed, root_read, next_read, copied, plan_at, sweep_plan}
 use Rattle.map_facts.specs.Given.SweepsSweepPoints.{removes, beginning, tableless, entering, past, at_end, further, next_at, after_next, reply_at, after_reply, told, telling, at_pair, seen}
 use Rattle.map_facts.specs.Given.ReservesDeclared.sweep.Purpose.{Purpose}
@@ -101,7 +101,7 @@ module _ (Is : Fault → Type 0) (Last : Table → Reason → Type 0) where
         by false true = telling_so (further c) (further_so c)
         by false false = pair_so c.purpose word
 
-    pub copied_as : (end : Copier × Outcome (Node K V) Table) → CopiesAs Is Last end → Rooms (copied c end)
+    pub copied_as : (end : Copier × Yielding (Node K V) Table) → CopiesAs Is Last end → Rooms (copied c end)
     copied_as (copier, outcome.Goes) room = (room.0, tt)
     copied_as (copier, outcome.Waits) room = (room.0, tt)
     copied_as (copier, outcome.Gave value) room = (room.0, tt)
@@ -198,7 +198,7 @@ module _ (Is : Fault → Type 0) where
     abbrev RoomsFor : Sweep × Swept (Node K V) → Type 0
     RoomsFor end = SweepsFor end
 
-    pub copied_so : (end : Copier × Outcome (Node K V) Table) → CopiesFor Is end → RoomsFor (copied c end)
+    pub copied_so : (end : Copier × Yielding (Node K V) Table) → CopiesFor Is end → RoomsFor (copied c end)
     copied_so end room = copied_as Is AnyTable K V hash c end room
 
     pub disposed_so : (end : Dispose × Settled (Node K V)) → RoomsFor (disposed c end)

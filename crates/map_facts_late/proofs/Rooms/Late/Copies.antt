@@ -13,8 +13,8 @@ use Rattle.map_facts.specs.Given.TablesDeclared.setting.Setting.{Setting}
 use Rattle.map_facts.specs.Given.TablesDeclared.table.Table.{Table}
 use Rattle.map_facts.specs.Given.ResizeCopier.{copier_plan}
 use Rattle.map_facts.specs.Given.ResizeDeclared.copier.Copier.{Copier}
-use Rattle.map_facts.specs.Given.ResizeDeclared.outcome.Outcome.{Outcome}
-use Rattle.map_facts.specs.Given.ResizeDeclared.outcome.Outcome.TheVariants as outcome
+use Rattle.map_facts.specs.Given.ResizeDeclared.yielding.Yielding.{Yielding}
+use Rattle.map_facts.specs.Given.ResizeDeclared.yielding.Yielding.TheVariants as outcome
 use Rattle.map_facts.specs.Given.ReservesReserve.{standing, copied, plan_at}
 use Rattle.map_facts.specs.Given.ReservesDeclared.reserve.Reserve.{Reserve}
 use Rattle.map_facts.specs.Given.ReservesDeclared.reserve.Reserving.TheVariants as at
@@ -60,7 +60,7 @@ module _ {K V : Type 0} (same : K → K → Bool) (hash : K → ℕ) (caller : �
       copies_there next (inl fresh) = inl record { setting_is = setting_is; idle = λ rests. absurd (rests tt); point = whole_blocking w c blocks next fresh }
       copies_there next (inr late) = inr (late_there next late)
 
-      copied_late : (end : Copier × Outcome (Node K V) Table) → LateCopierAfter same hash caller setting began w c blocks end → LateReserveAfter same hash caller setting began w c blocks (copied p end)
+      copied_late : (end : Copier × Yielding (Node K V) Table) → LateCopierAfter same hash caller setting began w c blocks end → LateReserveAfter same hash caller setting began w c blocks (copied p end)
       copied_late (next, outcome.Goes) told = copies_there next told
       copied_late (next, outcome.Waits) told = late_there next told
       copied_late (next, outcome.Gave value) told = absurd told
@@ -73,7 +73,7 @@ module _ {K V : Type 0} (same : K → K → Bool) (hash : K → ℕ) (caller : �
       may_copies = as_may (copied p) Can Took value_at w.memory (copier_plan hash copier)
           (late_copiers_keep_the_map same hash are setting initial_is blocking w caller c blocks began copier map moments few facts none).0
 
-      pub went_copies : (m2 : Mem (Node K V)) (end : Reserve × Outcome (Node K V) Unit) → Steps Took value_at w.memory (plan_at hash p (at.Copies copier)) m2 end
+      pub went_copies : (m2 : Mem (Node K V)) (end : Reserve × Yielding (Node K V) Unit) → Steps Took value_at w.memory (plan_at hash p (at.Copies copier)) m2 end
           → LateWent same hash caller setting blocking began w c blocks m2 (at.Copies copier) end
       went_copies m2 end s =
           let b = steps_back (copied p) w.memory m2 (copier_plan hash copier) end s in
@@ -82,7 +82,7 @@ module _ {K V : Type 0} (same : K → K → Bool) (hash : K → ℕ) (caller : �
           (λ w2 c2 blocks2 map2 moved same_blocks told. (
             told.0,
             told.1.1,
-            subst (λ (e : Reserve × Outcome (Node K V) Unit). LateReserveAfter same hash caller setting began w2 c2 blocks2 e) (sym b.2) (copied_late w2 c2 blocks2 map2 b.0 told.1.0),
+            subst (λ (e : Reserve × Yielding (Node K V) Unit). LateReserveAfter same hash caller setting began w2 c2 blocks2 e) (sym b.2) (copied_late w2 c2 blocks2 map2 b.0 told.1.0),
             λ other. absurd (other tt),
           ))
           ((late_copiers_keep_the_map same hash are setting initial_is blocking w caller c blocks began copier map moments few facts none).1 m2 b.0 b.1)

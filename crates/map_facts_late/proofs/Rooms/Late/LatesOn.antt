@@ -9,8 +9,8 @@ use Rattle.map_facts.specs.Given.TablesDeclared.node.Node.{Node}
 use Rattle.map_facts.specs.Given.TablesDeclared.setting.Setting.{Setting}
 use Rattle.map_facts.specs.Given.TablesDeclared.table.Table.{Table}
 use Rattle.map_facts.specs.Given.ResizeCopierStates.{copying_all}
-use Rattle.map_facts.specs.Given.ResizeDeclared.outcome.Outcome.{Outcome}
-use Rattle.map_facts.specs.Given.ResizeDeclared.outcome.Outcome.TheVariants as outcome
+use Rattle.map_facts.specs.Given.ResizeDeclared.yielding.Yielding.{Yielding}
+use Rattle.map_facts.specs.Given.ResizeDeclared.yielding.Yielding.TheVariants as outcome
 use Rattle.map_facts.specs.Given.ReservesReserve.{standing, counting, copying, enough, needed, refusing}
 use Rattle.map_facts.specs.Given.ReservesDeclared.reserve.Reserve.{Reserve}
 use Rattle.map_facts.specs.Given.ReservesDeclared.reserve.Reserving.{Reserving}
@@ -40,16 +40,16 @@ module _ {K V : Type 0} (same : K → K → Bool) (hash : K → ℕ) (caller : �
 
 module _ {K V : Type 0} (same : K → K → Bool) (hash : K → ℕ) (caller : ℕ) (setting : Setting) (blocking : is_incremental setting.mode ≡ false) (began : ℕ) where
   -- What each step tells: it changes no pair, and beside its copying it links a table at most.
-  abbrev pub LateTells : World (Node K V) → Chart K → Reserving → Reserve × Outcome (Node K V) Unit → World (Node K V) → Chart K → Blocks → Type 0
+  abbrev pub LateTells : World (Node K V) → Chart K → Reserving → Reserve × Yielding (Node K V) Unit → World (Node K V) → Chart K → Blocks → Type 0
   LateTells w c stage end w2 c2 blocks2 =
       SparesPairs w w2 × (c2.current ≡ c.current) × LateReserveAfter same hash caller setting began w2 c2 blocks2 end × ((CopiesPairs stage → ⊥) → OnlyLinks hash setting.mode c c2)
 
-  abbrev pub LateWent : World (Node K V) → Chart K → Blocks → Mem (Node K V) → Reserving → Reserve × Outcome (Node K V) Unit → Type 0
+  abbrev pub LateWent : World (Node K V) → Chart K → Blocks → Mem (Node K V) → Reserving → Reserve × Yielding (Node K V) Unit → Type 0
   LateWent w c blocks m2 stage end = Went same hash setting caller w c blocks m2 (LateTells w c stage end)
 
   module _ (w : World (Node K V)) (c : Chart K) (blocks : Blocks) (map : IsMapIn same hash setting w c blocks) where
     -- a step that changed nothing
-    pub late_still : (m2 : Mem (Node K V)) → m2 ≡ w.memory → (stage : Reserving) (end : Reserve × Outcome (Node K V) Unit)
+    pub late_still : (m2 : Mem (Node K V)) → m2 ≡ w.memory → (stage : Reserving) (end : Reserve × Yielding (Node K V) Unit)
         → LateReserveAfter same hash caller setting began w c blocks end → LateWent w c blocks m2 stage end
     late_still m2 is stage end told =
         went_still same hash setting caller w c blocks map m2 is (LateTells w c stage end) (spares_same w, refl, told, λ other. inl refl)

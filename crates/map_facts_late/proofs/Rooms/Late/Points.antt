@@ -8,7 +8,7 @@ use Rattle.map_facts.specs.Given.SeizeWorld.{World}
 use Rattle.map_facts.specs.Given.TablesChunks.{is_incremental}
 use Rattle.map_facts.specs.Given.TablesDeclared.node.Node.{Node}
 use Rattle.map_facts.specs.Given.TablesDeclared.setting.Setting.{Setting}
-use Rattle.map_facts.specs.Given.ResizeDeclared.outcome.Outcome.{Outcome}
+use Rattle.map_facts.specs.Given.ResizeDeclared.yielding.Yielding.{Yielding}
 use Rattle.map_facts.specs.Given.ReservesReserve.{plan_at, reserve_plan}
 use Rattle.map_facts.specs.Given.ReservesDeclared.reserve.Reserve.{Reserve}
 use Rattle.map_facts.specs.Given.ReservesDeclared.reserve.Reserving.{Reserving}
@@ -42,7 +42,7 @@ module _ {K V : Type 0} (same : K → K → Bool) (hash : K → ℕ) (are : AreL
   may_at at.Over point none = absurd point
   may_at (at.Refused fault) point none = absurd point
 
-  went_at : (m2 : Mem (Node K V)) (end : Reserve × Outcome (Node K V) Unit) (stage : Reserving) → LateReserving same hash w caller setting c blocks began stage → (IsRowOfReserve stage → ⊥)
+  went_at : (m2 : Mem (Node K V)) (end : Reserve × Yielding (Node K V) Unit) (stage : Reserving) → LateReserving same hash w caller setting c blocks began stage → (IsRowOfReserve stage → ⊥)
       → Steps Took value_at w.memory (plan_at hash p stage) m2 end → LateWent same hash caller setting blocking began w c blocks m2 stage end
   went_at m2 end (at.Makes making) facts none s = went_makes same hash caller setting blocking began are.lawful w c blocks map p f.setting_is f.idle m2 end making facts s
   went_at m2 end (at.Sums table sum) ((t, entered, left), facts) none s =
@@ -60,7 +60,7 @@ module _ {K V : Type 0} (same : K → K → Bool) (hash : K → ℕ) (are : AreL
   pub may_late : (IsRowOfReserve p.stands → ⊥) → May Can Took value_at w.memory (reserve_plan hash p)
   may_late none = may_at p.stands f.point none
 
-  pub went_late : (IsRowOfReserve p.stands → ⊥) → (m2 : Mem (Node K V)) (end : Reserve × Outcome (Node K V) Unit) → Steps Took value_at w.memory (reserve_plan hash p) m2 end
+  pub went_late : (IsRowOfReserve p.stands → ⊥) → (m2 : Mem (Node K V)) (end : Reserve × Yielding (Node K V) Unit) → Steps Took value_at w.memory (reserve_plan hash p) m2 end
       → LateWent same hash caller setting blocking began w c blocks m2 p.stands end
   went_late none m2 end s = went_at m2 end p.stands f.point none s
 

@@ -9,8 +9,8 @@ use Rattle.map_facts.proofs.Given.SeizeWordsOneOwner.Operations.{loaded}
 use Rattle.map_facts.proofs.Given.SeizeWordsPlans.{as_may}
 use Rattle.map_facts.proofs.Given.SeizeRuleRows.Leaving.{steps_back}
 use Rattle.map_facts.specs.Given.SeizeWorld.{World}
-use Rattle.map_facts.specs.Given.SeizeDeclared.progress.Progress.{Progress}
-use Rattle.map_facts.specs.Given.SeizeDeclared.progress.Progress.TheVariants as progress
+use Rattle.map_facts.specs.Given.SeizeDeclared.advance.Advance.{Advance}
+use Rattle.map_facts.specs.Given.SeizeDeclared.advance.Advance.TheVariants as progress
 use Rattle.map_facts.specs.Given.TablesChunks.{is_incremental}
 use Rattle.map_facts.specs.Given.TablesTablePlaces.{at_word}
 use Rattle.map_facts.specs.Given.TablesDeclared.node.Node.{Node}
@@ -20,7 +20,7 @@ use Rattle.map_facts.specs.Given.TablesDeclared.table_words.TheConstants.{NEXT}
 use Rattle.map_facts.specs.Given.ResizeNewTable.{new_table_plan}
 use Rattle.map_facts.specs.Given.ResizeSum.{sum_plan}
 use Rattle.map_facts.specs.Given.ResizeDeclared.new_table.NewTable.{NewTable}
-use Rattle.map_facts.specs.Given.ResizeDeclared.outcome.Outcome.{Outcome}
+use Rattle.map_facts.specs.Given.ResizeDeclared.yielding.Yielding.{Yielding}
 use Rattle.map_facts.specs.Given.ResizeDeclared.sum.Sum.{Sum}
 use Rattle.map_facts.specs.Given.ReservesReserve.{made, summed, grown, next_read, plan_at}
 use Rattle.map_facts.specs.Given.ReservesDeclared.reserve.Reserve.{Reserve}
@@ -54,17 +54,17 @@ module _ {K V : Type 0} (same : K → K → Bool) (hash : K → ℕ) (caller : �
     (w : World (Node K V)) (c : Chart K) (blocks : Blocks) (map : IsMapIn same hash setting w c blocks) (p : Reserve) (setting_is : p.setting ≡ setting)
     (idle : HasNoShares same hash w caller setting c blocks) where
   -- where it comes to, here and once a table was linked
-  abbrev Comes : Reserve × Outcome (Node K V) Unit → Type 0
+  abbrev Comes : Reserve × Yielding (Node K V) Unit → Type 0
   Comes end = LateReserveAfter same hash caller setting began w c blocks end
 
   idle_then : (w2 : World (Node K V)) (c2 : Chart K) (blocks2 : Blocks) → OnlyLinks hash setting.mode c c2 → HasNoShares same hash w2 caller setting c2 blocks2
   idle_then w2 c2 blocks2 links =
       none_in same hash caller setting blocking w2 c2 blocks2 (idle_linked same hash caller setting lawful w c blocks map w2 c2 blocks2 links (idle_in same hash w caller setting c blocks false blocking idle))
 
-  module _ (m2 : Mem (Node K V)) (end : Reserve × Outcome (Node K V) Unit) where
+  module _ (m2 : Mem (Node K V)) (end : Reserve × Yielding (Node K V) Unit) where
     module _ (table : Table) (t : ℕ) (entered : IsTable c blocks table t) (left : Left c began t) where
       -- the pairs are counted
-      summed_late : (end : Sum × Progress ℕ) → SumTold setting end → Comes (summed {T = Node K V} p table end)
+      summed_late : (end : Sum × Advance ℕ) → SumTold setting end → Comes (summed {T = Node K V} p table end)
       summed_late (next, progress.Goes) told = inr (late_at same hash caller setting blocking began w c blocks map p setting_is idle (at.Sums table next) ((t, entered, left), told))
       summed_late (next, progress.Waits) told = absurd told
       summed_late (next, progress.Done count) told = compared_late same hash caller setting blocking began w c blocks map p setting_is idle table (t, entered, left) count
@@ -96,7 +96,7 @@ module _ {K V : Type 0} (same : K → K → Bool) (hash : K → ℕ) (caller : �
 
         -- a table is made behind it
         grown_late : (w2 : World (Node K V)) (c2 : Chart K) (blocks2 : Blocks) → IsMapIn same hash setting w2 c2 blocks2 → HasNoShares same hash w2 caller setting c2 blocks2
-            → IsTable c2 blocks2 table t → Left c2 began t → c2.from (suc t) ≡ t → (end : NewTable × Progress Table)
+            → IsTable c2 blocks2 table t → Left c2 began t → c2.from (suc t) ≡ t → (end : NewTable × Advance Table)
             → NewTableTold w2 caller setting c2 blocks2 (Word (blocks2.table t) NEXT) (suc t) end → LateReserveAfter same hash caller setting began w2 c2 blocks2 (grown p table end)
         grown_late w2 c2 blocks2 map2 idle2 entered2 left2 from (next, progress.Goes) told =
             inr (late_at same hash caller setting blocking began w2 c2 blocks2 map2 p setting_is idle2 (at.Grows table next) (t, entered2, left2, told))
@@ -115,7 +115,7 @@ module _ {K V : Type 0} (same : K → K → Bool) (hash : K → ℕ) (caller : �
             (λ w2 c2 blocks2 map2 moved same_blocks told. (
               told.0,
               (links_same same hash caller setting lawful w c blocks map c2 told.1).0,
-              subst (λ (e : Reserve × Outcome (Node K V) Unit). LateReserveAfter same hash caller setting began w2 c2 blocks2 e) (sym b.2)
+              subst (λ (e : Reserve × Yielding (Node K V) Unit). LateReserveAfter same hash caller setting began w2 c2 blocks2 e) (sym b.2)
                   (grown_late w2 c2 blocks2 map2 (idle_then w2 c2 blocks2 told.1)
                   (table_lasts same hash (is_incremental setting.mode) c c2 (moved_lasts same hash setting lawful w c c2 blocks map moved) blocks blocks2 same_blocks table t entered)
                   (left_linked hash setting c c2 began t told.1 entered.made left)
@@ -127,10 +127,10 @@ module _ {K V : Type 0} (same : K → K → Bool) (hash : K → ℕ) (caller : �
 
     -- a first table was made too late
     made_late : (w2 : World (Node K V)) (c2 : Chart K) (blocks2 : Blocks) → IsMapIn same hash setting w2 c2 blocks2 → HasNoShares same hash w2 caller setting c2 blocks2
-        → (table : Table) (u : ℕ) → IsTable c2 blocks2 table u → Left c2 began u → (end : NewTable × Progress Table) → end.1 ≡ progress.Done table
+        → (table : Table) (u : ℕ) → IsTable c2 blocks2 table u → Left c2 began u → (end : NewTable × Advance Table) → end.1 ≡ progress.Done table
         → LateReserveAfter same hash caller setting began w2 c2 blocks2 (made p end)
     made_late w2 c2 blocks2 map2 idle2 table u entered left (next, progress) is =
-        subst (λ (x : Progress Table). LateReserveAfter same hash caller setting began w2 c2 blocks2 (made p (next, x))) (sym is)
+        subst (λ (x : Advance Table). LateReserveAfter same hash caller setting began w2 c2 blocks2 (made p (next, x))) (sym is)
         (counts_in same hash caller setting blocking began w2 c2 blocks2 map2 p setting_is idle2 table u entered (inr left))
 
     pub went_makes : (making : NewTable) → LateFirstFacts w caller setting c blocks began making → Steps Took value_at w.memory (plan_at hash p (at.Makes making)) m2 end
@@ -142,7 +142,7 @@ module _ {K V : Type 0} (same : K → K → Bool) (hash : K → ℕ) (caller : �
         (λ w2 c2 blocks2 map2 moved same_blocks told. (
           told.0,
           ap (λ (x : Chart K). x.current) told.1,
-          subst (λ (e : Reserve × Outcome (Node K V) Unit). LateReserveAfter same hash caller setting began w2 c2 blocks2 e) (sym b.2)
+          subst (λ (e : Reserve × Yielding (Node K V) Unit). LateReserveAfter same hash caller setting began w2 c2 blocks2 e) (sym b.2)
               (made_late w2 c2 blocks2 map2 (idle_then w2 c2 blocks2 (inl told.1)) told.2 told.3 told.4 told.5 b.0 told.6),
           λ other. inl told.1,
         ))

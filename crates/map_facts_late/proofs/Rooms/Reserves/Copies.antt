@@ -11,8 +11,8 @@ use Rattle.map_facts.specs.Given.TablesChunks.{is_incremental}
 use Rattle.map_facts.specs.Given.ResizeCopier.{copier_plan}
 use Rattle.map_facts.specs.Given.ReservesReserve.{standing, copied, plan_at}
 use Rattle.map_facts.specs.Given.TablesDeclared.node.Node.{Node}
-use Rattle.map_facts.specs.Given.ResizeDeclared.outcome.Outcome.{Outcome}
-use Rattle.map_facts.specs.Given.ResizeDeclared.outcome.Outcome.TheVariants as outcome
+use Rattle.map_facts.specs.Given.ResizeDeclared.yielding.Yielding.{Yielding}
+use Rattle.map_facts.specs.Given.ResizeDeclared.yielding.Yielding.TheVariants as outcome
 use Rattle.map_facts.specs.Given.TablesDeclared.setting.Setting.{Setting}
 use Rattle.map_facts.specs.Given.TablesDeclared.table.Table.{Table}
 use Rattle.map_facts.specs.Given.ResizeDeclared.copier.Copier.{Copier}
@@ -50,7 +50,7 @@ module _ {K V : Type 0} (same : K → K → Bool) (hash : K → ℕ) (caller : �
       cond b ((copier.whole ≡ true) × CopierFacts same hash w caller setting c blocks copier × IsEnding same hash w caller setting c blocks copier copier.stands)
       (CopierFactsBlocking same hash w caller setting c blocks copier)
 
-  abbrev ToldIn : World (Node K V) → Chart K → Blocks → Bool → Copier × Outcome (Node K V) Table → Type 0
+  abbrev ToldIn : World (Node K V) → Chart K → Blocks → Bool → Copier × Yielding (Node K V) Table → Type 0
   ToldIn w c blocks b end =
       cond b (CopierTold w caller setting c blocks same hash end × (end.0.whole ≡ true) × EndsAtRoot w caller setting c blocks same hash end)
       (CopierToldBlocking w caller setting c blocks same hash end)
@@ -65,16 +65,16 @@ module _ {K V : Type 0} (same : K → K → Bool) (hash : K → ℕ) (caller : �
           by false blocking f = may_copier_blocking same hash fits lawful caller setting blocking initial_is w c blocks map copier f none
 
       -- what a step tells, in this mode
-      abbrev StepIn : Copier × Outcome (Node K V) Table → Bool → World (Node K V) → Chart K → Blocks → Type 0
+      abbrev StepIn : Copier × Yielding (Node K V) Table → Bool → World (Node K V) → Chart K → Blocks → Type 0
       StepIn end b w2 c2 blocks2 =
           SparesPairs w w2 × (c2.current ≡ c.current) × ToldIn w2 c2 blocks2 b end
           × cond b (MovedAt hash caller c copier copier.stands end c2) (OthersIdle caller c × AloneBlocking c copier copier.stands → LeadsAlone c2 caller end)
 
-      abbrev StepOf : Copier × Outcome (Node K V) Table → World (Node K V) → Chart K → Blocks → Type 0
+      abbrev StepOf : Copier × Yielding (Node K V) Table → World (Node K V) → Chart K → Blocks → Type 0
       StepOf end w2 c2 blocks2 =
           SparesPairs w w2 × (c2.current ≡ c.current) × WholeTold w2 caller setting c2 blocks2 same hash end × CopierMoves same hash caller setting w c copier end c2
 
-      pub went_whole : CopiesWhole same hash w caller setting c blocks copier → (m2 : Mem (Node K V)) (end : Copier × Outcome (Node K V) Table)
+      pub went_whole : CopiesWhole same hash w caller setting c blocks copier → (m2 : Mem (Node K V)) (end : Copier × Yielding (Node K V) Table)
           → Steps Took value_at w.memory (copier_plan hash copier) m2 end → Went same hash setting caller w c blocks m2 (StepOf end)
       went_whole facts m2 end s = by (is_incremental setting.mode) refl facts
         where
@@ -100,7 +100,7 @@ module _ {K V : Type 0} (same : K → K → Bool) (hash : K → ℕ) (caller : �
 
     -- where the reservation comes to
     module _ (p : Reserve) (setting_is : p.setting ≡ setting) where
-      copied_in : (b : Bool) → is_incremental setting.mode ≡ b → (end : Copier × Outcome (Node K V) Table) → ToldIn w c blocks b end
+      copied_in : (b : Bool) → is_incremental setting.mode ≡ b → (end : Copier × Yielding (Node K V) Table) → ToldIn w c blocks b end
           → ReserveAfter w caller setting c blocks same hash (copied p end)
       copied_in b mode = by b mode
         where
@@ -110,7 +110,7 @@ module _ {K V : Type 0} (same : K → K → Bool) (hash : K → ℕ) (caller : �
           goes : (b : Bool) → is_incremental setting.mode ≡ b → (next : Copier) → CopiesIn w c blocks b next → ReserveFacts same hash w caller setting c blocks (standing p (at.Copies next))
           goes b mode next f = record { setting_is = setting_is; idle = λ rests. absurd (rests tt); point = subst (λ (x : Bool). CopiesIn w c blocks x next) (sym mode) f }
 
-          by : (b : Bool) → is_incremental setting.mode ≡ b → (end : Copier × Outcome (Node K V) Table) → ToldIn w c blocks b end
+          by : (b : Bool) → is_incremental setting.mode ≡ b → (end : Copier × Yielding (Node K V) Table) → ToldIn w c blocks b end
               → ReserveAfter w caller setting c blocks same hash (copied p end)
           by true mode (next, outcome.Goes) told = goes true mode next (told.1, told.0, told.2)
           by true mode (next, outcome.Waits) told = goes true mode next (told.1, told.0.1, told.2)
@@ -125,7 +125,7 @@ module _ {K V : Type 0} (same : K → K → Bool) (hash : K → ℕ) (caller : �
               counts same hash caller setting w c blocks map p setting_is (idle_in same hash w caller setting c blocks false mode told.1) root c.first told.0 (root_in false mode c.first refl)
           by false mode (next, outcome.Refused fault) told = idle_in same hash w caller setting c blocks false mode told
 
-      pub copied_told : (end : Copier × Outcome (Node K V) Table) → WholeTold w caller setting c blocks same hash end → ReserveAfter w caller setting c blocks same hash (copied p end)
+      pub copied_told : (end : Copier × Yielding (Node K V) Table) → WholeTold w caller setting c blocks same hash end → ReserveAfter w caller setting c blocks same hash (copied p end)
       copied_told end told = copied_in (is_incremental setting.mode) refl end told
 
   module _ (w : World (Node K V)) (c : Chart K) (blocks : Blocks) (map : IsMapIn same hash setting w c blocks) (p : Reserve) (setting_is : p.setting ≡ setting)
@@ -133,7 +133,7 @@ module _ {K V : Type 0} (same : K → K → Bool) (hash : K → ℕ) (caller : �
     pub may_copies : May Can Took value_at w.memory (plan_at hash p (at.Copies copier))
     may_copies = as_may (copied p) Can Took value_at w.memory (copier_plan hash copier) (may_whole w c blocks map copier none facts)
 
-    pub went_copies : (m2 : Mem (Node K V)) (end : Reserve × Outcome (Node K V) Unit) → Steps Took value_at w.memory (plan_at hash p (at.Copies copier)) m2 end
+    pub went_copies : (m2 : Mem (Node K V)) (end : Reserve × Yielding (Node K V) Unit) → Steps Took value_at w.memory (plan_at hash p (at.Copies copier)) m2 end
         → ReserveWent same hash caller setting w c blocks m2 (at.Copies copier) end
     went_copies m2 end s =
         let b = steps_back (copied p) w.memory m2 (copier_plan hash copier) end s in
@@ -143,7 +143,7 @@ module _ {K V : Type 0} (same : K → K → Bool) (hash : K → ℕ) (caller : �
         (λ w2 c2 blocks2 map2 moved same_blocks told. (
           told.0,
           told.1,
-          subst (λ (e : Reserve × Outcome (Node K V) Unit). ReserveAfter w2 caller setting c2 blocks2 same hash e) (sym b.2) (copied_told w2 c2 blocks2 map2 p setting_is b.0 told.2),
+          subst (λ (e : Reserve × Yielding (Node K V) Unit). ReserveAfter w2 caller setting c2 blocks2 same hash e) (sym b.2) (copied_told w2 c2 blocks2 map2 p setting_is b.0 told.2),
           (b.0, b.1, (p, b.2), told.2, told.3),
         ))
         (went_whole w c blocks map copier none facts m2 b.0 b.1)

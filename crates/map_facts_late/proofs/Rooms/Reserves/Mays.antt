@@ -11,8 +11,8 @@ use Rattle.map_facts.specs.Given.SeizeWorld.{World}
 use Rattle.map_facts.specs.Given.ResizeNewTable.{first_table, table_reserved, new_table_plan}
 use Rattle.map_facts.specs.Given.ResizeSum.{sum_plan}
 use Rattle.map_facts.specs.Given.ResizeDeclared.new_table.NewTable.{NewTable}
-use Rattle.map_facts.specs.Given.ResizeDeclared.outcome.Outcome.{Outcome}
-use Rattle.map_facts.specs.Given.ResizeDeclared.outcome.Outcome.TheVariants as outcome
+use Rattle.map_facts.specs.Given.ResizeDeclared.yielding.Yielding.{Yielding}
+use Rattle.map_facts.specs.Given.ResizeDeclared.yielding.Yielding.TheVariants as outcome
 use Rattle.map_facts.specs.Given.ResizeDeclared.sum.Sum.{Sum}
 use Rattle.map_facts.specs.Given.TablesTablePlaces.{at_word}
 use Rattle.map_facts.specs.Given.TablesDeclared.node.Node.{Node}
@@ -37,17 +37,17 @@ use Rattle.map_facts.proofs.Making.Sum.{may_sum}
 
 module _ {K V : Type 0} where
   -- it makes a first table, or counts the pairs, by the root that it has read
-  abbrev pub making_first : Reserve → Reserve × Outcome (Node K V) Unit
+  abbrev pub making_first : Reserve → Reserve × Yielding (Node K V) Unit
   making_first p = (standing p (at.Makes (first_table p.setting (needed p.additional 0))), outcome.Goes)
 
-  abbrev pub counting_in : Reserve → Table → Reserve × Outcome (Node K V) Unit
+  abbrev pub counting_in : Reserve → Table → Reserve × Yielding (Node K V) Unit
   counting_in p table = (counting p table, outcome.Goes)
 
   -- it makes the table behind its own, or copies into it, by the link that it has read
-  abbrev pub growing : Reserve → Table → ℕ → Reserve × Outcome (Node K V) Unit
+  abbrev pub growing : Reserve → Table → ℕ → Reserve × Yielding (Node K V) Unit
   growing p table need = (standing p (at.Grows table (table_reserved p.setting table need)), outcome.Goes)
 
-  abbrev pub copied_into : Reserve → Table → Table → Reserve × Outcome (Node K V) Unit
+  abbrev pub copied_into : Reserve → Table → Table → Reserve × Yielding (Node K V) Unit
   copied_into p table next = (copying p table next, outcome.Goes)
 
 module _ {K V : Type 0} (same : K → K → Bool) (hash : K → ℕ) (setting : Setting) (w : World (Node K V)) (c : Chart K) (blocks : Blocks)

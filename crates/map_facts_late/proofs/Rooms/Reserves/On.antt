@@ -7,8 +7,8 @@ use Rattle.map_facts.specs.Given.SeizeWorld.{World}
 use Rattle.map_facts.specs.Given.ResizeCopierStates.{copying_all}
 use Rattle.map_facts.specs.Given.ReservesReserve.{standing, counting, copying, enough, needed, refusing}
 use Rattle.map_facts.specs.Given.TablesDeclared.node.Node.{Node}
-use Rattle.map_facts.specs.Given.ResizeDeclared.outcome.Outcome.{Outcome}
-use Rattle.map_facts.specs.Given.ResizeDeclared.outcome.Outcome.TheVariants as outcome
+use Rattle.map_facts.specs.Given.ResizeDeclared.yielding.Yielding.{Yielding}
+use Rattle.map_facts.specs.Given.ResizeDeclared.yielding.Yielding.TheVariants as outcome
 use Rattle.map_facts.specs.Given.TablesDeclared.setting.Setting.{Setting}
 use Rattle.map_facts.specs.Given.TablesDeclared.table.Table.{Table}
 use Rattle.map_facts.specs.Given.ReservesDeclared.reserve.Reserve.{Reserve}
@@ -29,22 +29,22 @@ use Rattle.map_facts_late.proofs.Rooms.Reserves.WholeBegins.{whole_begins}
 
 module _ {K V : Type 0} (same : K → K → Bool) (hash : K → ℕ) (caller : ℕ) (setting : Setting) where
   -- What each step of a reservation tells: it changes no pair, and how it moves the map.
-  abbrev pub ReserveTells : World (Node K V) → Chart K → Mem (Node K V) → Reserving → Reserve × Outcome (Node K V) Unit → World (Node K V) → Chart K → Blocks → Type 0
+  abbrev pub ReserveTells : World (Node K V) → Chart K → Mem (Node K V) → Reserving → Reserve × Yielding (Node K V) Unit → World (Node K V) → Chart K → Blocks → Type 0
   ReserveTells w c m2 stage end w2 c2 blocks2 =
       SparesPairs w w2 × (c2.current ≡ c.current) × ReserveAfter w2 caller setting c2 blocks2 same hash end × ReserveMoves same hash caller setting w c m2 stage end w2 c2 blocks2
 
-  abbrev pub ReserveWent : World (Node K V) → Chart K → Blocks → Mem (Node K V) → Reserving → Reserve × Outcome (Node K V) Unit → Type 0
+  abbrev pub ReserveWent : World (Node K V) → Chart K → Blocks → Mem (Node K V) → Reserving → Reserve × Yielding (Node K V) Unit → Type 0
   ReserveWent w c blocks m2 stage end = Went same hash setting caller w c blocks m2 (ReserveTells w c m2 stage end)
 
   -- how the map moves beside the copying
-  moves_beside : (w w2 : World (Node K V)) (c c2 : Chart K) (blocks2 : Blocks) (m2 : Mem (Node K V)) (stage : Reserving) → (CopiesPairs stage → ⊥) → (end : Reserve × Outcome (Node K V) Unit)
+  moves_beside : (w w2 : World (Node K V)) (c c2 : Chart K) (blocks2 : Blocks) (m2 : Mem (Node K V)) (stage : Reserving) → (CopiesPairs stage → ⊥) → (end : Reserve × Yielding (Node K V) Unit)
       → OnlyLinks hash setting.mode c c2 × Proceeds setting end → ReserveMoves same hash caller setting w c m2 stage end w2 c2 blocks2
   moves_beside w w2 c c2 blocks2 m2 (at.Copies copier) other end moves = absurd (other tt)
   moves_beside w w2 c c2 blocks2 m2 _ other end moves = moves
 
   module _ (w : World (Node K V)) (c : Chart K) (blocks : Blocks) (map : IsMapIn same hash setting w c blocks) where
     -- a step that changed nothing, beside its copying
-    pub reserve_still : (m2 : Mem (Node K V)) → m2 ≡ w.memory → (stage : Reserving) → (CopiesPairs stage → ⊥) → (end : Reserve × Outcome (Node K V) Unit)
+    pub reserve_still : (m2 : Mem (Node K V)) → m2 ≡ w.memory → (stage : Reserving) → (CopiesPairs stage → ⊥) → (end : Reserve × Yielding (Node K V) Unit)
         → ReserveAfter w caller setting c blocks same hash end × Proceeds setting end → ReserveWent w c blocks m2 stage end
     reserve_still m2 is stage other end told = went_still same hash setting caller w c blocks map m2 is (ReserveTells w c m2 stage end)
         (spares_same w, refl, told.0, moves_beside w w c c blocks m2 stage other end (inl refl, told.1))
@@ -64,7 +64,7 @@ module _ {K V : Type 0} (same : K → K → Bool) (hash : K → ℕ) (caller : �
             × Proceeds setting (enough {T = Node K V} p table (needed p.additional count))
         compared count = by (nat_lt (2 ^ 48) (needed p.additional count)) (nat_lt table.len (needed p.additional count))
           where
-            compares : Bool → Bool → Reserve × Outcome (Node K V) Unit
+            compares : Bool → Bool → Reserve × Yielding (Node K V) Unit
             compares long short =
                 if long then refusing p Capacity else (if short then (standing p (at.Follows table (needed p.additional count)), outcome.Goes) else (standing p at.Over, outcome.Done tt))
 

@@ -7,7 +7,7 @@ use Rattle.map_facts.specs.Given.SeizeWordsPlan.{May, Steps}
 use Rattle.map_facts.specs.Given.SeizeWorld.{World}
 use Rattle.map_facts.specs.Given.ReservesReserve.{plan_at, reserve_plan}
 use Rattle.map_facts.specs.Given.TablesDeclared.node.Node.{Node}
-use Rattle.map_facts.specs.Given.ResizeDeclared.outcome.Outcome.{Outcome}
+use Rattle.map_facts.specs.Given.ResizeDeclared.yielding.Yielding.{Yielding}
 use Rattle.map_facts.specs.Given.TablesDeclared.setting.Setting.{Setting}
 use Rattle.map_facts.specs.Given.ReservesDeclared.reserve.Reserve.{Reserve}
 use Rattle.map_facts.specs.Given.ReservesDeclared.reserve.Reserving.{Reserving}
@@ -40,7 +40,7 @@ module _ {K V : Type 0} (same : K → K → Bool) (hash : K → ℕ) (caller : �
     may_at (at.Refused fault) f none = tt
 
     went_at : (stage : Reserving) → ReservingFacts same hash w caller setting c blocks stage → ((CopiesPairs stage → ⊥) → IsIdle same hash w caller setting c blocks)
-        → (IsRowOfReserve stage → ⊥) → (m2 : Mem (Node K V)) (end : Reserve × Outcome (Node K V) Unit) → Steps Took value_at w.memory (plan_at hash p stage) m2 end
+        → (IsRowOfReserve stage → ⊥) → (m2 : Mem (Node K V)) (end : Reserve × Yielding (Node K V) Unit) → Steps Took value_at w.memory (plan_at hash p stage) m2 end
         → ReserveWent same hash caller setting w c blocks m2 stage end
     went_at at.Reads f idle none m2 end s = went_reads same hash caller setting lawful initial_is w c blocks map p setting_is (idle (λ h. h)) m2 end s
     went_at (at.Makes making) f idle none m2 end s = went_makes same hash caller setting lawful initial_is w c blocks map p setting_is making f (idle (λ h. h)) m2 end s
@@ -53,14 +53,14 @@ module _ {K V : Type 0} (same : K → K → Bool) (hash : K → ℕ) (caller : �
     went_at (at.Copies copier) f idle none m2 end s = went_copies same hash caller setting lawful fits initial_is w c blocks map p setting_is copier none f m2 end s
     went_at at.Over f idle none m2 end s =
         reserve_still same hash caller setting w c blocks map m2 s.0 at.Over (λ h. h) end
-        (subst (λ (e : Reserve × Outcome (Node K V) Unit). ReserveAfter w caller setting c blocks same hash e × Proceeds setting e) (sym s.1) (idle (λ h. h), tt))
+        (subst (λ (e : Reserve × Yielding (Node K V) Unit). ReserveAfter w caller setting c blocks same hash e × Proceeds setting e) (sym s.1) (idle (λ h. h), tt))
     went_at (at.Refused fault) f idle none m2 end s =
         reserve_still same hash caller setting w c blocks map m2 s.0 (at.Refused fault) (λ h. h) end
-        (subst (λ (e : Reserve × Outcome (Node K V) Unit). ReserveAfter w caller setting c blocks same hash e × Proceeds setting e) (sym s.1) (idle (λ h. h), tt))
+        (subst (λ (e : Reserve × Yielding (Node K V) Unit). ReserveAfter w caller setting c blocks same hash e × Proceeds setting e) (sym s.1) (idle (λ h. h), tt))
 
   pub may_reserve : (p : Reserve) → ReserveFacts same hash w caller setting c blocks p → (IsRowOfReserve p.stands → ⊥) → May Can Took value_at w.memory (reserve_plan hash p)
   may_reserve p f none = may_at p f.setting_is p.stands f.point none
 
   pub went_reserve : (p : Reserve) → ReserveFacts same hash w caller setting c blocks p → (IsRowOfReserve p.stands → ⊥) → (m2 : Mem (Node K V))
-      (end : Reserve × Outcome (Node K V) Unit) → Steps Took value_at w.memory (reserve_plan hash p) m2 end → ReserveWent same hash caller setting w c blocks m2 p.stands end
+      (end : Reserve × Yielding (Node K V) Unit) → Steps Took value_at w.memory (reserve_plan hash p) m2 end → ReserveWent same hash caller setting w c blocks m2 p.stands end
   went_reserve p f none m2 end s = went_at p f.setting_is p.stands f.point f.idle none m2 end s

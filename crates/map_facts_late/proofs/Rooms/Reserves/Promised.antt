@@ -5,7 +5,7 @@ use Rattle.map_facts.specs.Given.SeizeWordsMem.{Mem}
 use Rattle.map_facts.specs.Given.SeizeWorld.{World}
 use Rattle.map_facts.specs.Given.TablesDeclared.node.Node.{Node}
 use Rattle.map_facts.specs.Given.TablesDeclared.setting.Setting.{Setting}
-use Rattle.map_facts.specs.Given.ResizeDeclared.outcome.Outcome.{Outcome}
+use Rattle.map_facts.specs.Given.ResizeDeclared.yielding.Yielding.{Yielding}
 use Rattle.map_facts.specs.Given.ReservesDeclared.reserve.Reserve.{Reserve}
 use Rattle.map_facts.specs.Given.ReservesDeclared.reserve.Reserving.{Reserving}
 use Rattle.map_facts.specs.Given.ReservesDeclared.reserve.Reserving.TheVariants as at
@@ -25,7 +25,7 @@ module _ {K : Type 0} (V : Type 0) (same : K → K → Bool) (hash : K → ℕ) 
   pub reserves_begin : ReservesBegin V same hash
   reserves_begin setting w caller c blocks idle additional = record { setting_is = refl; idle = λ other. idle; point = tt }
 
-  only_links : (caller : ℕ) (setting : Setting) (w w2 : World (Node K V)) (c c2 : Chart K) (blocks2 : Blocks) (m2 : Mem (Node K V)) (stage : Reserving) (end : Reserve × Outcome (Node K V) Unit)
+  only_links : (caller : ℕ) (setting : Setting) (w w2 : World (Node K V)) (c c2 : Chart K) (blocks2 : Blocks) (m2 : Mem (Node K V)) (stage : Reserving) (end : Reserve × Yielding (Node K V) Unit)
       → ReserveMoves same hash caller setting w c m2 stage end w2 c2 blocks2 → (CopiesPairs stage → ⊥) → OnlyLinks hash setting.mode c c2
   only_links caller setting w w2 c c2 blocks2 m2 (at.Copies copier) end moves other = absurd (other tt)
   only_links caller setting w w2 c c2 blocks2 m2 _ end moves other = moves.0

@@ -10,8 +10,8 @@ use Rattle.map_facts.proofs.Given.SeizeWordsPlans.{ends_if}
 use Rattle.map_facts.proofs.Given.SeizeWordsOneOwner.Operations.{loaded, ored, added, exchanged}
 use Rattle.map_facts.proofs.Given.SeizeRuleRows.Leaving.{steps_back}
 use Rattle.map_facts.specs.Given.SeizeWorld.{World}
-use Rattle.map_facts.specs.Given.SeizeDeclared.progress.Progress.{Progress}
-use Rattle.map_facts.specs.Given.SeizeDeclared.progress.Progress.TheVariants as progress
+use Rattle.map_facts.specs.Given.SeizeDeclared.advance.Advance.{Advance}
+use Rattle.map_facts.specs.Given.SeizeDeclared.advance.Advance.TheVariants as progress
 use Rattle.map_facts.specs.Given.SeizeDeclared.rows.settle.Settle.{Settle}
 use Rattle.map_facts.specs.Given.SeizeDeclared.rows.settle.Settled.{Settled}
 use Rattle.map_facts.specs.Given.SeizeDeclared.rows.settle.Settled.TheVariants as settled
@@ -30,8 +30,8 @@ use Rattle.map_facts.specs.Given.ResizeNewTable.{table_after, new_table_plan}
 use Rattle.map_facts.specs.Given.TablesDeclared.lengths.Reason.TheVariants.{NoPlace}
 use Rattle.map_facts.specs.Given.TablesTablePlaces.{at_word, at_place}
 use Rattle.map_facts.specs.Given.TablesDeclared.node.Node.{Node}
-use Rattle.map_facts.specs.Given.ResizeDeclared.outcome.Outcome.{Outcome}
-use Rattle.map_facts.specs.Given.ResizeDeclared.outcome.Outcome.TheVariants as outcome
+use Rattle.map_facts.specs.Given.ResizeDeclared.yielding.Yielding.{Yielding}
+use Rattle.map_facts.specs.Given.ResizeDeclared.yielding.Yielding.TheVariants as outcome
 use Rattle.map_facts.specs.Given.TablesDeclared.setting.Setting.{Setting}
 use Rattle.map_facts.specs.Given.TablesDeclared.marks.TheConstants.{COPYING}
 use Rattle.map_facts.specs.Given.TablesDeclared.probe.Probe.{Probe}
@@ -55,7 +55,7 @@ use Rattle.map_facts_late.specs.ToldReserves.{EndsAtRoot}
 module _ {K V : Type 0} (same : K → K → Bool) (hash : K → ℕ) (caller : ℕ) (setting : Setting) (w w2 : World (Node K V)) (c c2 : Chart K) (blocks blocks2 : Blocks)
     (map : IsMapIn same hash setting w c blocks) (lasts : (table : Table) (t : ℕ) → IsTable c blocks table t → IsTable c2 blocks2 table t) (first : c.first ≤ c2.first) where
   -- where a step has come to
-  abbrev pub ComesToRoot : Copier × Outcome (Node K V) Table → Type 0
+  abbrev pub ComesToRoot : Copier × Yielding (Node K V) Table → Type 0
   ComesToRoot end = EndsAtRoot w2 caller setting c2 blocks2 same hash end
 
   abbrev Goes : Copier → Type 0
@@ -100,7 +100,7 @@ module _ {K V : Type 0} (same : K → K → Bool) (hash : K → ℕ) (caller : �
         by (inl l) = absurd (map.map.rule.common.pending (suc t) l is_promoted)
         by (inr l) = omega (arith, l, first)
 
-    module _ (m2 : Mem (Node K V)) (end : Copier × Outcome (Node K V) Table) where
+    module _ (m2 : Mem (Node K V)) (end : Copier × Yielding (Node K V) Table) where
       -- it waits where it stands
       waits_at : (stands : Point) → p.stands ≡ stands → IsEnding same hash w2 caller setting c2 blocks2 p stands → ComesToRoot (p, outcome.Waits)
       waits_at stands here ending = subst (λ (x : Point). IsEnding same hash w2 caller setting c2 blocks2 p x) (sym here) ending
@@ -113,7 +113,7 @@ module _ {K V : Type 0} (same : K → K → Bool) (hash : K → ℕ) (caller : �
             | inr h ↦ always_ends ComesToRoot (value_at w.memory) (others d.0) end (so_others d.0) h.1
           ]
         where
-          others : ℕ → Then (Node K V) (Copier × Outcome (Node K V) Table)
+          others : ℕ → Then (Node K V) (Copier × Yielding (Node K V) Table)
           others status =
               if status == ABORTED then Now (record p { spent = false; stands = at.Replaces }, outcome.Goes) else
               (if p.spent then Now (p, outcome.Waits) else Now (standing p at.Sees, outcome.Goes))
@@ -160,7 +160,7 @@ module _ {K V : Type 0} (same : K → K → Bool) (hash : K → ℕ) (caller : �
       at_grows : (word code : ℕ) (making : NewTable) → Steps Took value_at w.memory (plan_at hash p (at.Grows word code making)) m2 end → ComesToRoot end
       at_grows word code making s = let b = steps_back (grown p word code) w.memory m2 (new_table_plan making) end s in subst ComesToRoot (sym b.2) (by b.0)
         where
-          by : (e : NewTable × Progress Table) → ComesToRoot (grown p word code e)
+          by : (e : NewTable × Advance Table) → ComesToRoot (grown p word code e)
           by (next, progress.Goes) = tt
           by (next, progress.Waits) = tt
           by (next, progress.Done table) = tt

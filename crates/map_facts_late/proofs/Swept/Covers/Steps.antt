@@ -10,8 +10,8 @@ use Rattle.map_facts.specs.Given.TablesDeclared.setting.Setting.{Setting}
 use Rattle.map_facts.specs.Given.TablesDeclared.table.Table.{Table}
 use Rattle.map_facts.specs.Given.ResizeDeclared.copier.Copier.{Copier}
 use Rattle.map_facts.specs.Given.ResizeDeclared.dispose.Dispose.{Dispose}
-use Rattle.map_facts.specs.Given.ResizeDeclared.outcome.Outcome.{Outcome}
-use Rattle.map_facts.specs.Given.ResizeDeclared.outcome.Outcome.TheVariants as outcome
+use Rattle.map_facts.specs.Given.ResizeDeclared.yielding.Yielding.{Yielding}
+use Rattle.map_facts.specs.Given.ResizeDeclared.yielding.Yielding.TheVariants as outcome
 use Rattle.map_facts.specs.Given.SweepsSweep.{copied, disposed}
 use Rattle.map_facts.specs.Given.SweepsSweepPoints.{removes, tableless, beginning, entering, further, seen}
 use Rattle.map_facts.specs.Given.ReservesDeclared.sweep.Sweep.{Sweep}
@@ -144,7 +144,7 @@ module _ {K V : Type 0} (same : K → K → Bool) (hash : K → ℕ) (are : AreL
     stays : CoversAt hash c blocks p entered done p.stands → CoversAt hash c2 blocks2 p entered done p.stands
     stays h = kept_moved same hash are.lawful setting w caller c blocks began p map moments entered done c2 blocks2 moved same_blocks.pairs f h
 
-    copies_lead : (b : Copier × Outcome (Node K V) Table) (copier : Copier) → EndsWith same hash caller setting began w2 c2 blocks2 b → Leads (at.Copies copier) (copied p b)
+    copies_lead : (b : Copier × Yielding (Node K V) Table) (copier : Copier) → EndsWith same hash caller setting began w2 c2 blocks2 b → Leads (at.Copies copier) (copied p b)
     copies_lead (next, outcome.Goes) copier ends = (began, [], omega arith, refl, tt)
     copies_lead (next, outcome.Waits) copier ends = (began, [], omega arith, refl, tt)
     copies_lead (next, outcome.Gave value) copier ends = (began, [], omega arith, refl, tt)

@@ -13,8 +13,8 @@ use Rattle.map_facts.specs.Given.TablesDeclared.setting.Setting.{Setting}
 use Rattle.map_facts.specs.Given.TablesDeclared.table.Table.{Table}
 use Rattle.map_facts.specs.Given.ResizeCopier.{copier_plan}
 use Rattle.map_facts.specs.Given.ResizeDeclared.copier.Copier.{Copier}
-use Rattle.map_facts.specs.Given.ResizeDeclared.outcome.Outcome.{Outcome}
-use Rattle.map_facts.specs.Given.ResizeDeclared.outcome.Outcome.TheVariants as outcome
+use Rattle.map_facts.specs.Given.ResizeDeclared.yielding.Yielding.{Yielding}
+use Rattle.map_facts.specs.Given.ResizeDeclared.yielding.Yielding.TheVariants as outcome
 use Rattle.map_facts.specs.Given.SweepsSweep.{copied, plan_at}
 use Rattle.map_facts.specs.Given.SweepsSweepPoints.{entering, telling, standing}
 use Rattle.map_facts.specs.Given.ReservesDeclared.sweep.Sweep.{Sweep}
@@ -48,7 +48,7 @@ use Rattle.map_facts_late.proofs.Swept.Sweeps.Moved.{EndsWith, SweepTells, Sweep
 
 module _ {K V : Type 0} (same : K → K → Bool) (hash : K → ℕ) (caller : ℕ) (setting : Setting) (began : ℕ) (p : Sweep) (setting_is : p.setting ≡ setting) where
   -- where it leads
-  abbrev pub Leads : World (Node K V) → Chart K → Blocks → Copier × Outcome (Node K V) Table → Type 0
+  abbrev pub Leads : World (Node K V) → Chart K → Blocks → Copier × Yielding (Node K V) Table → Type 0
   Leads w c blocks b = After same hash caller setting began w c blocks (copied p b) × EndsWith same hash caller setting began w c blocks b
 
   module _ (w : World (Node K V)) (c : Chart K) (blocks : Blocks) (map : IsMapIn same hash setting w c blocks) where
@@ -62,7 +62,7 @@ module _ {K V : Type 0} (same : K → K → Bool) (hash : K → ℕ) (caller : �
         telling_after same hash caller setting began w c blocks (entering p table) (enters same hash caller setting began w c blocks map p setting_is idle table t entered root)
 
     -- from the root's table, or from one that was it in incremental mode
-    abbrev ToldIn : Bool → Copier × Outcome (Node K V) Table → Type 0
+    abbrev ToldIn : Bool → Copier × Yielding (Node K V) Table → Type 0
     ToldIn b end =
         cond b (CopierTold w caller setting c blocks same hash end × (end.0.whole ≡ true) × EndsAtRoot w caller setting c blocks same hash end)
         (CopierToldBlocking w caller setting c blocks same hash end)
@@ -77,7 +77,7 @@ module _ {K V : Type 0} (same : K → K → Bool) (hash : K → ℕ) (caller : �
     root_of : (b : Bool) → is_incremental setting.mode ≡ b → (t : ℕ) → WasRootIn same hash c began t b → WasRoot same hash w caller setting c blocks began t
     root_of b mode t h = subst (WasRootIn same hash c began t) (sym mode) h
 
-    pub whole_leads_in : (b : Bool) → is_incremental setting.mode ≡ b → (end : Copier × Outcome (Node K V) Table) → ToldIn b end → Leads w c blocks end
+    pub whole_leads_in : (b : Bool) → is_incremental setting.mode ≡ b → (end : Copier × Yielding (Node K V) Table) → ToldIn b end → Leads w c blocks end
     whole_leads_in true mode (next, outcome.Goes) told = (on next (whole_of true mode next (told.1, told.0, told.2)), tt)
     whole_leads_in true mode (next, outcome.Waits) told = (on next (whole_of true mode next (told.1, told.0.1, told.2)), tt)
     whole_leads_in true mode (next, outcome.Gave value) told = absurd told.0
@@ -102,7 +102,7 @@ module _ {K V : Type 0} (same : K → K → Bool) (hash : K → ℕ) (caller : �
       late_on next (inl fresh) = inl (whole_blocking same hash caller setting blocking w c blocks next fresh)
       late_on next (inr late) = inr (blocking, late)
 
-      late_leads : (end : Copier × Outcome (Node K V) Table) → LateCopierAfter same hash caller setting began w c blocks end → Leads w c blocks end
+      late_leads : (end : Copier × Yielding (Node K V) Table) → LateCopierAfter same hash caller setting began w c blocks end → Leads w c blocks end
       late_leads (next, outcome.Goes) told = (on next (late_on next told), tt)
       late_leads (next, outcome.Waits) told = (on next (inr (blocking, told)), tt)
       late_leads (next, outcome.Gave value) told = absurd told
@@ -124,7 +124,7 @@ module _ {K V : Type 0} (same : K → K → Bool) (hash : K → ℕ) (caller : �
     pub may_copies : CopiesTable same hash w caller setting c blocks began copier → May Can Took value_at w.memory (plan_at hash p (at.Copies copier))
     may_copies facts = as_may (copied p) Can Took value_at w.memory (copier_plan hash copier) (may_inner facts)
 
-    module _ (m2 : Mem (Node K V)) (end : Sweep × Swept (Node K V)) (b : Copier × Outcome (Node K V) Table) (end_is : end ≡ copied p b) where
+    module _ (m2 : Mem (Node K V)) (end : Sweep × Swept (Node K V)) (b : Copier × Yielding (Node K V) Table) (end_is : end ≡ copied p b) where
       tells : (w2 : World (Node K V)) (c2 : Chart K) (blocks2 : Blocks) → c2.current ≡ c.current → Leads w2 c2 blocks2 b
           → SweepTells same hash caller setting began w c blocks p (at.Copies copier) end w2 c2 blocks2
       tells w2 c2 blocks2 current leads = (subst (After same hash caller setting began w2 c2 blocks2) (sym end_is) leads.0, (current, b, end_is, leads.1))

@@ -10,8 +10,8 @@ use Rattle.map_facts.specs.Given.ResizeCopierStates.{copying_all}
 use Rattle.map_facts.specs.Given.ResizeDispose.{disposing}
 use Rattle.map_facts.specs.Given.ResizeDeclared.copier.Copier.{Copier}
 use Rattle.map_facts.specs.Given.ResizeDeclared.dispose.Dispose.{Dispose}
-use Rattle.map_facts.specs.Given.ResizeDeclared.outcome.Outcome.{Outcome}
-use Rattle.map_facts.specs.Given.ResizeDeclared.outcome.Outcome.TheVariants as outcome
+use Rattle.map_facts.specs.Given.ResizeDeclared.yielding.Yielding.{Yielding}
+use Rattle.map_facts.specs.Given.ResizeDeclared.yielding.Yielding.TheVariants as outcome
 use Rattle.map_facts.specs.Given.SweepsSweep.{copied, disposed}
 use Rattle.map_facts.specs.Given.SweepsSweepPoints.{tableless, entering, beginning, told, telling, going, seen}
 use Rattle.map_facts.specs.Given.ReservesDeclared.sweep.Sweep.{Sweep}
@@ -29,7 +29,7 @@ use Rattle.map_facts_late.specs.ToldSweeps.{NamesThere, SweepAfter}
 
 module _ {K V : Type 0} (same : K → K → Bool) (hash : K → ℕ) (caller : ℕ) (setting : Setting) (began : ℕ) where
   -- where its copier has ended, the table was the root's
-  abbrev pub EndsWith : World (Node K V) → Chart K → Blocks → Copier × Outcome (Node K V) Table → Type 0
+  abbrev pub EndsWith : World (Node K V) → Chart K → Blocks → Copier × Yielding (Node K V) Table → Type 0
   EndsWith w2 c2 blocks2 (copier, outcome.Done table) = (t : ℕ) × IsTable c2 blocks2 table t × WasRoot same hash w2 caller setting c2 blocks2 began t
   EndsWith w2 c2 blocks2 _ = Unit {0}
 
@@ -54,7 +54,7 @@ module _ {K V : Type 0} (same : K → K → Bool) (hash : K → ℕ) (caller : �
       × (t : ℕ) × IsTable c blocks p.table t
       × (((c.past ≤ suc t) × (end ≡ telling (beginning p))) ⊎ ((next : Table) × (end ≡ going p (at.Copies (copying_all p.setting p.table next)))))
   SweepMoves (at.Copies copier) end w2 c2 blocks2 =
-      (c2.current ≡ c.current) × (b : Copier × Outcome (Node K V) Table) × (end ≡ copied p b) × EndsWith same hash caller setting began w2 c2 blocks2 b
+      (c2.current ≡ c.current) × (b : Copier × Yielding (Node K V) Table) × (end ≡ copied p b) × EndsWith same hash caller setting began w2 c2 blocks2 b
   SweepMoves at.Words end w2 c2 blocks2 = (c2 ≡ c) × (blocks2 ≡ blocks) × Sees end
   SweepMoves (at.Tries word) end w2 c2 blocks2 = (blocks2 ≡ blocks) × (((c2 ≡ c) × Sees end) ⊎ Removing word end c2)
   SweepMoves (at.Counts removed) end w2 c2 blocks2 = (c2 ≡ c) × (end ≡ going p (at.Disposes (disposing p.setting removed p.table)))

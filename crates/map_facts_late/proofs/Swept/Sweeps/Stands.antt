@@ -15,8 +15,8 @@ use Rattle.map_facts.specs.Given.ResizeCopierStates.{resting, copying_all}
 use Rattle.map_facts.specs.Given.ResizeDeclared.copier.Copier.{Copier}
 use Rattle.map_facts.specs.Given.ResizeDeclared.copier.Copying.TheVariants as copies
 use Rattle.map_facts.specs.Given.ResizeDeclared.dispose.Dispose.{Dispose}
-use Rattle.map_facts.specs.Given.ResizeDeclared.outcome.Outcome.{Outcome}
-use Rattle.map_facts.specs.Given.ResizeDeclared.outcome.Outcome.TheVariants as outcome
+use Rattle.map_facts.specs.Given.ResizeDeclared.yielding.Yielding.{Yielding}
+use Rattle.map_facts.specs.Given.ResizeDeclared.yielding.Yielding.TheVariants as outcome
 use Rattle.map_facts.specs.Given.SweepsSweep.{copied, disposed}
 use Rattle.map_facts.specs.Given.SweepsSweepPoints.{removes, standing, tableless, beginning, entering, further, told, telling, at_pair, seen}
 use Rattle.map_facts.specs.Given.ReservesDeclared.sweep.Purpose.{Purpose}
@@ -119,7 +119,7 @@ module _ {K V : Type 0} (p : Sweep) where
       by false true = telling_then (further p) (quiet_further p) refl
       by false false = pair_then p.purpose refl reads word
 
-  copied_then : CopiesPairs p.stands → (b : Copier × Outcome (Node K V) Table) → Then (copied p b)
+  copied_then : CopiesPairs p.stands → (b : Copier × Yielding (Node K V) Table) → Then (copied p b)
   copied_then copying (next, outcome.Goes) = record { purpose = refl; tells = tt; tries = λ retains word e. cc e; begins = λ none. absurd (none copying) }
   copied_then copying (next, outcome.Waits) = record { purpose = refl; tells = tt; tries = λ retains word e. cc e; begins = λ none. absurd (none copying) }
   copied_then copying (next, outcome.Gave value) = record { purpose = refl; tells = tt; tries = λ retains word e. cc e; begins = λ none. absurd (none copying) }

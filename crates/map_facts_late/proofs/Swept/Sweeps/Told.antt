@@ -14,8 +14,8 @@ use Rattle.map_facts.specs.Given.TablesDeclared.setting.Setting.{Setting}
 use Rattle.map_facts.specs.Given.TablesDeclared.table.Table.{Table}
 use Rattle.map_facts.specs.Given.ResizeDeclared.copier.Copier.{Copier}
 use Rattle.map_facts.specs.Given.ResizeDeclared.dispose.Dispose.{Dispose}
-use Rattle.map_facts.specs.Given.ResizeDeclared.outcome.Outcome.{Outcome}
-use Rattle.map_facts.specs.Given.ResizeDeclared.outcome.Outcome.TheVariants as outcome
+use Rattle.map_facts.specs.Given.ResizeDeclared.yielding.Yielding.{Yielding}
+use Rattle.map_facts.specs.Given.ResizeDeclared.yielding.Yielding.TheVariants as outcome
 use Rattle.map_facts.specs.Given.SweepsSweep.{copied, disposed}
 use Rattle.map_facts.specs.Given.SweepsSweepPoints.{removes, tableless, beginning, entering, further, told, telling, at_pair, seen}
 use Rattle.map_facts.specs.Given.ReservesDeclared.sweep.Purpose.{Purpose}
@@ -120,7 +120,7 @@ module _ {K V : Type 0} (same : K → K → Bool) (hash : K → ℕ) (caller : �
     disposing_quiet (next, settled.Gave value) is word e = absurd (let f = end_of _ is in cc (f, e))
     disposing_quiet (next, settled.Done) is word e = quiet_tells (Node K V) (further p).stands (quiet_further p) word (ap word_told (sym (end_of _ is)) ∙ e)
 
-    copying_quiet : (b : Copier × Outcome (Node K V) Table) → Led ≡ copied p b → (word : ℕ) → word_told end ≡ Some word → ⊥
+    copying_quiet : (b : Copier × Yielding (Node K V) Table) → Led ≡ copied p b → (word : ℕ) → word_told end ≡ Some word → ⊥
     copying_quiet (next, outcome.Goes) is word e = absurd (let f = end_of _ is in cc (f, e))
     copying_quiet (next, outcome.Waits) is word e = absurd (let f = end_of _ is in cc (f, e))
     copying_quiet (next, outcome.Gave value) is word e = absurd (let f = end_of _ is in cc (f, e))

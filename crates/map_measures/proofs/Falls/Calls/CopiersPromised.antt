@@ -5,8 +5,8 @@ use Rattle.map_tables.specs.Chunks.{is_incremental}
 use Rattle.map_tables.specs.declared.node.Node.{Node}
 use Rattle.map_tables.specs.declared.setting.Setting.{Setting}
 use Rattle.map_tables.specs.declared.table.Table.{Table}
-use Rattle.map_machines.specs.declared.outcome.Outcome.{Outcome}
-use Rattle.map_machines.specs.declared.outcome.Outcome.TheVariants as outcome
+use Rattle.map_machines.specs.declared.yielding.Yielding.{Yielding}
+use Rattle.map_machines.specs.declared.yielding.Yielding.TheVariants as outcome
 use Rattle.map_machines.specs.declared.copier.Copier.{Copier}
 use Rattle.map_machines.specs.declared.copier.Copying.{Copying}
 use Rattle.many_calls.specs.Given.PointsMeasures.{IsBelow}
@@ -33,7 +33,7 @@ room_below past past2 before after stands q (inl h) = inl (fewer past past2 (pla
 room_below past past2 before after stands q (inr h) =
     at_most _ _ (no_more past past2 (planned_in_copying stands) (planned_in_copying q.stands) (let same = h.0 in omega (arith, same)) h.1) h.2
 
-further_below : {K : Type 0} (V : Type 0) (past past2 : ℕ) (before : Copying → List ℕ) (after : Copier → List ℕ) (p : Copier) (end : Copier × Outcome (Node K V) Table) → GoesFurther end.1
+further_below : {K : Type 0} (V : Type 0) (past past2 : ℕ) (before : Copying → List ℕ) (after : Copier → List ℕ) (p : Copier) (end : Copier × Yielding (Node K V) Table) → GoesFurther end.1
     → CopierOn past past2 before after p p.stands end
     → IsBelow (tables_to_come past2 (planned_in_copying end.0.stands) ∷ after end.0) (tables_to_come past (planned_in_copying p.stands) ∷ before p.stands)
 further_below V past past2 before after p (q, outcome.Goes) goes falls = room_below past past2 before after p.stands q falls

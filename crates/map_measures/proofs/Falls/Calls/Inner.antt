@@ -3,8 +3,8 @@ use Rattle.std.specs.Prelude.{List, ◌∷◌, if◌then◌else◌, Option, Some
 use Rattle.std.proofs.Common.{◌≡◌, ℕ, suc, ◌-◌, ◌<◌, ◌≤◌, Bool, true, false, ◌⊎◌, inl, inr, refl, ap, sym, subst, ◌∙◌, arith}
 use Rattle.seize_words.specs.declared.at.At.{At}
 use Rattle.seize_words.specs.OneMemory.Mem.{Mem}
-use Rattle.seize.specs.declared.progress.Progress.{Progress}
-use Rattle.seize.specs.declared.progress.Progress.TheVariants as progress
+use Rattle.seize.specs.declared.advance.Advance.{Advance}
+use Rattle.seize.specs.declared.advance.Advance.TheVariants as progress
 use Rattle.seize.specs.declared.rows.settle.Settled.{Settled}
 use Rattle.seize.specs.declared.rows.settle.Settled.TheVariants as settled
 use Rattle.map_tables.specs.Chunks.{is_incremental}
@@ -21,8 +21,8 @@ use Rattle.many_calls.specs.Given.RawDeclared.machines.answer.Called.{Called}
 use Rattle.many_calls.specs.Given.RawDeclared.machines.call.KeyCall.{KeyCall}
 use Rattle.many_calls.specs.Given.RawDeclared.machines.call.Calling.TheVariants as at
 use Rattle.map_machines.specs.CopierStates.{helping, copying_all}
-use Rattle.map_machines.specs.declared.outcome.Outcome.{Outcome}
-use Rattle.map_machines.specs.declared.outcome.Outcome.TheVariants as outcome
+use Rattle.map_machines.specs.declared.yielding.Yielding.{Yielding}
+use Rattle.map_machines.specs.declared.yielding.Yielding.TheVariants as outcome
 use Rattle.map_machines.specs.declared.copier.Copier.{Copier}
 use Rattle.map_machines.specs.declared.copier.Copying.{Copying as Point}
 use Rattle.map_machines.specs.declared.copier.Copying.TheVariants as copies
@@ -135,7 +135,7 @@ module _ {K V Q : Type 0} (hash : K → ℕ) (c c2 : Chart K) (blocks blocks2 : 
           (1 ∷ 0 ∷ 0 ∷ number_of_copier_blocking c2 blocks2 (copying_all p.setting p.trial.table table)) h.1 (ap (λ (x : Table). x.turn) h.0)
 
   -- a lookup
-  pub looked_below : (l : Lookup) (end : Lookup × Progress (Option ℕ)) → (end.1 ≡ progress.Goes → IsBelow (number_of_lookup c2 end.0) (number_of_lookup c l))
+  pub looked_below : (l : Lookup) (end : Lookup × Advance (Option ℕ)) → (end.1 ≡ progress.Goes → IsBelow (number_of_lookup c2 end.0) (number_of_lookup c l))
       → Goal (number_at hash c blocks p (at.Looks l)) (looked p end)
   looked_below l (next, progress.Goes) below goes =
       inr (refl, inr (refl, inr (refl, inr (refl, inr (refl, inr (refl, below_followed (number_of_lookup c2 next) (number_of_lookup c l) _ _ (below refl)))))))
@@ -166,7 +166,7 @@ module _ {K V Q : Type 0} (hash : K → ℕ) (c c2 : Chart K) (blocks blocks2 : 
             (inr (ap (λ x. x - goal.turn) h.0, inr (refl, inr (refl, inr (refl, h.2))))),
       )
 
-  pub helped_below : (copier : Copier) (goal : Table) (end : Copier × Outcome (Node K V) Table)
+  pub helped_below : (copier : Copier) (goal : Table) (end : Copier × Yielding (Node K V) Table)
       → CopierOn c.past c2.past (incremental_at c blocks copier) (number_of_copier c2 blocks2) copier copier.stands end
       → Goal (number_at hash c blocks p (at.Helps copier goal)) (helped p goal end)
   helped_below copier goal (next, outcome.Goes) told goes = helps_further copier next goal told
@@ -194,7 +194,7 @@ module _ {K V Q : Type 0} (hash : K → ℕ) (c c2 : Chart K) (blocks blocks2 : 
             (behind_targets (targets c2 blocks2 next) (targets c blocks copier) (number_of_copier_blocking c2 blocks2 next) (number_of_copier_blocking c blocks copier) f2.0 f.0 f2.1 f.1 h.2),
       )
 
-  pub copied_below : (copier : Copier) (end : Copier × Outcome (Node K V) Table)
+  pub copied_below : (copier : Copier) (end : Copier × Yielding (Node K V) Table)
       → CopierOn c.past c2.past (blocking_at c blocks copier) (number_of_copier_blocking c2 blocks2) copier copier.stands end
       → Goal (number_at hash c blocks p (at.Copies copier)) (copied p end)
   copied_below copier (next, outcome.Goes) told goes = copies_further copier next told
@@ -211,7 +211,7 @@ module _ {K V Q : Type 0} (hash : K → ℕ) (c c2 : Chart K) (blocks blocks2 : 
 -- the making of a table
 module _ {K V Q : Type 0} (same : K → K → Bool) (hash : K → ℕ) (setting : Setting) (m : Mem (Node K V)) (c : Chart K) (blocks : Blocks) (m2 : Mem (Node K V)) (c2 : Chart K) (blocks2 : Blocks)
     (on : Onward same hash setting m c blocks m2 c2 blocks2) (p : KeyCall K V Q) (link : At) (turn : ℕ) (making : NewTable) where
-  abbrev Made : NewTable × Progress Table → Type 0
+  abbrev Made : NewTable × Advance Table → Type 0
   Made end = MadeOn same hash setting m c blocks m2 c2 blocks2 on link turn making making.stands end
 
   -- while it goes on
@@ -234,7 +234,7 @@ module _ {K V Q : Type 0} (same : K → K → Bool) (hash : K → ℕ) (setting 
       inr (no_more c.past c2.past (planned making.stands) 0 (let past = found.0 in omega (arith, past)) (omega arith), less found)
 
   -- that of the first table
-  pub first_below : (end : NewTable × Progress Table) → Made end → (end.1 ≡ progress.Goes → IsBelow (number_of_new_table end.0) (number_of_new_table making))
+  pub first_below : (end : NewTable × Advance Table) → Made end → (end.1 ≡ progress.Goes → IsBelow (number_of_new_table end.0) (number_of_new_table making))
       → Goal hash c c2 blocks blocks2 p (number_at hash c blocks p (at.Firsts making)) (first_made p end)
   first_below (next, progress.Goes) made below goes = made_further (suc c.past) (suc c2.past) 0 next (ap suc made.0) made (below refl)
   first_below (next, progress.Waits) made below goes = absurd goes
@@ -244,7 +244,7 @@ module _ {K V Q : Type 0} (same : K → K → Bool) (hash : K → ℕ) (setting 
 
   -- that of the next table
   pub next_below : (t : ℕ) → p.trial.table.turn ≡ t → t < c.past → IsBehind link → turn ≡ suc t
-      → (end : NewTable × Progress Table) → Made end → (end.1 ≡ progress.Goes → IsBelow (number_of_new_table end.0) (number_of_new_table making))
+      → (end : NewTable × Advance Table) → Made end → (end.1 ≡ progress.Goes → IsBelow (number_of_new_table end.0) (number_of_new_table making))
       → Goal hash c c2 blocks blocks2 p (number_at hash c blocks p (at.Allocs making)) (next_made p end)
   next_below t turn_is made_t behind next_turn (next, progress.Goes) made below goes =
       made_further (c.past - p.trial.table.turn) (c2.past - p.trial.table.turn) 0 next (ap (λ x. x - p.trial.table.turn) made.0) made (below refl)

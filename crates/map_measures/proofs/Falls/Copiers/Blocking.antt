@@ -23,8 +23,8 @@ use Rattle.map_machines.specs.CopierPlaces.{probes, puts, place_read, put_told, 
 use Rattle.map_machines.specs.CopierFurther.{aborts}
 use Rattle.map_machines.specs.CopierCounts.{counts, counted}
 use Rattle.map_machines.specs.CopierPromotes.{promotes, announces, promoted, successor_read, retiring_table, also_retired}
-use Rattle.map_machines.specs.declared.outcome.Outcome.{Outcome}
-use Rattle.map_machines.specs.declared.outcome.Outcome.TheVariants.{Goes, Waits}
+use Rattle.map_machines.specs.declared.yielding.Yielding.{Yielding}
+use Rattle.map_machines.specs.declared.yielding.Yielding.TheVariants.{Goes, Waits}
 use Rattle.map_machines.specs.declared.copier.Copier.{Copier}
 use Rattle.map_machines.specs.declared.copier.Copying.{Copying as Point}
 use Rattle.map_machines.specs.declared.copier.Copying.TheVariants as at
@@ -48,13 +48,13 @@ use Rattle.map_measures.proofs.Falls.Copiers.Remakes.{on_replaces, on_remakes}
 module _ {K V : Type 0} (same : K → K → Bool) (hash : K → ℕ) (setting : Setting) (m : Mem (Node K V)) (c : Chart K) (blocks : Blocks) (m2 : Mem (Node K V)) (c2 : Chart K) (blocks2 : Blocks)
     (on : Onward same hash setting m c blocks m2 c2 blocks2) (p : Copier) where
   -- what is to be shown of a step from there
-  abbrev On : Point → Copier × Outcome (Node K V) Table → Type 0
+  abbrev On : Point → Copier × Yielding (Node K V) Table → Type 0
   On stands end = CopierOn c.past c2.past (number_at c blocks p) (number_of_copier_blocking c2 blocks2) p stands end
 
-  leads : (stands : Point) (end : Copier × Outcome (Node K V) Table) (q : Copier) → end ≡ (q, Goes) → c2.past ≡ c.past → IsLower c2 blocks2 (number_at c blocks p stands) q → On stands end
+  leads : (stands : Point) (end : Copier × Yielding (Node K V) Table) (q : Copier) → end ≡ (q, Goes) → c2.past ≡ c.past → IsLower c2 blocks2 (number_at c blocks p stands) q → On stands end
   leads stands end q is past lower = plain c.past c2.past (number_at c blocks p) (number_of_copier_blocking c2 blocks2) p stands end q is past lower
 
-  ends_as : (stands : Point) (end e : Copier × Outcome (Node K V) Table) → end ≡ e → On stands e → On stands end
+  ends_as : (stands : Point) (end e : Copier × Yielding (Node K V) Table) → end ≡ e → On stands e → On stands end
   ends_as = by_end c.past c2.past (number_at c blocks p) (number_of_copier_blocking c2 blocks2) p
 
   abbrev tables : ℕ
@@ -66,7 +66,7 @@ module _ {K V : Type 0} (same : K → K → Bool) (hash : K → ℕ) (setting : 
   same_tables : c2.past ≡ c.past → targets c2 blocks2 p ≡ tables
   same_tables past = ap (λ x. x - p.target.turn) past
 
-  module _ (end : Copier × Outcome (Node K V) Table) (t : ℕ) (target : IsTable c blocks p.target t) where
+  module _ (end : Copier × Yielding (Node K V) Table) (t : ℕ) (target : IsTable c blocks p.target t) where
     abbrev IsSame : Type 0
     IsSame = Same same hash setting m c blocks m2 c2 blocks2 on p.target t target
 
@@ -192,7 +192,7 @@ module _ {K V : Type 0} (same : K → K → Bool) (hash : K → ℕ) (setting : 
         let past = past_word same hash setting m c blocks m2 c2 blocks2 on p.target STATUS _ l.0 (is_some_of _ _ (status_there hash m c blocks setting.root on.map.shows p.target t target)) (λ e. absurd (omega (arith, e))) in
         leads at.Announces end (standing p (at.Succeeds p.source.link)) l.1 past (refl, inr (same_tables past, inl (omega arith)))
 
-  on_at : is_incremental p.setting.mode ≡ false → (end : Copier × Outcome (Node K V) Table) (stands : Point) → CopyingStandsBlocking setting m c blocks p stands → (IsRowOfCopier stands → ⊥)
+  on_at : is_incremental p.setting.mode ≡ false → (end : Copier × Yielding (Node K V) Table) (stands : Point) → CopyingStandsBlocking setting m c blocks p stands → (IsRowOfCopier stands → ⊥)
       → Steps Took value_at m (plan_at hash p stands) m2 end → On stands end
   on_at mode end at.Begins f none s = absurd f
   on_at mode end at.Follows f none s = absurd f
@@ -224,6 +224,6 @@ module _ {K V : Type 0} (same : K → K → Bool) (hash : K → ℕ) (setting : 
   on_at mode end (at.Refused fault) f none s = ends_as (at.Refused fault) end _ s.1 tt
 
   pub copied_on_blocking : is_incremental p.setting.mode ≡ false → CopyingStandsBlocking setting m c blocks p p.stands → (IsRowOfCopier p.stands → ⊥)
-      → (end : Copier × Outcome (Node K V) Table) → Steps Took value_at m (copier_plan hash p) m2 end
+      → (end : Copier × Yielding (Node K V) Table) → Steps Took value_at m (copier_plan hash p) m2 end
       → CopierOn c.past c2.past (number_at c blocks p) (number_of_copier_blocking c2 blocks2) p p.stands end
   copied_on_blocking mode stands none end s = on_at mode end p.stands stands none s

@@ -18,8 +18,8 @@ use Rattle.map_tables.specs.declared.table.Table.{Table}
 use Rattle.map_tables.specs.declared.table_words.TheConstants.{CLAIM}
 use Rattle.map_machines.specs.CopierStates.{none_left}
 use Rattle.map_machines.specs.CopierClaims.{claims, claimed, chunk, range_claimed, to}
-use Rattle.map_machines.specs.declared.outcome.Outcome.{Outcome}
-use Rattle.map_machines.specs.declared.outcome.Outcome.TheVariants.{Goes}
+use Rattle.map_machines.specs.declared.yielding.Yielding.{Yielding}
+use Rattle.map_machines.specs.declared.yielding.Yielding.TheVariants.{Goes}
 use Rattle.map_machines.specs.declared.copier.Copier.{Copier}
 use Rattle.map_machines.specs.declared.copier.Copying.{Copying as Point}
 use Rattle.map_machines.specs.declared.copier.Copying.TheVariants as at
@@ -37,10 +37,10 @@ use Rattle.map_measures.proofs.Falls.Copiers.StagesBlocking.{IsLower, none_left_
 module _ {K V : Type 0} (same : K → K → Bool) (hash : K → ℕ) (setting : Setting) (m : Mem (Node K V)) (c : Chart K) (blocks : Blocks) (m2 : Mem (Node K V)) (c2 : Chart K) (blocks2 : Blocks)
     (on : Onward same hash setting m c blocks m2 c2 blocks2) (p : Copier) where
   -- what is to be shown of a step from there
-  abbrev On : Point → Copier × Outcome (Node K V) Table → Type 0
+  abbrev On : Point → Copier × Yielding (Node K V) Table → Type 0
   On stands end = CopierOn c.past c2.past (number_at c blocks p) (number_of_copier_blocking c2 blocks2) p stands end
 
-  leads : (stands : Point) (end : Copier × Outcome (Node K V) Table) (q : Copier) → end ≡ (q, Goes) → c2.past ≡ c.past → IsLower c2 blocks2 (number_at c blocks p stands) q → On stands end
+  leads : (stands : Point) (end : Copier × Yielding (Node K V) Table) (q : Copier) → end ≡ (q, Goes) → c2.past ≡ c.past → IsLower c2 blocks2 (number_at c blocks p stands) q → On stands end
   leads stands end q is past lower = plain c.past c2.past (number_at c blocks p) (number_of_copier_blocking c2 blocks2) p stands end q is past lower
 
   abbrev tables : ℕ
@@ -49,7 +49,7 @@ module _ {K V : Type 0} (same : K → K → Bool) (hash : K → ℕ) (setting : 
   same_tables : c2.past ≡ c.past → targets c2 blocks2 p ≡ tables
   same_tables past = ap (λ x. x - p.target.turn) past
 
-  module _ (end : Copier × Outcome (Node K V) Table) (t : ℕ) (target : IsTable c blocks p.target t) where
+  module _ (end : Copier × Yielding (Node K V) Table) (t : ℕ) (target : IsTable c blocks p.target t) where
     -- a chunk is claimed
     module _ (mode : is_incremental p.setting.mode ≡ false) (u : ℕ) (source : IsTable c blocks p.source u) where
       some_chunk : (x : ResizeMode) → is_incremental x ≡ false → (0 < chunk_of x p.source.len) × (chunk_of x p.source.len ≤ 4096)

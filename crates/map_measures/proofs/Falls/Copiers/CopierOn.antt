@@ -8,8 +8,8 @@ use Rattle.map_tables.specs.declared.node.Node.{Node}
 use Rattle.map_tables.specs.declared.setting.Setting.{Setting}
 use Rattle.map_tables.specs.declared.table.Table.{Table}
 use Rattle.map_tables.specs.declared.table_words.TheConstants.{NEXT, PLACES}
-use Rattle.map_machines.specs.declared.outcome.Outcome.{Outcome}
-use Rattle.map_machines.specs.declared.outcome.Outcome.TheVariants as outcome
+use Rattle.map_machines.specs.declared.yielding.Yielding.{Yielding}
+use Rattle.map_machines.specs.declared.yielding.Yielding.TheVariants as outcome
 use Rattle.map_machines.specs.declared.copier.Copier.{Copier}
 use Rattle.map_machines.specs.declared.copier.Copying.{Copying as Point}
 use Rattle.many_calls.specs.Given.RuleChart.{Chart}
@@ -32,17 +32,17 @@ module _ (past past2 : ℕ) (before : Point → List ℕ) (after : Copier → Li
 
   module _ {K V : Type 0} (p : Copier) where
     -- where a step led from there
-    abbrev pub CopierOn : Point → Copier × Outcome (Node K V) Table → Type 0
+    abbrev pub CopierOn : Point → Copier × Yielding (Node K V) Table → Type 0
     CopierOn stands (q, outcome.Goes) = FallsTo stands q
     CopierOn stands (q, outcome.Done table) = (past2 ≡ past) × (table ≡ p.target)
     CopierOn stands (q, outcome.Waits) = Unit {0}
     CopierOn stands (q, outcome.Gave value) = FallsTo stands q
     CopierOn stands (q, outcome.Refused fault) = Unit {0}
 
-    pub by_end : (stands : Point) (end e : Copier × Outcome (Node K V) Table) → end ≡ e → CopierOn stands e → CopierOn stands end
-    by_end stands end e is = subst (λ (x : Copier × Outcome (Node K V) Table). CopierOn stands x) (sym is)
+    pub by_end : (stands : Point) (end e : Copier × Yielding (Node K V) Table) → end ≡ e → CopierOn stands e → CopierOn stands end
+    by_end stands end e is = subst (λ (x : Copier × Yielding (Node K V) Table). CopierOn stands x) (sym is)
 
-    pub plain : (stands : Point) (end : Copier × Outcome (Node K V) Table) (q : Copier) → end ≡ (q, outcome.Goes) → past2 ≡ past → Lowered (before stands) q → CopierOn stands end
+    pub plain : (stands : Point) (end : Copier × Yielding (Node K V) Table) (q : Copier) → end ≡ (q, outcome.Goes) → past2 ≡ past → Lowered (before stands) q → CopierOn stands end
     plain stands end q is same lowered = by_end stands end (q, outcome.Goes) is (inr (same, (let none = lowered.0 in omega (arith, none)), lowered.1))
 
 module _ {K V : Type 0} (same : K → K → Bool) (hash : K → ℕ) (setting : Setting) (m : Mem (Node K V)) (c : Chart K) (blocks : Blocks) (m2 : Mem (Node K V)) (c2 : Chart K) (blocks2 : Blocks)

@@ -4,8 +4,8 @@ use Rattle.std.proofs.Common.{refl}
 use Rattle.seize_words.specs.OneMemory.Mem.{Mem, value_at, Took}
 use Rattle.seize_words.specs.OneMemory.Op.{Out, Found, Stored, Exchanged, Made, Taken, Roomed}
 use Rattle.seize_words.specs.OneMemory.Plan.{Then, Steps}
-use Rattle.seize.specs.declared.progress.Progress.{Progress}
-use Rattle.seize.specs.declared.progress.Progress.TheVariants as progress
+use Rattle.seize.specs.declared.advance.Advance.{Advance}
+use Rattle.seize.specs.declared.advance.Advance.TheVariants as progress
 use Rattle.seize.specs.declared.rows.settle.Settle.{Settle}
 use Rattle.seize.specs.declared.rows.settle.Settled.{Settled}
 use Rattle.seize.specs.declared.rows.settle.Settled.TheVariants as settled
@@ -24,7 +24,7 @@ use Rattle.map_machines.specs.CopierCounts.{refusing, counted}
 use Rattle.map_machines.specs.CopierFurther.{further_read, grown}
 use Rattle.map_machines.specs.CopierPromotes.{promoted, table_retired, successor_read, retired}
 use Rattle.map_tables.specs.declared.node.Node.{Node}
-use Rattle.map_machines.specs.declared.outcome.Outcome.{Outcome}
+use Rattle.map_machines.specs.declared.yielding.Yielding.{Yielding}
 use Rattle.map_tables.specs.declared.probe.Probe.{Probe}
 use Rattle.map_tables.specs.declared.status.TheConstants.Status.{PROMOTED, ABORTED}
 use Rattle.map_tables.specs.declared.table.Table.{Table}
@@ -73,13 +73,13 @@ module _ (target : Table) where
     so_place_done = so_next_place (record p { done = (p.done + 1) % 2 ^ 64 }) is
 
   module _ {K : Type 0} (V : Type 0) (hash : K → ℕ) where
-    abbrev IsSo : Copier × Outcome (Node K V) Table → Type 0
+    abbrev IsSo : Copier × Yielding (Node K V) Table → Type 0
     IsSo end = IsOf end.0
 
-    abbrev So : Then (Node K V) (Copier × Outcome (Node K V) Table) → Type 0
+    abbrev So : Then (Node K V) (Copier × Yielding (Node K V) Table) → Type 0
     So rest = Always IsSo rest
 
-    so_if : (b : Bool) (x y : Then (Node K V) (Copier × Outcome (Node K V) Table)) → So x → So y → So (if b then x else y)
+    so_if : (b : Bool) (x y : Then (Node K V) (Copier × Yielding (Node K V) Table)) → So x → So y → So (if b then x else y)
     so_if b x y f g = always_if IsSo b x y f g
 
     -- what each operation's answer leads to
@@ -151,7 +151,7 @@ module _ (target : Table) where
         on_further (Taken value) = here
         on_further (Roomed r) = here
 
-      on_grown : (word code : ℕ) (end : NewTable × Progress Table) → IsSo (grown p word code end)
+      on_grown : (word code : ℕ) (end : NewTable × Advance Table) → IsSo (grown p word code end)
       on_grown word code (making, progress.Goes) = here
       on_grown word code (making, progress.Waits) = here
       on_grown word code (making, progress.Done table) = here
@@ -216,6 +216,6 @@ module _ (target : Table) where
       target_at (at.Refused fault) keeps = here
 
 -- whatever its step comes to
-pub target_stays : {K V : Type 0} (hash : K → ℕ) (p : Copier) (m m2 : Mem (Node K V)) (end : Copier × Outcome (Node K V) Table) → Steps Took value_at m (copier_plan hash p) m2 end
+pub target_stays : {K V : Type 0} (hash : K → ℕ) (p : Copier) (m m2 : Mem (Node K V)) (end : Copier × Yielding (Node K V) Table) → Steps Took value_at m (copier_plan hash p) m2 end
     → keeps_target p.stands ≡ true → end.0.target ≡ p.target
 target_stays {K} {V} hash p m m2 end s keeps = always_steps (IsSo p.target V hash) m m2 (copier_plan hash p) end (target_at p.target V hash p refl p.stands keeps) s

@@ -5,8 +5,8 @@ use Rattle.seize_words.specs.OneMemory.Mem.{Mem, Took, value_at}
 use Rattle.seize_words.specs.OneMemory.Plan.{Steps}
 use Rattle.seize_words.proofs.OneMemory.OneOwner.Operations.{loaded}
 use Rattle.seize_acts.proofs.Given.SeizeRuleRows.Leaving.{steps_back}
-use Rattle.seize.specs.declared.progress.Progress.{Progress}
-use Rattle.seize.specs.declared.progress.Progress.TheVariants as progress
+use Rattle.seize.specs.declared.advance.Advance.{Advance}
+use Rattle.seize.specs.declared.advance.Advance.TheVariants as progress
 use Rattle.map_tables.specs.TablePlaces.{at_word}
 use Rattle.map_tables.specs.declared.lengths.Reason.TheVariants.{NoPlace}
 use Rattle.map_tables.specs.declared.node.Node.{Node}
@@ -17,8 +17,8 @@ use Rattle.map_machines.specs.CopierStates.{standing}
 use Rattle.map_machines.specs.CopierMarks.{probing}
 use Rattle.map_machines.specs.CopierFurther.{passes, grows, grown, further_read}
 use Rattle.map_machines.specs.NewTable.{table_after, new_table_plan}
-use Rattle.map_machines.specs.declared.outcome.Outcome.{Outcome}
-use Rattle.map_machines.specs.declared.outcome.Outcome.TheVariants.{Goes}
+use Rattle.map_machines.specs.declared.yielding.Yielding.{Yielding}
+use Rattle.map_machines.specs.declared.yielding.Yielding.TheVariants.{Goes}
 use Rattle.map_machines.specs.declared.copier.Copier.{Copier}
 use Rattle.map_machines.specs.declared.copier.Copying.{Copying as Point}
 use Rattle.map_machines.specs.declared.copier.Copying.TheVariants as at
@@ -43,16 +43,16 @@ use Rattle.map_measures.proofs.Falls.Copiers.Stages.{refusing_below}
 module _ {K V : Type 0} (same : K → K → Bool) (hash : K → ℕ) (setting : Setting) (m : Mem (Node K V)) (c : Chart K) (blocks : Blocks) (m2 : Mem (Node K V)) (c2 : Chart K) (blocks2 : Blocks)
     (on : Onward same hash setting m c blocks m2 c2 blocks2) (p : Copier) where
   -- what is to be shown of a step from there
-  abbrev On : Point → Copier × Outcome (Node K V) Table → Type 0
+  abbrev On : Point → Copier × Yielding (Node K V) Table → Type 0
   On stands end = CopierOn c.past c2.past (number_at c blocks p) (number_of_copier c2 blocks2) p stands end
 
-  ends_as : (stands : Point) (end e : Copier × Outcome (Node K V) Table) → end ≡ e → On stands e → On stands end
+  ends_as : (stands : Point) (end e : Copier × Yielding (Node K V) Table) → end ≡ e → On stands e → On stands end
   ends_as = by_end c.past c2.past (number_at c blocks p) (number_of_copier c2 blocks2) p
 
   still : m2 ≡ m → c2.past ≡ c.past
   still = past_still same hash setting m c blocks m2 c2 blocks2 on
 
-  module _ (end : Copier × Outcome (Node K V) Table) where
+  module _ (end : Copier × Yielding (Node K V) Table) where
     -- a table is left
     pub on_passes : (word code : ℕ) (table : Table) (t : ℕ) → IsTable c blocks table t → Steps Took value_at m (passes p word code table) m2 end → On (at.Passes word code table) end
     on_passes word code table t entered s =
@@ -85,10 +85,10 @@ module _ {K V : Type 0} (same : K → K → Bool) (hash : K → ℕ) (setting : 
 
     -- a table is made
     module _ (word code : ℕ) (making : NewTable) (t : ℕ) (stands : NewTableStands setting m c blocks (Word (blocks.table t) NEXT) (suc t) making) where
-      abbrev Made : NewTable × Progress Table → Type 0
+      abbrev Made : NewTable × Advance Table → Type 0
       Made inner = MadeOn same hash setting m c blocks m2 c2 blocks2 on (Word (blocks.table t) NEXT) (suc t) making making.stands inner
 
-      on_grown : (inner : NewTable × Progress Table) → Made inner → (inner.1 ≡ progress.Goes → IsBelow (number_of_new_table inner.0) (number_of_new_table making))
+      on_grown : (inner : NewTable × Advance Table) → Made inner → (inner.1 ≡ progress.Goes → IsBelow (number_of_new_table inner.0) (number_of_new_table making))
           → On (at.Grows word code making) (grown p word code inner)
       on_grown (next, progress.Goes) made lower =
           inr (

@@ -24,8 +24,8 @@ use Rattle.map_machines.specs.CopierMarks.{marks, covers, marked as place_marked
 use Rattle.map_machines.specs.CopierPlaces.{probes, puts, place_read, put_told, copied_word, next_try, pair_put}
 use Rattle.map_machines.specs.CopierCounts.{counts, tallies, unmarks, unclaims, counted, given_up}
 use Rattle.map_machines.specs.CopierPromotes.{promotes, announces, promoted, successor_read, retiring_table, also_retired}
-use Rattle.map_machines.specs.declared.outcome.Outcome.{Outcome}
-use Rattle.map_machines.specs.declared.outcome.Outcome.TheVariants.{Goes, Waits}
+use Rattle.map_machines.specs.declared.yielding.Yielding.{Yielding}
+use Rattle.map_machines.specs.declared.yielding.Yielding.TheVariants.{Goes, Waits}
 use Rattle.map_machines.specs.declared.copier.Copier.{Copier}
 use Rattle.map_machines.specs.declared.copier.Copying.{Copying as Point}
 use Rattle.map_machines.specs.declared.copier.Copying.TheVariants as at
@@ -47,13 +47,13 @@ use Rattle.map_measures.proofs.Falls.Copiers.Further.{on_passes, on_grows}
 module _ {K V : Type 0} (same : K → K → Bool) (hash : K → ℕ) (setting : Setting) (m : Mem (Node K V)) (c : Chart K) (blocks : Blocks) (m2 : Mem (Node K V)) (c2 : Chart K) (blocks2 : Blocks)
     (on : Onward same hash setting m c blocks m2 c2 blocks2) (p : Copier) where
   -- what is to be shown of a step from there
-  abbrev On : Point → Copier × Outcome (Node K V) Table → Type 0
+  abbrev On : Point → Copier × Yielding (Node K V) Table → Type 0
   On stands end = CopierOn c.past c2.past (number_at c blocks p) (number_of_copier c2 blocks2) p stands end
 
-  leads : (stands : Point) (end : Copier × Outcome (Node K V) Table) (q : Copier) → end ≡ (q, Goes) → c2.past ≡ c.past → IsLower c2 blocks2 (number_at c blocks p stands) q → On stands end
+  leads : (stands : Point) (end : Copier × Yielding (Node K V) Table) (q : Copier) → end ≡ (q, Goes) → c2.past ≡ c.past → IsLower c2 blocks2 (number_at c blocks p stands) q → On stands end
   leads stands end q is past lower = plain c.past c2.past (number_at c blocks p) (number_of_copier c2 blocks2) p stands end q is past lower
 
-  ends_as : (stands : Point) (end e : Copier × Outcome (Node K V) Table) → end ≡ e → On stands e → On stands end
+  ends_as : (stands : Point) (end e : Copier × Yielding (Node K V) Table) → end ≡ e → On stands e → On stands end
   ends_as = by_end c.past c2.past (number_at c blocks p) (number_of_copier c2 blocks2) p
 
   still : m2 ≡ m → c2.past ≡ c.past
@@ -62,7 +62,7 @@ module _ {K V : Type 0} (same : K → K → Bool) (hash : K → ℕ) (setting : 
   low_place : AtPlace setting m c blocks p → p.place < 2 ^ 48
   low_place here = let inside = here.2 in let most = (on.map.shows.sized here.0 here.1.made).most in omega (arith, inside, most)
 
-  module _ (end : Copier × Outcome (Node K V) Table) where
+  module _ (end : Copier × Yielding (Node K V) Table) where
     on_begins : Steps Took value_at m (begins p) m2 end → On at.Begins end
     on_begins s =
         let l = loaded m (root_read p) (Root p.setting.root) m2 end s in
@@ -247,6 +247,6 @@ module _ {K V : Type 0} (same : K → K → Bool) (hash : K → ℕ) (setting : 
     on_at mode (at.Refused fault) f none s = ends_as (at.Refused fault) end _ s.1 tt
 
   pub copied_on : is_incremental p.setting.mode ≡ true → CopyingStands setting m c blocks p p.stands → (IsRowOfCopier p.stands → ⊥)
-      → (end : Copier × Outcome (Node K V) Table) → Steps Took value_at m (copier_plan hash p) m2 end
+      → (end : Copier × Yielding (Node K V) Table) → Steps Took value_at m (copier_plan hash p) m2 end
       → CopierOn c.past c2.past (number_at c blocks p) (number_of_copier c2 blocks2) p p.stands end
   copied_on mode stands none end s = on_at end mode p.stands stands none s

@@ -5,8 +5,8 @@ use Rattle.seize_words.specs.OneMemory.Mem.{Mem, Took, value_at}
 use Rattle.seize_words.specs.OneMemory.Plan.{Steps}
 use Rattle.seize_words.proofs.OneMemory.OneOwner.Operations.{loaded}
 use Rattle.seize_acts.proofs.Given.SeizeRuleRows.Leaving.{steps_back}
-use Rattle.seize.specs.declared.progress.Progress.{Progress}
-use Rattle.seize.specs.declared.progress.Progress.TheVariants as progress
+use Rattle.seize.specs.declared.advance.Advance.{Advance}
+use Rattle.seize.specs.declared.advance.Advance.TheVariants as progress
 use Rattle.map_tables.specs.TablePlaces.{at_word}
 use Rattle.map_tables.specs.declared.lengths.Reason.TheVariants.{NoPlace}
 use Rattle.map_tables.specs.declared.node.Node.{Node}
@@ -16,8 +16,8 @@ use Rattle.map_tables.specs.declared.table_words.TheConstants.{NEXT}
 use Rattle.map_machines.specs.CopierStates.{standing}
 use Rattle.map_machines.specs.CopierFurther.{replaces, remakes, remade, replacement_read, anew}
 use Rattle.map_machines.specs.NewTable.{table_after, new_table_plan}
-use Rattle.map_machines.specs.declared.outcome.Outcome.{Outcome}
-use Rattle.map_machines.specs.declared.outcome.Outcome.TheVariants.{Goes}
+use Rattle.map_machines.specs.declared.yielding.Yielding.{Yielding}
+use Rattle.map_machines.specs.declared.yielding.Yielding.TheVariants.{Goes}
 use Rattle.map_machines.specs.declared.copier.Copier.{Copier}
 use Rattle.map_machines.specs.declared.copier.Copying.{Copying as Point}
 use Rattle.map_machines.specs.declared.copier.Copying.TheVariants as at
@@ -40,10 +40,10 @@ use Rattle.map_measures.proofs.Falls.Copiers.CopierOn.{CopierOn, by_end, past_st
 module _ {K V : Type 0} (same : K → K → Bool) (hash : K → ℕ) (setting : Setting) (m : Mem (Node K V)) (c : Chart K) (blocks : Blocks) (m2 : Mem (Node K V)) (c2 : Chart K) (blocks2 : Blocks)
     (on : Onward same hash setting m c blocks m2 c2 blocks2) (p : Copier) where
   -- what is to be shown of a step from there
-  abbrev On : Point → Copier × Outcome (Node K V) Table → Type 0
+  abbrev On : Point → Copier × Yielding (Node K V) Table → Type 0
   On stands end = CopierOn c.past c2.past (number_at c blocks p) (number_of_copier_blocking c2 blocks2) p stands end
 
-  ends_as : (stands : Point) (end e : Copier × Outcome (Node K V) Table) → end ≡ e → On stands e → On stands end
+  ends_as : (stands : Point) (end e : Copier × Yielding (Node K V) Table) → end ≡ e → On stands e → On stands end
   ends_as = by_end c.past c2.past (number_at c blocks p) (number_of_copier_blocking c2 blocks2) p
 
   abbrev tables : ℕ
@@ -52,7 +52,7 @@ module _ {K V : Type 0} (same : K → K → Bool) (hash : K → ℕ) (setting : 
   same_tables : c2.past ≡ c.past → targets c2 blocks2 p ≡ tables
   same_tables past = ap (λ x. x - p.target.turn) past
 
-  module _ (end : Copier × Outcome (Node K V) Table) (t : ℕ) (target : IsTable c blocks p.target t) where
+  module _ (end : Copier × Yielding (Node K V) Table) (t : ℕ) (target : IsTable c blocks p.target t) where
     -- another table comes after its target
     turn : p.target.turn ≡ t
     turn = ap (λ (x : Table). x.turn) target.is
@@ -70,7 +70,7 @@ module _ {K V : Type 0} (same : K → K → Bool) (hash : K → ℕ) (setting : 
         making = table_after p.setting p.target NoPlace
 
     module _ (making : NewTable) (stands : NewTableStands setting m c blocks (Word (blocks.table t) NEXT) (suc t) making) where
-      on_remade : (inner : NewTable × Progress Table) → MadeOn same hash setting m c blocks m2 c2 blocks2 on (Word (blocks.table t) NEXT) (suc t) making making.stands inner
+      on_remade : (inner : NewTable × Advance Table) → MadeOn same hash setting m c blocks m2 c2 blocks2 on (Word (blocks.table t) NEXT) (suc t) making making.stands inner
           → (inner.1 ≡ progress.Goes → IsBelow (number_of_new_table inner.0) (number_of_new_table making)) → On (at.Remakes making) (remade p inner)
       on_remade (next, progress.Goes) made lower = inr (made.0, made.1, inr (same_tables made.0, inr (refl, inr (refl, inr (refl, inr (refl, inr (refl, lower refl)))))))
       on_remade (next, progress.Waits) made lower = tt

@@ -15,7 +15,7 @@ use Rattle.map_machines.specs.CopierStates.{standing}
 use Rattle.map_machines.specs.declared.copier.Copier.{Copier}
 use Rattle.map_machines.specs.declared.copier.Copying.{Copying}
 use Rattle.map_machines.specs.declared.copier.Copying.TheVariants as copies
-use Rattle.map_machines.specs.declared.outcome.Outcome.{Outcome}
+use Rattle.map_machines.specs.declared.yielding.Yielding.{Yielding}
 use Rattle.many_calls.specs.Given.PointsTold.{IsRowOfCopier}
 
 -- the row that it is in
@@ -27,7 +27,7 @@ in_row copier row = by copier.stands refl row
     by _ e row = absurd row
 
 pub retires_back : {K V : Type 0} (hash : K → ℕ) (m m2 : Mem (Node K V)) (copier : Copier) (settle : Settle) (rest : ℕ) → copier ≡ standing copier (copies.Retires settle rest)
-    → (end : Copier × Outcome (Node K V) Table) → Steps Took value_at m (copier_plan hash copier) m2 end → (inner : Settle × Settled (Node K V)) × (end ≡ retired copier rest inner)
+    → (end : Copier × Yielding (Node K V) Table) → Steps Took value_at m (copier_plan hash copier) m2 end → (inner : Settle × Settled (Node K V)) × (end ≡ retired copier rest inner)
 retires_back hash m m2 copier settle rest is end s =
     let t : Steps Took value_at m (copier_at hash copier (copies.Retires settle rest)) m2 end =
     subst (λ (x : Copying). Steps Took value_at m (copier_at hash copier x) m2 end) (ap (λ (x : Copier). x.stands) is) s in

@@ -9,8 +9,8 @@ use Rattle.seize_words.specs.OneMemory.Plan.{Now, Steps}
 use Rattle.seize_words.proofs.OneMemory.OneOwner.AfterWrites.{word_at-with_word}
 use Rattle.seize_words.proofs.OneMemory.OneOwner.Operations.{loaded, stored, exchanged, made as make_made, taken}
 use Rattle.seize_acts.proofs.Given.SeizeRuleRows.Leaving.{steps_back}
-use Rattle.seize.specs.declared.progress.Progress.{Progress}
-use Rattle.seize.specs.declared.progress.Progress.TheVariants as progress
+use Rattle.seize.specs.declared.advance.Advance.{Advance}
+use Rattle.seize.specs.declared.advance.Advance.TheVariants as progress
 use Rattle.map_tables.specs.Lengths.{next_len}
 use Rattle.map_tables.specs.Nodes.{table_seen}
 use Rattle.map_tables.specs.declared.lengths.Reason.{Reason}
@@ -43,7 +43,7 @@ use Rattle.map_measures.proofs.Falls.Stands.{IsBehind, IsPlaceOf, MakingStands, 
 use Rattle.map_measures.proofs.Falls.Making.MakingBounds.{making_within}
 
 -- a counting writes nothing
-pub sum_still : {T : Type 0} (m m2 : Mem T) (sum : Sum) (end : Sum × Progress ℕ) → Steps Took value_at m (sum_plan sum) m2 end → m2 ≡ m
+pub sum_still : {T : Type 0} (m m2 : Mem T) (sum : Sum) (end : Sum × Advance ℕ) → Steps Took value_at m (sum_plan sum) m2 end → m2 ≡ m
 sum_still {T} m m2 sum end = by sum.stands
   where
     by : (stands : Summing) → Steps Took value_at m (sum_at sum stands) m2 end → m2 ≡ m
@@ -63,7 +63,7 @@ module _ {K V : Type 0} (same : K → K → Bool) (hash : K → ℕ) (setting : 
       ((c.past ≤ planned stands) × (c.past < c2.past))
       ⊎ ((c2.past ≡ c.past) × (table.turn < c.past) × (IsBehind link → (table.turn ≡ turn) × (tables_from_before c.past stands ≡ suc c.past - turn)))
 
-  abbrev pub MadeOn : Making → NewTable × Progress Table → Type 0
+  abbrev pub MadeOn : Making → NewTable × Advance Table → Type 0
   MadeOn stands (n2, progress.Goes) = GoesOn stands n2
   MadeOn stands (n2, progress.Done table) = EndsOn stands table
   MadeOn stands (n2, progress.Refused fault) = c2.past ≡ c.past
@@ -72,10 +72,10 @@ module _ {K V : Type 0} (same : K → K → Bool) (hash : K → ℕ) (setting : 
   still : m2 ≡ m → c2.past ≡ c.past
   still is = past_kept same hash setting m c blocks m2 c2 blocks2 on (keeps_still setting.root c blocks m m2 is)
 
-  by_end : (stands : Making) (end e : NewTable × Progress Table) → end ≡ e → MadeOn stands e → MadeOn stands end
+  by_end : (stands : Making) (end e : NewTable × Advance Table) → end ≡ e → MadeOn stands e → MadeOn stands end
   by_end stands end e is = subst (λ x. MadeOn stands x) (sym is)
 
-  on_counted : (before : Table) (reason : Reason) (sum : Sum) → c2.past ≡ c.past → (inner : Sum × Progress ℕ) → MadeOn (at.Sums before reason sum) (counted n before reason inner)
+  on_counted : (before : Table) (reason : Reason) (sum : Sum) → c2.past ≡ c.past → (inner : Sum × Advance ℕ) → MadeOn (at.Sums before reason sum) (counted n before reason inner)
   on_counted before reason sum same_past (sum2, progress.Goes) = (same_past, omega arith, omega arith)
   on_counted before reason sum same_past (sum2, progress.Waits) = tt
   on_counted before reason sum same_past (sum2, progress.Done count) =
@@ -146,7 +146,7 @@ module _ {K V : Type 0} (same : K → K → Bool) (hash : K → ℕ) (setting : 
       turn_is hash m2 c2 blocks2 setting.root on.map2.shows (table_seen found value) u
       (link_table hash m2 c2 blocks2 setting.root on.map2.shows found u (is ∙ ap (λ b. b * 2048) (sym kept.0), omega (arith, made, up), kept.1) value read)
 
-  on_at : n.link ≡ link → IsPlaceOf setting m c blocks link turn → (stands : Making) → MakingStands setting m c blocks link turn stands → (end : NewTable × Progress Table)
+  on_at : n.link ≡ link → IsPlaceOf setting m c blocks link turn → (stands : Making) → MakingStands setting m c blocks link turn stands → (end : NewTable × Advance Table)
       → Steps Took value_at m (plan_at n stands) m2 end → MadeOn stands end
   on_at link_is place (at.Sums before reason sum) facts end s =
       let b = steps_back (counted n before reason) m m2 (sum_plan sum) end s in
@@ -190,5 +190,5 @@ module _ {K V : Type 0} (same : K → K → Bool) (hash : K → ℕ) (setting : 
       (inr (still s.0, omega (arith, is, made), λ behind. (is ∙ facts.2 behind, let turn_is : table.turn ≡ turn = is ∙ facts.2 behind in omega (arith, turn_is))))
   on_at link_is place (at.Refused fault) facts end s = by_end (at.Refused fault) end _ s.1 (still s.0)
 
-  pub made_on : NewTableStands setting m c blocks link turn n → (end : NewTable × Progress Table) → Steps Took value_at m (new_table_plan n) m2 end → MadeOn n.stands end
+  pub made_on : NewTableStands setting m c blocks link turn n → (end : NewTable × Advance Table) → Steps Took value_at m (new_table_plan n) m2 end → MadeOn n.stands end
   made_on stands end s = on_at stands.link_is stands.place n.stands stands.point end s

@@ -13,8 +13,8 @@ use Rattle.map_machines.specs.CopierStates as copying
 use Rattle.map_machines.specs.declared.copier.Copier.{Copier}
 use Rattle.map_machines.specs.declared.copier.Copying.{Copying}
 use Rattle.map_machines.specs.declared.copier.Copying.TheVariants as copies
-use Rattle.map_machines.specs.declared.outcome.Outcome.{Outcome}
-use Rattle.map_machines.specs.declared.outcome.Outcome.TheVariants as outcome
+use Rattle.map_machines.specs.declared.yielding.Yielding.{Yielding}
+use Rattle.map_machines.specs.declared.yielding.Yielding.TheVariants as outcome
 use Rattle.map_machines.specs.declared.sum.Sum.{Sum}
 use Rattle.map_sweeps.specs.declared.reserve.Reserving.TheVariants as at
 use Rattle.many_calls.specs.Given.RuleChart.{Chart}
@@ -58,7 +58,7 @@ retired_lowers incremental c blocks copier first settle rest is =
 module _ {K V : Type 0} (same : K → K → Bool) (hash : K → ℕ) (setting : Setting) (m : Mem (Node K V)) (c : Chart K) (blocks : Blocks) (m2 : Mem (Node K V)) (c2 : Chart K) (blocks2 : Blocks)
     (on : Onward same hash setting m c blocks m2 c2 blocks2) (copier : Copier) (none : IsRowOfCopier copier.stands → ⊥) where
   -- where its copier goes on, or has come to its end
-  abbrev pub CopyFalls : Bool → Copier × Outcome (Node K V) Table → Type 0
+  abbrev pub CopyFalls : Bool → Copier × Yielding (Node K V) Table → Type 0
   CopyFalls b (copier2, outcome.Goes) = Lowered b c blocks c2 blocks2 (at.Copies copier) (at.Copies copier2)
   CopyFalls b (copier2, outcome.Done root) = (sum : Sum) → Lowered b c blocks c2 blocks2 (at.Copies copier) (at.Sums root sum)
   CopyFalls b (copier2, outcome.Waits) = Unit {0}
@@ -79,7 +79,7 @@ module _ {K V : Type 0} (same : K → K → Bool) (hash : K → ℕ) (setting : 
       lowers_kept true c blocks c2 blocks2 own.0 (at.Copies copier) (at.Copies copier2) own.1
       (inr (ap (λ (x : ℕ). x - copier2.target.turn) own.0 ∙ ap (λ (x : Table). c.past - x.turn) target, inr (refl, own.2)))
 
-  bits_fall : (copier2 : Copier) → copier2.target ≡ copier.target → (told : Outcome (Node K V) Table)
+  bits_fall : (copier2 : Copier) → copier2.target ≡ copier.target → (told : Yielding (Node K V) Table)
       → CopierOn c.past c2.past (number_at c blocks copier) (number_of_copier c2 blocks2) copier copier.stands (copier2, told) → CopyFalls true (copier2, told)
   bits_fall copier2 target outcome.Goes falls = bits_further copier2 target falls
   bits_fall copier2 target (outcome.Done table) done = λ sum. done_falls true table sum done
@@ -97,7 +97,7 @@ module _ {K V : Type 0} (same : K → K → Bool) (hash : K → ℕ) (setting : 
       lowers_kept false c blocks c2 blocks2 own.0 (at.Copies copier) (at.Copies copier2) own.1
       (with_first (targets c2 blocks2 copier2) (targets c blocks copier) (number_of_copier_blocking c2 blocks2 copier2) (number_of_copier_blocking c blocks copier) f2.0 f.0 f2.1 f.1 own.2)
 
-  once_falls : (copier2 : Copier) (told : Outcome (Node K V) Table)
+  once_falls : (copier2 : Copier) (told : Yielding (Node K V) Table)
       → CopierOn c.past c2.past (blocking_at c blocks copier) (number_of_copier_blocking c2 blocks2) copier copier.stands (copier2, told) → CopyFalls false (copier2, told)
   once_falls copier2 outcome.Goes falls = once_further copier2 falls
   once_falls copier2 (outcome.Done table) done = λ sum. done_falls false table sum done
@@ -105,7 +105,7 @@ module _ {K V : Type 0} (same : K → K → Bool) (hash : K → ℕ) (setting : 
   once_falls copier2 (outcome.Gave value) falls = once_further copier2 falls
   once_falls copier2 (outcome.Refused fault) on_it = tt
 
-  pub copies_fall : (b : Bool) → WholeStands setting m c blocks b copier → (end : Copier × Outcome (Node K V) Table) → Steps Took value_at m (copier_plan hash copier) m2 end → CopyFalls b end
+  pub copies_fall : (b : Bool) → WholeStands setting m c blocks b copier → (end : Copier × Yielding (Node K V) Table) → Steps Took value_at m (copier_plan hash copier) m2 end → CopyFalls b end
   copies_fall true (bits, keeps, stands) end s =
       bits_fall end.0 (target_stays hash copier m m2 end s keeps) end.1 (copied_on same hash setting m c blocks m2 c2 blocks2 on copier bits stands none end s)
   copies_fall false (blocking, stands) end s = once_falls end.0 end.1 (copied_on_blocking same hash setting m c blocks m2 c2 blocks2 on copier blocking stands none end s)

@@ -10,8 +10,8 @@ use Rattle.seize_words.specs.OneMemory.Plan.{Now, Seeing, Steps, Ends}
 use Rattle.seize_words.proofs.OneMemory.OneOwner.Operations.{loaded}
 use Rattle.seize_words.proofs.OneMemory.Plans.{ends_if}
 use Rattle.seize_acts.proofs.Given.SeizeRuleRows.Leaving.{steps_back}
-use Rattle.seize.specs.declared.progress.Progress.{Progress}
-use Rattle.seize.specs.declared.progress.Progress.TheVariants as progress
+use Rattle.seize.specs.declared.advance.Advance.{Advance}
+use Rattle.seize.specs.declared.advance.Advance.TheVariants as progress
 use Rattle.map_tables.specs.Chunks.{is_incremental}
 use Rattle.map_machines.specs.CopierStates.{resting}
 use Rattle.map_machines.specs.NewTable.{first_table, table_reserved, new_table_plan}
@@ -21,8 +21,8 @@ use Rattle.map_machines.specs.Sum.{sum_plan}
 use Rattle.map_tables.specs.TablePlaces.{at_word}
 use Rattle.map_tables.specs.declared.lengths.Reason.TheVariants.{Reserved}
 use Rattle.map_tables.specs.declared.node.Node.{Node}
-use Rattle.map_machines.specs.declared.outcome.Outcome.{Outcome}
-use Rattle.map_machines.specs.declared.outcome.Outcome.TheVariants as outcome
+use Rattle.map_machines.specs.declared.yielding.Yielding.{Yielding}
+use Rattle.map_machines.specs.declared.yielding.Yielding.TheVariants as outcome
 use Rattle.map_tables.specs.declared.setting.Setting.{Setting}
 use Rattle.map_tables.specs.declared.table.Table.{Table}
 use Rattle.map_tables.specs.declared.table_words.TheConstants.{NEXT}
@@ -67,16 +67,16 @@ module _ {K : Type 0} (incremental : Bool) (c : Chart K) (blocks : Blocks) (c2 :
   lowers_kept past spot spot2 low below = at_most _ _ (no_more c.past c2.past (planned_in_reserve spot) (planned_in_reserve spot2) (omega (arith, past)) low) below
 
 module _ {K V : Type 0} (same : K → K → Bool) (hash : K → ℕ) (setting : Setting) (m : Mem (Node K V)) (c : Chart K) (blocks : Blocks) (m2 : Mem (Node K V)) (c2 : Chart K) (blocks2 : Blocks)
-    (on : Onward same hash setting m c blocks m2 c2 blocks2) (p : Reserve) (end : Reserve × Outcome (Node K V) Unit) where
+    (on : Onward same hash setting m c blocks m2 c2 blocks2) (p : Reserve) (end : Reserve × Yielding (Node K V) Unit) where
   abbrev incremental : Bool
   incremental = is_incremental p.setting.mode
 
   -- where it goes on, the numbers are lower than where it stood
-  abbrev pub Falls : Reserving → Reserve × Outcome (Node K V) Unit → Type 0
+  abbrev pub Falls : Reserving → Reserve × Yielding (Node K V) Unit → Type 0
   Falls spot to = GoesFurther to.1 → IsBelow (number_of_reserve c2 blocks2 to.0) (numbers_at incremental c blocks spot)
 
-  pub leads : (spot : Reserving) (to : Reserve × Outcome (Node K V) Unit) → end ≡ to → Falls spot to → Falls spot end
-  leads spot to is f = subst (λ (x : Reserve × Outcome (Node K V) Unit). Falls spot x) (sym is) f
+  pub leads : (spot : Reserving) (to : Reserve × Yielding (Node K V) Unit) → end ≡ to → Falls spot to → Falls spot end
+  leads spot to is f = subst (λ (x : Reserve × Yielding (Node K V) Unit). Falls spot x) (sym is) f
 
   still : m2 ≡ m → c2.past ≡ c.past
   still is = past_kept same hash setting m c blocks m2 c2 blocks2 on (keeps_still setting.root c blocks m m2 is)
@@ -132,7 +132,7 @@ module _ {K V : Type 0} (same : K → K → Bool) (hash : K → ℕ) (setting : 
       by false true goes = kept past (at.Sums table sum) (at.Follows table need) (omega arith) (inr (ap (λ (x : ℕ). x - table.turn) past, inl (omega arith)))
       by false false goes = absurd goes
 
-  sum_falls : (table : Table) (sum : Sum) (to : Sum × Progress ℕ) → c2.past ≡ c.past → Steps Took value_at m (sum_plan sum) m2 to → end ≡ summed p table to → Falls (at.Sums table sum) end
+  sum_falls : (table : Table) (sum : Sum) (to : Sum × Advance ℕ) → c2.past ≡ c.past → Steps Took value_at m (sum_plan sum) m2 to → end ≡ summed p table to → Falls (at.Sums table sum) end
   sum_falls table sum (next, progress.Goes) past s is = leads (at.Sums table sum) _ is (λ goes.
       kept past (at.Sums table sum) (at.Sums table next) (omega arith)
       (inr (ap (λ (x : ℕ). x - table.turn) past, inr (refl, alone (number_at_sum next) (number_at_sum sum) (sum_lowers m sum m2 (next, progress.Goes) s refl)))))
@@ -149,13 +149,13 @@ module _ {K V : Type 0} (same : K → K → Bool) (hash : K → ℕ) (setting : 
 
   -- of a making
   module _ (link : At) (turn : ℕ) (making : NewTable) where
-    abbrev Made : NewTable × Progress Table → Type 0
+    abbrev Made : NewTable × Advance Table → Type 0
     Made to = MadeOn same hash setting m c blocks m2 c2 blocks2 on link turn making making.stands to
 
-    lowers : (to : NewTable × Progress Table) → Steps Took value_at m (new_table_plan making) m2 to → to.1 ≡ progress.Goes → IsBelow (number_of_new_table to.0) (number_of_new_table making)
+    lowers : (to : NewTable × Advance Table) → Steps Took value_at m (new_table_plan making) m2 to → to.1 ≡ progress.Goes → IsBelow (number_of_new_table to.0) (number_of_new_table making)
     lowers to s goes = new_table_lowers m making m2 to s goes
 
-    made_falls : (to : NewTable × Progress Table) → Steps Took value_at m (new_table_plan making) m2 to → Made to → end ≡ made p to → Falls (at.Makes making) end
+    made_falls : (to : NewTable × Advance Table) → Steps Took value_at m (new_table_plan making) m2 to → Made to → end ≡ made p to → Falls (at.Makes making) end
     made_falls (next, progress.Goes) s on_it is = leads (at.Makes making) _ is (λ goes.
         kept on_it.0 (at.Makes making) (at.Makes next) on_it.1
         (inr (ap suc on_it.0, inr (refl, below_followed (number_of_new_table next) (number_of_new_table making) _ _ (lowers (next, progress.Goes) s refl)))))
@@ -166,7 +166,7 @@ module _ {K V : Type 0} (same : K → K → Bool) (hash : K → ℕ) (setting : 
         kept found.0 (at.Makes making) (counting p table).stands (omega arith) (inl (let past = found.0 in omega (arith, past))))
     made_falls (next, progress.Refused fault) s on_it is = leads (at.Makes making) _ is (λ goes. absurd goes)
 
-    grown_falls : (table : Table) (t : ℕ) → table.turn ≡ t → t < c.past → turn ≡ suc t → IsBehind link → (to : NewTable × Progress Table)
+    grown_falls : (table : Table) (t : ℕ) → table.turn ≡ t → t < c.past → turn ≡ suc t → IsBehind link → (to : NewTable × Advance Table)
         → Steps Took value_at m (new_table_plan making) m2 to → Made to → end ≡ grown p table to → Falls (at.Grows table making) end
     grown_falls table t turn_is made_t next_turn behind (next, progress.Goes) s on_it is = leads (at.Grows table making) _ is (λ goes.
         kept on_it.0 (at.Grows table making) (at.Grows table next) on_it.1

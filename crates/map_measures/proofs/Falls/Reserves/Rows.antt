@@ -14,7 +14,7 @@ use Rattle.map_machines.specs.CopierPromotes.{retired, table_retired}
 use Rattle.map_machines.specs.CopierStates as copying
 use Rattle.map_machines.specs.declared.copier.Copier.{Copier}
 use Rattle.map_machines.specs.declared.copier.Copying.TheVariants as copies
-use Rattle.map_machines.specs.declared.outcome.Outcome.{Outcome}
+use Rattle.map_machines.specs.declared.yielding.Yielding.{Yielding}
 use Rattle.map_sweeps.specs.Reserves.Reserve.{copied, plan_at}
 use Rattle.map_sweeps.specs.declared.reserve.Reserve.{Reserve}
 use Rattle.map_sweeps.specs.declared.reserve.Reserving.{Reserving}
@@ -43,7 +43,7 @@ module _ {K V : Type 0} (hash : K → ℕ) (p : Reserve) (m m2 : Mem (Node K V))
   numbers = numbers_at (is_incremental p.setting.mode) c blocks
 
   -- it is in the row still, and its number is what it was, or the row is over, and it is lower
-  abbrev Goal : Reserving → Reserve × Outcome (Node K V) Unit → Type 0
+  abbrev Goal : Reserving → Reserve × Yielding (Node K V) Unit → Type 0
   Goal spot end =
       GoesFurther end.1
       → ((IsRowOfReserve end.0.stands) × (number_of_reserve c blocks end.0 ≡ numbers spot)) ⊎ ((IsRowOfReserve end.0.stands → ⊥) × IsBelow (number_of_reserve c blocks end.0) (numbers spot))
@@ -59,12 +59,12 @@ module _ {K V : Type 0} (hash : K → ℕ) (p : Reserve) (m m2 : Mem (Node K V))
     copies_on (next, settled.Gave value) goes = inl (tt, refl)
     copies_on (next, settled.Done) goes = inr (none_over retiring rest, retired_lowers (is_incremental p.setting.mode) c blocks retiring settle settle rest refl)
 
-  on_at : (spot : Reserving) → IsRowOfReserve spot → (end : Reserve × Outcome (Node K V) Unit) → Steps Took value_at m (plan_at hash p spot) m2 end → Goal spot end
+  on_at : (spot : Reserving) → IsRowOfReserve spot → (end : Reserve × Yielding (Node K V) Unit) → Steps Took value_at m (plan_at hash p spot) m2 end → Goal spot end
   on_at (at.Copies copier) row end s =
       let b = steps_back (copied p) m m2 (copier_plan hash copier) end s in
       let r = in_row copier row in
       let inner = retires_back hash m m2 copier r.0 r.1 r.2 b.0 b.1 in
-      subst (λ (x : Reserve × Outcome (Node K V) Unit). Goal (at.Copies copier) x) (sym (b.2 ∙ ap (copied p) inner.1))
+      subst (λ (x : Reserve × Yielding (Node K V) Unit). Goal (at.Copies copier) x) (sym (b.2 ∙ ap (copied p) inner.1))
       (subst (λ (x : Copier). Goal (at.Copies x) (copied p (retired x r.1 inner.0))) (sym r.2) (copies_on copier r.0 r.1 inner.0))
   on_at _ row end s = absurd row
 

@@ -3,8 +3,8 @@ use Rattle.std.proofs.Common.{◌≡◌, [], ◌∷◌, refl, sym, subst}
 use Rattle.seize_words.specs.OneMemory.Mem.{Mem, Took, value_at}
 use Rattle.seize_words.specs.OneMemory.Plan.{Steps}
 use Rattle.seize_acts.proofs.Given.SeizeRuleRows.Leaving.{steps_back}
-use Rattle.seize.specs.declared.progress.Progress.{Progress}
-use Rattle.seize.specs.declared.progress.Progress.TheVariants as progress
+use Rattle.seize.specs.declared.advance.Advance.{Advance}
+use Rattle.seize.specs.declared.advance.Advance.TheVariants as progress
 use Rattle.seize.specs.declared.rows.defer.Defer.{Defer}
 use Rattle.seize.specs.declared.rows.settle.Settle.{Settle}
 use Rattle.seize.specs.declared.rows.settle.Settled.{Settled}
@@ -39,7 +39,7 @@ module _ {K V : Type 0} (m m2 : Mem (Node K V)) (d : Dispose) where
   settles_on (next, settled.Gave value) goes = tt
   settles_on (next, settled.Done) goes = absurd goes
 
-  defers_on : (inner : Defer × Progress Unit) → StaysInRow (deferred_on d inner)
+  defers_on : (inner : Defer × Advance Unit) → StaysInRow (deferred_on d inner)
   defers_on (next, progress.Goes) goes = tt
   defers_on (next, progress.Waits) goes = absurd goes
   defers_on (next, progress.Done end) goes = absurd goes

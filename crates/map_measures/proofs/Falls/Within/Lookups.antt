@@ -6,8 +6,8 @@ use Rattle.seize_words.specs.OneMemory.Mem.{Mem, Took, value_at}
 use Rattle.seize_words.specs.OneMemory.Plan.{Now, Seeing, Steps}
 use Rattle.seize_words.proofs.OneMemory.OneOwner.Operations.{loaded}
 use Rattle.seize_words.proofs.OneMemory.Plans.{ends_if}
-use Rattle.seize.specs.declared.progress.Progress.{Progress}
-use Rattle.seize.specs.declared.progress.Progress.TheVariants as progress
+use Rattle.seize.specs.declared.advance.Advance.{Advance}
+use Rattle.seize.specs.declared.advance.Advance.TheVariants as progress
 use Rattle.map_tables.specs.Chunks.{is_incremental}
 use Rattle.map_tables.specs.Finding.{finding, may_name}
 use Rattle.map_tables.specs.Nodes.{table_seen}
@@ -40,13 +40,13 @@ use Rattle.map_measures.proofs.Falls.Stands.{LookingStands}
 module _ {K V : Type 0} (same : K → K → Bool) (hash : K → ℕ) (setting : Setting) (m : Mem (Node K V)) (c : Chart K) (blocks : Blocks) (m2 : Mem (Node K V)) (c2 : Chart K) (blocks2 : Blocks)
     (on : Onward same hash setting m c blocks m2 c2 blocks2) (l : Lookup) where
   -- if it goes on, its number is lower
-  abbrev Lowers : Looking → Lookup × Progress (Option ℕ) → Type 0
+  abbrev Lowers : Looking → Lookup × Advance (Option ℕ) → Type 0
   Lowers stands end = end.1 ≡ progress.Goes → IsBelow (number_of_lookup c2 end.0) (number_at_looking c stands)
 
   still : m2 ≡ m → c2.past ≡ c.past
   still is = past_kept same hash setting m c blocks m2 c2 blocks2 on (keeps_still setting.root c blocks m m2 is)
 
-  by_end : (stands : Looking) (end e : Lookup × Progress (Option ℕ)) → end ≡ e → Lowers stands e → Lowers stands end
+  by_end : (stands : Looking) (end e : Lookup × Advance (Option ℕ)) → end ≡ e → Lowers stands e → Lowers stands end
   by_end stands end e is = subst (λ x. Lowers stands x) (sym is)
 
   module _ (past : c2.past ≡ c.past) where
@@ -83,7 +83,7 @@ module _ {K V : Type 0} (same : K → K → Bool) (hash : K → ℕ) (setting : 
           by_finding word (finding l.mode Looks word flag)
           (next_is c blocks l.hash t trial j there (on.map.shows.sized t there.table.made) (on.map.rule.common.lens t there.table.made).1)
 
-  on_at : (keys : K → Bool) (stands : Looking) → LookingStands setting m c blocks l.hash stands → (end : Lookup × Progress (Option ℕ))
+  on_at : (keys : K → Bool) (stands : Looking) → LookingStands setting m c blocks l.hash stands → (end : Lookup × Advance (Option ℕ))
       → Steps Took value_at m (plan_at keys l stands) m2 end → (m2 ≡ m) × Lowers stands end
   on_at keys at.Roots facts end s =
       let d = loaded m (link_found l) (Root l.root) m2 end s in (
@@ -113,6 +113,6 @@ module _ {K V : Type 0} (same : K → K → Bool) (hash : K → ℕ) (setting : 
       )
   on_at keys (at.Over found) facts end s = (s.0, by_end (at.Over found) end _ s.1 (λ goes. absurd (cc goes)))
 
-  pub looked_on : (keys : K → Bool) → LookingStands setting m c blocks l.hash l.stands → (end : Lookup × Progress (Option ℕ)) → Steps Took value_at m (lookup_plan keys l) m2 end
+  pub looked_on : (keys : K → Bool) → LookingStands setting m c blocks l.hash l.stands → (end : Lookup × Advance (Option ℕ)) → Steps Took value_at m (lookup_plan keys l) m2 end
       → (m2 ≡ m) × (end.1 ≡ progress.Goes → IsBelow (number_of_lookup c2 end.0) (number_of_lookup c l))
   looked_on keys stands end s = on_at keys l.stands stands end s

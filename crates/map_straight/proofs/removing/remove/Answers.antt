@@ -8,7 +8,7 @@ use Rattle.papaya_raw.specs.declared.machines.call.Calling.TheVariants as at
 use Rattle.map_straight.specs.Straight.Going.{CallReaches}
 use Rattle.map_straight.specs.Straight.Removing.{removed_at, seeking}
 use Rattle.map_straight.specs.declared.removing.Removal.{Removal}
-use Rattle.map_straight.specs.declared.removing.Removed.TheVariants as removed
+use Rattle.map_straight.specs.declared.removing.RemovalAt.TheVariants as removed
 use Rattle.map_straight.proofs.Straight.Removals as by
 use Rattle.seize_straight.proofs.Running.{begins, led_to, next, on_from, reaches_to}
 use Rattle.map_straight.proofs.removing.remove.Given as given

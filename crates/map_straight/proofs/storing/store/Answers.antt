@@ -8,8 +8,8 @@ use Rattle.papaya_raw.specs.declared.machines.call.Calling.TheVariants as at
 use Rattle.map_straight.specs.Straight.Going.{CallLeads}
 use Rattle.seize_straight.specs.Runs.{none_taken}
 use Rattle.map_straight.specs.Straight.Storing.{call_at, storing}
-use Rattle.map_straight.specs.declared.storing.Spot.{Spot}
-use Rattle.map_straight.specs.declared.storing.Spot.TheVariants as spot
+use Rattle.map_straight.specs.declared.storing.StoringPoint.{StoringPoint}
+use Rattle.map_straight.specs.declared.storing.StoringPoint.TheVariants as spot
 use Rattle.seize_straight.proofs.Running.{begins, led_to, next, on_from, reaches_to}
 use Rattle.map_straight.proofs.Straight.Stores as by
 use Rattle.map_straight.proofs.storing.store.Given as given
@@ -38,7 +38,7 @@ tried : (g : given.Over) (c : goal.In-Stands-default-Tries g)
     → by.Comes g.Q.Equivalent.equivalent g.K.PartialEq.eq (g.S.Hashes.hash c.args.hasher.now) g.M.Look.can g.M.Look.took g.M.Look.shown c.args.setting c.args.hash c.args.there c.args.own untried at.Roots c.args.memory.now c.in-Stands-default-Tries.trial (at.Tries c.in-Stands-default-Tries.word c.args.own) c.try_places.new.memory
 tried g c l =
     led_to l _ c.try_places.new.memory
-    (subst (λ (s : Spot). CallLeads g.Q.Equivalent.equivalent g.K.PartialEq.eq (g.S.Hashes.hash c.args.hasher.now) g.M.Look.took g.M.Look.shown
+    (subst (λ (s : StoringPoint). CallLeads g.Q.Equivalent.equivalent g.K.PartialEq.eq (g.S.Hashes.hash c.args.hasher.now) g.M.Look.took g.M.Look.shown
     (storing c.args.setting c.args.hash c.args.there c.args.own c.first-first.result at.Probes) c.load-link.new.self (call_at c.args.setting c.args.hash c.args.there c.args.own c.in-Stands-default-Tries.trial s) c.try_places.new.memory)
     c.in-Stands-default-Tries.field-1-is c.in-Stands-default-Tries.ensures)
 

@@ -11,8 +11,8 @@ use Rattle.papaya_raw.specs.declared.machines.answer.KeyAnswer.{KeyAnswer}
 use Rattle.papaya_raw.specs.declared.machines.answer.KeyAnswer.TheVariants as answers
 use Rattle.papaya_raw.specs.declared.machines.answer.Missing.TheVariants as missing
 use Rattle.papaya_raw.specs.declared.machines.answer.There.TheVariants as there
-use Rattle.papaya_raw.specs.declared.machines.asking.Reply.{Reply}
-use Rattle.papaya_raw.specs.declared.machines.asking.Reply.TheVariants as reply
+use Rattle.papaya_raw.specs.declared.machines.asking.MachineReply.{MachineReply}
+use Rattle.papaya_raw.specs.declared.machines.asking.MachineReply.TheVariants as reply
 use Rattle.owner_calls.specs.Given.CallersKind.{Kind}
 use Rattle.owner_calls.specs.Given.LateFaults.{IsRoom}
 use Rattle.owner_calls.specs.Given.ShownChain.{CannotGrowIn}
@@ -29,7 +29,7 @@ use Rattle.owner_asks.proofs.Asks.Asks.Calls.{answers_as, refused_as, unasked_as
 module _ {K V Q S : Type 0} (asks : Q → K → Bool) (same : K → K → Bool) (hashes : S → K → ℕ) (b : Bor S) (setting : Setting) (kind : Kind) (its : Option K) (keys : K → Bool) (xs : List (K × V)) (x : OnKey K V Q S)
     (m : Mem (Node K V)) (result : Result Stop Fault) (h : StartsAs asks same hashes setting kind its keys xs b x m result) where
   -- it has answered, and asked nothing
-  pub comes_answered : (Meant : Option (K × V) → Reply V → Type 0) → (kind.absent ≢ missing.Asks → Meant None reply.Abort) → ((y : K × V) → kind.present ≢ there.Asks → Meant (Some y) reply.Abort)
+  pub comes_answered : (Meant : Option (K × V) → MachineReply V → Type 0) → (kind.absent ≢ missing.Asks → Meant None reply.Abort) → ((y : K × V) → kind.present ≢ there.Asks → Meant (Some y) reply.Abort)
       → (s : Stop) (answer : KeyAnswer) → result ≡ Ok s → s ≡ stop.Answered answer → AnswersAs same (hashes b.now) setting m keys xs its Meant answer
   comes_answered Meant none some s answer e f =
       answers_as same (hashes b.now) setting m keys xs its _ Meant (unasked_as Meant kind none some) answer
@@ -46,7 +46,7 @@ module _ {K V Q S : Type 0} (asks : Q → K → Bool) (same : K → K → Bool) 
 
 -- it was told this, and has come to its end
 module _ {K V S : Type 0} (same : K → K → Bool) (hashes : S → K → ℕ) (b c : Bor S) (lent : c ≡ b) (setting : Setting) (xs : List (K × V)) (m : Mem (Node K V))
-    (Meant : Option (K × V) → Reply V → Type 0) (said : Reply V) (about : Option (K × V)) (is : Meant about (meant said)) where
+    (Meant : Option (K × V) → MachineReply V → Type 0) (said : MachineReply V) (about : Option (K × V)) (is : Meant about (meant said)) where
   -- with whatever stands for its keys
   pub ends_told : (keys : K → Bool) (its : Option K) → found_by keys xs ≡ about → (result : Result KeyAnswer Fault) → EndsAs same (hashes c.now) setting m keys xs its (ToldThis keys xs said) result
       → EndsAs same (hashes b.now) setting m keys xs its Meant result
@@ -93,7 +93,7 @@ module _ {K V S : Type 0} (same : K → K → Bool) (hashes : S → K → ℕ) (
       answers_as same (hashes b.now) setting m (same key) xs (Some key) (ToldThis (same key) xs reply.Abort) (λ about said. said ≡ reply.Abort) (λ about said told. told.1) answer
       (subst (ComesTo same (hashes b.now) setting m key xs (ToldThis (same key) xs reply.Abort)) is as_lent)
 
-  pub aborted_refused : (r : RefusedKey K) → result ≡ Err r → (Meant : Option (K × V) → Reply V → Type 0) → RefusedAs same (hashes b.now) setting m (same key) xs (Some key) Meant r.fault × (r.key ≡ key)
+  pub aborted_refused : (r : RefusedKey K) → result ≡ Err r → (Meant : Option (K × V) → MachineReply V → Type 0) → RefusedAs same (hashes b.now) setting m (same key) xs (Some key) Meant r.fault × (r.key ≡ key)
   aborted_refused r is Meant =
       let f = subst (ComesTo same (hashes b.now) setting m key xs (ToldThis (same key) xs reply.Abort)) is as_lent in
       (refused_as same (hashes b.now) setting m (same key) xs (Some key) (λ about said. ⊥) Meant (λ about said never. absurd never) r.fault (by r.fault f.0), f.1)

@@ -4,7 +4,7 @@ use Rattle.std.proofs.Common.{refl, sym, ◌∙◌, ap, subst, inl, inr}
 use denote.Ref.{Bor}
 use Rattle.seize_words.specs.OneMemory.Mem.{Mem}
 use Rattle.seize_words.specs.OneMemory.Plan.{Plan}
-use Rattle.map_tables.specs.Given.SeizeDeclared.progress.Progress.{Progress}
+use Rattle.map_tables.specs.Given.SeizeDeclared.advance.Advance.{Advance}
 use Rattle.seize_words.specs.declared.fault.Fault.{Fault}
 use Rattle.seize_words.specs.declared.fault.Fault.TheVariants.{RemoveNothing}
 use Rattle.map_tables.specs.declared.node.Node.{Node}
@@ -55,7 +55,7 @@ pair_back its w x (inl (j, v, key, store, out)) k is =
 pair_back its w x (inr (none, bare)) k is = inl (none, bare.1 ∙ is, bare.2)
 
 module _ {K V Q S : Type 0} (asks : Q → K → Bool) (same : K → K → Bool) (hashes : S → K → ℕ) (setting : Setting) (kind : Kind) (its : Option K) (keys : K → Bool) (xs : List (K × V)) where
-  abbrev the_plan : OnKey K V Q S → Plan (Node K V) (OnKey K V Q S × Progress Stop)
+  abbrev the_plan : OnKey K V Q S → Plan (Node K V) (OnKey K V Q S × Advance Stop)
   the_plan = on_key_plan asks same hashes
 
   abbrev slot_of : ℕ → ℕ

@@ -7,8 +7,8 @@ use Rattle.map_tables.specs.declared.node.Node.{Node}
 use Rattle.map_tables.specs.declared.setting.Setting.{Setting}
 use Rattle.papaya_raw.specs.CallAsks.{replied}
 use Rattle.papaya_raw.specs.declared.machines.answer.KeyAnswer.{KeyAnswer}
-use Rattle.papaya_raw.specs.declared.machines.asking.Reply.{Reply}
-use Rattle.papaya_raw.specs.declared.machines.asking.Reply.TheVariants as reply
+use Rattle.papaya_raw.specs.declared.machines.asking.MachineReply.{MachineReply}
+use Rattle.papaya_raw.specs.declared.machines.asking.MachineReply.TheVariants as reply
 use Rattle.papaya_raw.specs.declared.machines.call.KeyCall.{KeyCall}
 use Rattle.owner_calls.specs.Given.CallersKind.{Kind}
 use Rattle.owner_asks.specs.Asks.Asking.{IsTaken, AnswersAs, RefusedAs, Pauses, ToldThis, HasKeyBack, HasPairBack}
@@ -20,10 +20,10 @@ use Rattle.owner_calls.specs.declared.machines.Stop.TheVariants as stop
 use Rattle.owner_asks.proofs.Asks.Asks.Finishes.{told_ends, told_so, told_back, told_pair_back}
 
 module _ {K V Q S : Type 0} (asks : Q → K → Bool) (same : K → K → Bool) (hashes : S → K → ℕ) (setting : Setting) (kind : Kind) (its : Option K) (keys : K → Bool) (xs : List (K × V))
-    (x : OnKey K V Q S) (m : Mem (Node K V)) (asked : Option ℕ) (p : Pauses asks same hashes setting kind its keys xs x m asked) (said : Reply V) (taken : IsTaken kind.takes asked said)
-    (call : KeyCall K V Q) (r : Result Unit (Reply V)) (is : (call, r) ≡ replied x.call said) where
+    (x : OnKey K V Q S) (m : Mem (Node K V)) (asked : Option ℕ) (p : Pauses asks same hashes setting kind its keys xs x m asked) (said : MachineReply V) (taken : IsTaken kind.takes asked said)
+    (call : KeyCall K V Q) (r : Result Unit (MachineReply V)) (is : (call, r) ≡ replied x.call said) where
   same_call : call ≡ (replied x.call said).0
-  same_call = ap (λ (e : KeyCall K V Q × Result Unit (Reply V)). e.0) is
+  same_call = ap (λ (e : KeyCall K V Q × Result Unit (MachineReply V)). e.0) is
 
   abbrev Ran : OnKey K V Q S → Mem (Node K V) → Result Stop Fault → Type 0
   Ran z m2 result = RunsTo (on_key_plan asks same hashes) (record x { call = call }) m z m2 result

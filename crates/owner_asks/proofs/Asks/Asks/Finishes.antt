@@ -13,8 +13,8 @@ use Rattle.papaya_raw.specs.declared.machines.answer.Missing.TheVariants as miss
 use Rattle.papaya_raw.specs.declared.machines.answer.There.TheVariants as there
 use Rattle.papaya_raw.specs.declared.machines.asking.Asking.{Asking}
 use Rattle.papaya_raw.specs.declared.machines.asking.Asking.TheVariants as asking
-use Rattle.papaya_raw.specs.declared.machines.asking.Reply.{Reply}
-use Rattle.papaya_raw.specs.declared.machines.asking.Reply.TheVariants as reply
+use Rattle.papaya_raw.specs.declared.machines.asking.MachineReply.{MachineReply}
+use Rattle.papaya_raw.specs.declared.machines.asking.MachineReply.TheVariants as reply
 use Rattle.papaya_raw.specs.declared.machines.asking.Takes.{Takes}
 use Rattle.papaya_raw.specs.declared.machines.asking.Takes.TheVariants as takes
 use Rattle.papaya_raw.specs.declared.machines.call.KeyCall.{KeyCall}
@@ -89,7 +89,7 @@ insert_taken takes.Choices None v taken e = absurd taken
 insert_taken takes.Choices (Some word) v taken e = absurd taken
 
 module _ {K V : Type 0} (its : Option K) where
-  knows_key : (kinds : Takes) → (kinds ≢ takes.Choices → (k : K) × (its ≡ Some k)) → (asked : Option ℕ) (said : Reply V) → IsTaken kinds asked said
+  knows_key : (kinds : Takes) → (kinds ≢ takes.Choices → (k : K) × (its ≡ Some k)) → (asked : Option ℕ) (said : MachineReply V) → IsTaken kinds asked said
       → (v : V) → known_by asked said ≡ Some v → (value_by said ≡ Some v) × (k : K) × (its ≡ Some k)
   knows_key kinds key None (reply.Insert w) taken v e = let k = key (insert_taken kinds None w taken) in (e, k.0, k.1)
   knows_key kinds key None reply.Remove taken v e = absurd (cc e)
@@ -99,16 +99,16 @@ module _ {K V : Type 0} (its : Option K) where
   knows_key kinds key (Some word) said taken v e = absurd (cc e)
 
   -- it asks no more, but maybe about a pair where it was told what to do where there is none
-  asks_no_more : {Q : Type 0} (m : Mem (Node K V)) (p : KeyCall K V Q) (asked : Option ℕ) (said : Reply V) (again : Option ℕ) (a : Asking) → AsksFor again (at.Asks a)
+  asks_no_more : {Q : Type 0} (m : Mem (Node K V)) (p : KeyCall K V Q) (asked : Option ℕ) (said : MachineReply V) (again : Option ℕ) (a : Asking) → AsksFor again (at.Asks a)
       → UndisturbedAt its (known_by asked said) (value_by said) (seeks_by asked said) m p (at.Asks a) → (asked ≡ None) × ((word : ℕ) × (again ≡ Some word))
   asks_no_more m p asked said (Some word) (asking.Present other) for point = (seeking asked said point.0, (word, refl))
     where
-      seeking : (asked : Option ℕ) (said : Reply V) → seeks_by asked said ≡ true → asked ≡ None
+      seeking : (asked : Option ℕ) (said : MachineReply V) → seeks_by asked said ≡ true → asked ≡ None
       seeking None said e = refl
       seeking (Some word) said e = absurd (cc e)
   asks_no_more m p asked said None (asking.Absent gap) for point = absurd (never asked said point.0 point.2)
     where
-      never : (asked : Option ℕ) (said : Reply V) → seeks_by asked said ≡ true → known_by asked said ≡ None → ⊥
+      never : (asked : Option ℕ) (said : MachineReply V) → seeks_by asked said ≡ true → known_by asked said ≡ None → ⊥
       never None (reply.Insert v) e none = cc none
       never None reply.Remove e none = cc e
       never None reply.Abort e none = cc e
@@ -123,7 +123,7 @@ module _ {K V : Type 0} (its : Option K) where
   asks_no_more m p asked said (Some word) (asking.GivesUp other) for point = absurd for
 
 module _ {K V Q S : Type 0} (asks : Q → K → Bool) (same : K → K → Bool) (hashes : S → K → ℕ) (setting : Setting) (kind : Kind) (its : Option K) (keys : K → Bool) (xs : List (K × V))
-    (x : OnKey K V Q S) (m : Mem (Node K V)) (asked : Option ℕ) (p : Pauses asks same hashes setting kind its keys xs x m asked) (said : Reply V) (taken : IsTaken kind.takes asked said) where
+    (x : OnKey K V Q S) (m : Mem (Node K V)) (asked : Option ℕ) (p : Pauses asks same hashes setting kind its keys xs x m asked) (said : MachineReply V) (taken : IsTaken kind.takes asked said) where
   abbrev hash : K → ℕ
   hash = hashes x.hasher.now
 
@@ -188,7 +188,7 @@ module _ {K V Q S : Type 0} (asks : Q → K → Bool) (same : K → K → Bool) 
       blocks = s.under.course.blocks;
       sights = s.under.course.sights;
       change = s.under.course.change;
-      alone = subst (λ (r : Result Unit (Reply V)). IsAlone same hash asks setting slot_of s.under.course.w s.under.course.c s.under.course.blocks s.under.course.sights
+      alone = subst (λ (r : Result Unit (MachineReply V)). IsAlone same hash asks setting slot_of s.under.course.w s.under.course.c s.under.course.blocks s.under.course.sights
           (OnKeyOf (record { keys = keys; pair = and_told given0 about said r; began = h.chart.now; change = s.under.course.change; call = (replied q said).0 })))
           (reply_taken q said asked kind.takes takes_is taken s.asks_at s.stands for) (law.3 about law.0.1 said);
       memory = s.under.course.memory;
@@ -311,5 +311,5 @@ module _ {K V Q S : Type 0} (asks : Q → K → Bool) (same : K → K → Bool) 
       → RunsTo (on_key_plan asks same hashes) told_call m z m2 (Err fault) → (k : K) → its ≡ Some k → HasPairBack z k v
   told_pair_back none v is z m2 fault runs =
       pair_back its v z
-      (subst (λ (r : Reply V). HandedOut its (known_by None r) (value_by r) true z ⊎ InHand its (known_by None r) (value_by r) true z) is
+      (subst (λ (r : MachineReply V). HandedOut its (known_by None r) (value_by r) true z ⊎ InHand its (known_by None r) (value_by r) true z) is
       (subst (λ (o : Option ℕ). HandedOut its (known_by o said) (value_by said) true z ⊎ InHand its (known_by o said) (value_by said) true z) none (come2 z m2 (Err fault) runs)))

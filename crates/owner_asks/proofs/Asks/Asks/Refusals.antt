@@ -6,8 +6,8 @@ use Rattle.seize_words.specs.OneMemory.Op.{Found, Stored, Exchanged, Made, Taken
 use Rattle.seize_words.specs.OneMemory.Plan.{Plan, Steps}
 use Rattle.seize_words.specs.declared.fault.Fault.{Fault}
 use Rattle.seize_words.specs.declared.fault.Fault.TheVariants.{RemoveNothing}
-use Rattle.map_tables.specs.Given.SeizeDeclared.progress.Progress.{Progress}
-use Rattle.map_tables.specs.Given.SeizeDeclared.progress.Progress.TheVariants as progress
+use Rattle.map_tables.specs.Given.SeizeDeclared.advance.Advance.{Advance}
+use Rattle.map_tables.specs.Given.SeizeDeclared.advance.Advance.TheVariants as progress
 use Rattle.map_tables.specs.Given.SeizeDeclared.rows.settle.Settled.{Settled}
 use Rattle.map_tables.specs.Given.SeizeDeclared.rows.settle.Settled.TheVariants as settled
 use Rattle.owner_calls.proofs.Given.SeizeRuleRows.Leaving.{steps_back}
@@ -28,8 +28,8 @@ use Rattle.papaya_raw.specs.declared.machines.answer.KeyAnswer.TheVariants as an
 use Rattle.papaya_raw.specs.declared.machines.asking.Asking.{Asking}
 use Rattle.papaya_raw.specs.declared.machines.asking.Asking.TheVariants as asking
 use Rattle.papaya_raw.specs.declared.machines.asking.Gap.{Gap}
-use Rattle.papaya_raw.specs.declared.machines.asking.Reply.{Reply}
-use Rattle.papaya_raw.specs.declared.machines.asking.Reply.TheVariants as reply
+use Rattle.papaya_raw.specs.declared.machines.asking.MachineReply.{MachineReply}
+use Rattle.papaya_raw.specs.declared.machines.asking.MachineReply.TheVariants as reply
 use Rattle.papaya_raw.specs.declared.machines.asking.Takes.{Takes}
 use Rattle.papaya_raw.specs.declared.machines.asking.Takes.TheVariants as takes
 use Rattle.papaya_raw.specs.declared.machines.asking.Told.TheVariants as tells
@@ -107,18 +107,18 @@ module _ {K V Q : Type 0} where
       on_point its _ point yet s = absurd yet
 
 -- a fault that is told at once
-tells_it : (fault : Fault) (told : Progress Stop) (result : Result Stop Fault) → told ≡ progress.Refused fault → Tells told result → IfErr result (λ f. f ≡ fault)
-tells_it fault told result is tells = by result (subst (λ (t : Progress Stop). Tells t result) is tells)
+tells_it : (fault : Fault) (told : Advance Stop) (result : Result Stop Fault) → told ≡ progress.Refused fault → Tells told result → IfErr result (λ f. f ≡ fault)
+tells_it fault told result is tells = by result (subst (λ (t : Advance Stop). Tells t result) is tells)
   where
     by : (result : Result Stop Fault) → Tells (progress.Refused fault) result → IfErr result (λ f. f ≡ fault)
     by (Ok end) tells = tt
     by (Err f) tells = tells
 
 module _ {K V Q S : Type 0} (asks : Q → K → Bool) (same : K → K → Bool) (hashes : S → K → ℕ) where
-  abbrev the_plan : OnKey K V Q S → Plan (Node K V) (OnKey K V Q S × Progress Stop)
+  abbrev the_plan : OnKey K V Q S → Plan (Node K V) (OnKey K V Q S × Advance Stop)
   the_plan = on_key_plan asks same hashes
 
-  step_of : (x : OnKey K V Q S) (m m2 : Mem (Node K V)) (end : OnKey K V Q S × Progress Stop) → Steps Took value_at m (the_plan x) m2 end
+  step_of : (x : OnKey K V Q S) (m m2 : Mem (Node K V)) (end : OnKey K V Q S × Advance Stop) → Steps Took value_at m (the_plan x) m2 end
       → (e : KeyCall K V Q × Called (Node K V)) × Steps Took value_at m (call_plan asks same (hashes x.hasher.now) x.call) m2 e × (end ≡ on_key_after x e)
   step_of x m m2 end s = steps_back (on_key_after x) m m2 (call_plan asks same (hashes x.hasher.now) x.call) end s
 
@@ -127,7 +127,7 @@ module _ {K V Q S : Type 0} (asks : Q → K → Bool) (same : K → K → Bool) 
     abbrev IsStill : Mem (Node K V) → OnKey K V Q S → Type 0
     IsStill m x = Undisturbed its None None false m x.call × IsToAnswer x.call.stands
 
-    abbrev IsNext : Mem (Node K V) → OnKey K V Q S → Progress Stop → Type 0
+    abbrev IsNext : Mem (Node K V) → OnKey K V Q S → Advance Stop → Type 0
     IsNext m x = NextOf (λ y n. IsStill n y) (λ y n result. IfErr result (λ fault. ⊥)) x m
 
     next_by : (x : OnKey K V Q S) (p2 : KeyCall K V Q) (m2 : Mem (Node K V)) (told : Called (Node K V)) → StaysSo its None None false m2 (p2, told) → AnswersOn (p2, told)
@@ -140,10 +140,10 @@ module _ {K V Q S : Type 0} (asks : Q → K → Bool) (same : K → K → Bool) 
     next_by x p2 m2 (called.Done answer) h yet = tt
     next_by x p2 m2 (called.Refused fault) h yet = absurd yet
 
-    on_step : (x : OnKey K V Q S) (m : Mem (Node K V)) → IsStill m x → (m2 : Mem (Node K V)) (end : OnKey K V Q S × Progress Stop) → Steps Took value_at m (the_plan x) m2 end → IsNext m2 end.0 end.1
+    on_step : (x : OnKey K V Q S) (m : Mem (Node K V)) → IsStill m x → (m2 : Mem (Node K V)) (end : OnKey K V Q S × Advance Stop) → Steps Took value_at m (the_plan x) m2 end → IsNext m2 end.0 end.1
     on_step x m h m2 end s =
         let k = step_of x m m2 end s in
-        subst (λ (y : OnKey K V Q S × Progress Stop). IsNext m2 y.0 y.1) (sym k.2)
+        subst (λ (y : OnKey K V Q S × Advance Stop). IsNext m2 y.0 y.1) (sym k.2)
         (next_by x k.0.0 m2 k.0.1 (stays_undisturbed its None None false (λ v e. absurd (cc e)) asks same (hashes x.hasher.now) x.call m m2 h.0 k.0 k.1)
         (on_point x.call m m2 k.0 asks same (hashes x.hasher.now) its x.call.stands h.0.point h.1 k.1))
 
@@ -152,11 +152,11 @@ module _ {K V Q S : Type 0} (asks : Q → K → Bool) (same : K → K → Bool) 
 
   -- One that is over tells its fault at once.
   module _ (fault : Fault) where
-    told_is : (x : OnKey K V Q S) (m m2 : Mem (Node K V)) (end : OnKey K V Q S × Progress Stop) → x.call.stands ≡ at.Over (ends.Refused fault) → Steps Took value_at m (the_plan x) m2 end → end.1 ≡ progress.Refused fault
+    told_is : (x : OnKey K V Q S) (m m2 : Mem (Node K V)) (end : OnKey K V Q S × Advance Stop) → x.call.stands ≡ at.Over (ends.Refused fault) → Steps Took value_at m (the_plan x) m2 end → end.1 ≡ progress.Refused fault
     told_is x m m2 end over_now s =
         let k = step_of x m m2 end s in
         let e = subst (λ (stands : Calling). Steps Took value_at m (plan_at asks same (hashes x.hasher.now) x.call stands) m2 k.0) over_now k.1 in
-        ap (λ (y : OnKey K V Q S × Progress Stop). y.1) (k.2 ∙ ap (on_key_after x) e.1)
+        ap (λ (y : OnKey K V Q S × Advance Stop). y.1) (k.2 ∙ ap (on_key_after x) e.1)
 
     tells_fault : (x : OnKey K V Q S) (m : Mem (Node K V)) (x2 : OnKey K V Q S) (m2 : Mem (Node K V)) (result : Result Stop Fault) → RunsTo the_plan x m x2 m2 result → x.call.stands ≡ at.Over (ends.Refused fault)
         → IfErr result (λ f. f ≡ fault)
@@ -164,7 +164,7 @@ module _ {K V Q S : Type 0} (asks : Q → K → Bool) (same : K → K → Bool) 
     tells_fault x m x2 m2 result (goes _ _ x1 m1 told on s _ _ _ runs) over_now = absurd (subst (GoesOn {A = Stop}) (told_is x m m1 (x1, told) over_now s) on)
 
 -- where it stands once it was told
-abbrev pub StandsTold : {V : Type 0} → Option ℕ → Reply V → Calling → Type 0
+abbrev pub StandsTold : {V : Type 0} → Option ℕ → MachineReply V → Calling → Type 0
 StandsTold asked (reply.Insert value) stands = Unit {0}
 StandsTold None reply.Remove stands = stands ≡ at.Over (ends.Refused RemoveNothing)
 StandsTold asked told stands = IsToAnswer stands
@@ -183,7 +183,7 @@ module _ {K V Q : Type 0} (p : KeyCall K V Q) (none : p.own ≡ 0) where
   answers_at : (answer : KeyAnswer) → IsToAnswer (ending p (ends.Answered answer)).0.stands
   answers_at answer = subst IsToAnswer (sym (ends_at (ends.Answered answer))) tt
 
-  absent_at : (kinds : Takes) (told : Reply V) (gap : Gap) → IsTaken kinds None told → StandsTold None told (absent_told kinds p gap told).0.stands
+  absent_at : (kinds : Takes) (told : MachineReply V) (gap : Gap) → IsTaken kinds None told → StandsTold None told (absent_told kinds p gap told).0.stands
   absent_at kinds (reply.Insert value) gap taken = tt
   absent_at takes.Changes reply.Remove gap taken = ends_at (ends.Refused RemoveNothing)
   absent_at takes.Changes reply.Abort gap taken = answers_at answers.Absent
@@ -192,7 +192,7 @@ module _ {K V Q : Type 0} (p : KeyCall K V Q) (none : p.own ≡ 0) where
   absent_at takes.Choices _ gap taken = absurd taken
   absent_at takes.Nothing _ gap taken = absurd taken
 
-  present_at : (kinds : Takes) (told : Reply V) (w word : ℕ) → IsTaken kinds (Some w) told → StandsTold (Some w) told (present_told kinds p word told).0.stands
+  present_at : (kinds : Takes) (told : MachineReply V) (w word : ℕ) → IsTaken kinds (Some w) told → StandsTold (Some w) told (present_told kinds p word told).0.stands
   present_at kinds (reply.Insert value) w word taken = tt
   present_at takes.Changes reply.Remove w word taken = buries_at (with_present p word tells.Removes) none word
   present_at takes.Changes reply.Abort w word taken = answers_at (answers.Found word)
@@ -203,7 +203,7 @@ module _ {K V Q : Type 0} (p : KeyCall K V Q) (none : p.own ≡ 0) where
   present_at takes.Values _ w word taken = absurd taken
   present_at takes.Nothing _ w word taken = absurd taken
 
-  asked_at : (asked : Option ℕ) (told : Reply V) (kinds : Takes) → p.replies.takes ≡ kinds → IsTaken kinds asked told → (a : Asking) → AsksFor asked (at.Asks a) → StandsTold asked told (told_at (at.Asks a) p told).0.stands
+  asked_at : (asked : Option ℕ) (told : MachineReply V) (kinds : Takes) → p.replies.takes ≡ kinds → IsTaken kinds asked told → (a : Asking) → AsksFor asked (at.Asks a) → StandsTold asked told (told_at (at.Asks a) p told).0.stands
   asked_at None told kinds is taken (asking.Absent gap) for = subst (λ (t : Takes). StandsTold None told (absent_told t p gap told).0.stands) (sym is) (absent_at kinds told gap taken)
   asked_at (Some w) told kinds is taken (asking.Present word) for = subst (λ (t : Takes). StandsTold (Some w) told (present_told t p word told).0.stands) (sym is) (present_at kinds told w word taken)
   asked_at None told kinds is taken (asking.Present word) for = absurd for
@@ -227,14 +227,14 @@ bare_own its m p (Some w) (asking.GivesUp word) for point = absurd for
 module _ {K V Q S : Type 0} (asks : Q → K → Bool) (same : K → K → Bool) (hashes : S → K → ℕ) (setting : Setting) (kind : Kind) (its : Option K) (keys : K → Bool) (xs : List (K × V))
     (x : OnKey K V Q S) (m : Mem (Node K V)) (asked : Option ℕ) (p : Pauses asks same hashes setting kind its keys xs x m asked) where
   module _ (z : OnKey K V Q S) (m2 : Mem (Node K V)) (fault : Fault) where
-    abbrev Refused : Reply V → Type 0
+    abbrev Refused : MachineReply V → Type 0
     Refused said = IsRoom fault ⊎ ((fault ≡ RemoveNothing) × ToldThis keys xs said None reply.Remove × (found_by keys xs ≡ None))
 
     for_room : (v : V) → Refused (reply.Insert v) → IsRoom fault
     for_room v (inl room) = room
     for_room v (inr removes) = absurd (let e = removes.1.1 in cc e)
 
-    refuses : (asked : Option ℕ) (said : Reply V) (q : KeyCall K V Q) → Undisturbed its (known_by asked said) (value_by said) (seeks_by asked said) m q → StandsTold asked said q.stands → Refused said
+    refuses : (asked : Option ℕ) (said : MachineReply V) (q : KeyCall K V Q) → Undisturbed its (known_by asked said) (value_by said) (seeks_by asked said) m q → StandsTold asked said q.stands → Refused said
         → RunsTo (on_key_plan asks same hashes) (record x { call = q }) m z m2 (Err fault) → MayRefuse asked said fault
     refuses None (reply.Insert v) q h stands refused runs = for_room v refused
     refuses (Some w) (reply.Insert v) q h stands refused runs = for_room v refused
@@ -247,7 +247,7 @@ module _ {K V Q S : Type 0} (asks : Q → K → Bool) (same : K → K → Bool) 
     refuses (Some w) reply.Yes q h stands refused runs = never_refused asks same hashes its (record x { call = q }) m z m2 (Err fault) runs (h, stands)
     refuses (Some w) reply.No q h stands refused runs = never_refused asks same hashes its (record x { call = q }) m z m2 (Err fault) runs (h, stands)
 
-  module _ (said : Reply V) (taken : IsTaken kind.takes asked said) where
+  module _ (said : MachineReply V) (taken : IsTaken kind.takes asked said) where
     here : x.call.stands ≡ at.Asks (s asks same hashes setting kind its keys xs x m asked p said taken).asks_at
     here = stands_is asks same hashes setting kind its keys xs x m asked p said taken
 

@@ -16,8 +16,8 @@ use Rattle.papaya_raw.specs.declared.machines.asking.Asking.{Asking}
 use Rattle.papaya_raw.specs.declared.machines.asking.Asking.TheVariants as asking
 use Rattle.papaya_raw.specs.declared.machines.asking.Gap.{Gap}
 use Rattle.papaya_raw.specs.declared.machines.asking.Gap.TheVariants as gaps
-use Rattle.papaya_raw.specs.declared.machines.asking.Reply.{Reply}
-use Rattle.papaya_raw.specs.declared.machines.asking.Reply.TheVariants as reply
+use Rattle.papaya_raw.specs.declared.machines.asking.MachineReply.{MachineReply}
+use Rattle.papaya_raw.specs.declared.machines.asking.MachineReply.TheVariants as reply
 use Rattle.papaya_raw.specs.declared.machines.asking.Takes.{Takes}
 use Rattle.papaya_raw.specs.declared.machines.asking.Takes.TheVariants as takes
 use Rattle.papaya_raw.specs.declared.machines.asking.Told.TheVariants as tells
@@ -28,24 +28,24 @@ use Rattle.owner_asks.proofs.Asks.Asks.Undisturbed.{AsksThere, AsksMissing, Asks
 
 -- what it knows to store where its key is missing, what it is to store, and whether it seeks on
 module _ {V : Type 0} where
-  abbrev pub known_by : Option ℕ → Reply V → Option V
+  abbrev pub known_by : Option ℕ → MachineReply V → Option V
   known_by None (reply.Insert value) = Some value
   known_by _ told = None
 
-  abbrev pub value_by : Reply V → Option V
+  abbrev pub value_by : MachineReply V → Option V
   value_by (reply.Insert value) = Some value
   value_by _ = None
 
-  abbrev pub seeks_by : Option ℕ → Reply V → Bool
+  abbrev pub seeks_by : Option ℕ → MachineReply V → Bool
   seeks_by None (reply.Insert value) = true
   seeks_by _ told = false
 
 -- the reply is taken
-module _ {K V Q : Type 0} (p : KeyCall K V Q) (told : Reply V) where
+module _ {K V Q : Type 0} (p : KeyCall K V Q) (told : MachineReply V) where
   taken_at : (asked : Option ℕ) (kinds : Takes) → p.replies.takes ≡ kinds → IsTaken kinds asked told → (a : Asking) → AsksFor asked (at.Asks a) → (told_at (at.Asks a) p told).1 ≡ Ok tt
   taken_at asked kinds is taken (asking.Absent gap) for = subst (λ (t : Takes). (absent_told t p gap told).1 ≡ Ok tt) (sym is) (by asked kinds told taken for)
     where
-      by : (asked : Option ℕ) (kinds : Takes) (told : Reply V) → IsTaken kinds asked told → AsksFor asked (at.Asks (asking.Absent gap)) → (absent_told kinds p gap told).1 ≡ Ok tt
+      by : (asked : Option ℕ) (kinds : Takes) (told : MachineReply V) → IsTaken kinds asked told → AsksFor asked (at.Asks (asking.Absent gap)) → (absent_told kinds p gap told).1 ≡ Ok tt
       by None takes.Values (reply.Insert value) taken for = refl
       by None takes.Changes (reply.Insert value) taken for = refl
       by None takes.Changes reply.Remove taken for = refl
@@ -58,7 +58,7 @@ module _ {K V Q : Type 0} (p : KeyCall K V Q) (told : Reply V) where
       by None takes.Changes reply.No taken for = absurd taken
       by None takes.Choices told taken for = absurd (none_chosen told taken)
         where
-          none_chosen : (told : Reply V) → IsTaken takes.Choices None told → ⊥
+          none_chosen : (told : MachineReply V) → IsTaken takes.Choices None told → ⊥
           none_chosen (reply.Insert value) taken = taken
           none_chosen reply.Remove taken = taken
           none_chosen reply.Abort taken = taken
@@ -68,7 +68,7 @@ module _ {K V Q : Type 0} (p : KeyCall K V Q) (told : Reply V) where
       by (Some word) kinds told taken for = absurd for
   taken_at asked kinds is taken (asking.Present word) for = subst (λ (t : Takes). (present_told t p word told).1 ≡ Ok tt) (sym is) (by asked kinds told taken for)
     where
-      by : (asked : Option ℕ) (kinds : Takes) (told : Reply V) → IsTaken kinds asked told → AsksFor asked (at.Asks (asking.Present word)) → (present_told kinds p word told).1 ≡ Ok tt
+      by : (asked : Option ℕ) (kinds : Takes) (told : MachineReply V) → IsTaken kinds asked told → AsksFor asked (at.Asks (asking.Present word)) → (present_told kinds p word told).1 ≡ Ok tt
       by (Some w) takes.Values (reply.Insert value) taken for = refl
       by (Some w) takes.Changes (reply.Insert value) taken for = refl
       by (Some w) takes.Changes reply.Remove taken for = refl
@@ -139,11 +139,11 @@ module _ {K V Q : Type 0} (its : Option K) (m : Mem (Node K V)) (p : KeyCall K V
     point = ((bare.0, k, key, bare.1 ∙ key, v, refl, ap (λ (b : Bool). value_told (if b then p.replies.absent else tells.Value v)) (ne_eqb word 0 some)), is);
   }
 
-  absent_so : (told : Reply V) (gap : Gap) → IsTaken kinds None told → IsBare its None p → GapIs m p gap
+  absent_so : (told : MachineReply V) (gap : Gap) → IsTaken kinds None told → IsBare its None p → GapIs m p gap
       → Undisturbed its (known_by None told) (value_by told) (seeks_by None told) m (absent_told kinds p gap told).0
   absent_so told gap taken bare empty = by kinds told has_key taken
     where
-      by : (kinds : Takes) (told : Reply V) → (kinds ≢ takes.Choices → (k : K) × (its ≡ Some k)) → IsTaken kinds None told → Undisturbed its (known_by None told) (value_by told) (seeks_by None told) m (absent_told kinds p gap told).0
+      by : (kinds : Takes) (told : MachineReply V) → (kinds ≢ takes.Choices → (k : K) × (its ≡ Some k)) → IsTaken kinds None told → Undisturbed its (known_by None told) (value_by told) (seeks_by None told) m (absent_told kinds p gap told).0
       by takes.Values (reply.Insert v) key taken = let k = key (λ e. cc e) in fills_so bare k.0 k.1 v gap empty
       by takes.Changes (reply.Insert v) key taken = let k = key (λ e. cc e) in fills_so bare k.0 k.1 v gap empty
       by takes.Changes reply.Remove key taken = ends_so bare (ends.Refused RemoveNothing) bare
@@ -161,11 +161,11 @@ module _ {K V Q : Type 0} (its : Option K) (m : Mem (Node K V)) (p : KeyCall K V
       by takes.Choices reply.No key taken = absurd taken
       by takes.Nothing told key taken = absurd taken
 
-  present_so : (told : Reply V) (w word : ℕ) → IsTaken kinds (Some w) told → IsBare its None p → word ≢ 0 → WordIs m p word
+  present_so : (told : MachineReply V) (w word : ℕ) → IsTaken kinds (Some w) told → IsBare its None p → word ≢ 0 → WordIs m p word
       → Undisturbed its (known_by (Some w) told) (value_by told) (seeks_by (Some w) told) m (present_told kinds p word told).0
   present_so told w word taken bare some is = by kinds told has_key taken
     where
-      by : (kinds : Takes) (told : Reply V) → (kinds ≢ takes.Choices → (k : K) × (its ≡ Some k)) → IsTaken kinds (Some w) told → Undisturbed its (known_by (Some w) told) (value_by told) (seeks_by (Some w) told) m (present_told kinds p word told).0
+      by : (kinds : Takes) (told : MachineReply V) → (kinds ≢ takes.Choices → (k : K) × (its ≡ Some k)) → IsTaken kinds (Some w) told → Undisturbed its (known_by (Some w) told) (value_by told) (seeks_by (Some w) told) m (present_told kinds p word told).0
       by takes.Values (reply.Insert v) key taken = let k = key (λ e. cc e) in replaces_so bare k.0 k.1 v word some is
       by takes.Changes (reply.Insert v) key taken = let k = key (λ e. cc e) in replaces_so bare k.0 k.1 v word some is
       by takes.Changes reply.Remove key taken = buries_so (with_present p word tells.Removes) bare.0 refl refl word is
@@ -183,7 +183,7 @@ module _ {K V Q : Type 0} (its : Option K) (m : Mem (Node K V)) (p : KeyCall K V
       by takes.Choices reply.Abort key taken = absurd taken
       by takes.Nothing told key taken = absurd taken
 
-  asked_so : (told : Reply V) (asked : Option ℕ) → IsTaken kinds asked told → (a : Asking) → AsksFor asked (at.Asks a) → ((word : ℕ) → asked ≡ Some word → word ≢ 0) → UndisturbedAt its None None true m p (at.Asks a)
+  asked_so : (told : MachineReply V) (asked : Option ℕ) → IsTaken kinds asked told → (a : Asking) → AsksFor asked (at.Asks a) → ((word : ℕ) → asked ≡ Some word → word ≢ 0) → UndisturbedAt its None None true m p (at.Asks a)
       → Undisturbed its (known_by asked told) (value_by told) (seeks_by asked told) m (told_at (at.Asks a) p told).0
   asked_so told None taken (asking.Absent gap) for some point =
       subst (λ (t : Takes). Undisturbed its (known_by None told) (value_by told) (seeks_by None told) m (absent_told t p gap told).0) (sym takes_is) (absent_so told gap taken point.1 point.3)
@@ -197,7 +197,7 @@ module _ {K V Q : Type 0} (its : Option K) (m : Mem (Node K V)) (p : KeyCall K V
   asked_so told None taken (asking.GivesUp word) for some point = absurd for
   asked_so told (Some w) taken (asking.GivesUp word) for some point = absurd for
 
-  pub replied_undisturbed : (told : Reply V) (asked : Option ℕ) → IsTaken kinds asked told → (a : Asking) → p.stands ≡ at.Asks a → AsksFor asked (at.Asks a) → ((word : ℕ) → asked ≡ Some word → word ≢ 0)
+  pub replied_undisturbed : (told : MachineReply V) (asked : Option ℕ) → IsTaken kinds asked told → (a : Asking) → p.stands ≡ at.Asks a → AsksFor asked (at.Asks a) → ((word : ℕ) → asked ≡ Some word → word ≢ 0)
       → Undisturbed its (known_by asked told) (value_by told) (seeks_by asked told) m (replied p told).0
   replied_undisturbed told asked taken a stands for some =
       subst (λ x. Undisturbed its (known_by asked told) (value_by told) (seeks_by asked told) m (told_at x p told).0) (sym stands)

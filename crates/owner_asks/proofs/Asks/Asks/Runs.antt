@@ -4,7 +4,7 @@ use Rattle.std.proofs.Common.{◌≡◌, ap, inl, inr}
 use Rattle.seize_words.specs.OneMemory.Mem.{Mem, Took, value_at}
 use Rattle.seize_words.specs.OneMemory.Plan.{Plan, Steps}
 use Rattle.seize_words.specs.declared.fault.Fault.{Fault}
-use Rattle.map_tables.specs.Given.SeizeDeclared.progress.Progress.{Progress}
+use Rattle.map_tables.specs.Given.SeizeDeclared.advance.Advance.{Advance}
 use Rattle.map_tables.specs.declared.node.Node.{Node}
 use Rattle.map_tables.specs.declared.node.Node.TheVariants as node
 use Rattle.papaya_raw.specs.Call.{call_plan}
@@ -45,7 +45,7 @@ module _ {K V Q S : Type 0} (its : Option K) (known value : Option V) (seeks : B
   HasCome m x (Err fault) = HandedOut x ⊎ InHand x
 
   -- where a step leads, by what the machine tells
-  abbrev IsNextSo : Mem (Node K V) → OnKey K V Q S → Progress Stop → Type 0
+  abbrev IsNextSo : Mem (Node K V) → OnKey K V Q S → Advance Stop → Type 0
   IsNextSo m x = NextOf (λ y n. IsStillSo n y) (λ y n result. HasCome n y result) x m
 
   next_by : (x : OnKey K V Q S) (p2 : KeyCall K V Q) (m2 : Mem (Node K V)) (told : Called (Node K V)) → x.unstored ≡ None → StaysSo its known value seeks m2 (p2, told)
@@ -69,7 +69,7 @@ module _ {K V Q S : Type 0} (its : Option K) (known value : Option V) (seeks : B
   out_by x p2 m2 (called.Refused fault) end out = inl out
 
   module _ (has_key : (v : V) → known ≡ Some v → (value ≡ Some v) × (k : K) × (its ≡ Some k)) (asks : Q → K → Bool) (same : K → K → Bool) (hashes : S → K → ℕ) where
-    abbrev the_plan : OnKey K V Q S → Plan (Node K V) (OnKey K V Q S × Progress Stop)
+    abbrev the_plan : OnKey K V Q S → Plan (Node K V) (OnKey K V Q S × Advance Stop)
     the_plan = on_key_plan asks same hashes
 
     on_step : (x : OnKey K V Q S) (m m2 : Mem (Node K V)) → IsStillSo m x → (e : KeyCall K V Q × Called (Node K V)) → Steps Took value_at m (call_plan asks same (hashes x.hasher.now) x.call) m2 e
@@ -77,7 +77,7 @@ module _ {K V Q S : Type 0} (its : Option K) (known value : Option V) (seeks : B
     on_step x m m2 (inl (over, out)) e s = out_by x e.0 m2 e.1 (over_tells asks same (hashes x.hasher.now) x.call m m2 e x.call.stands over s) out
     on_step x m m2 (inr (none, h)) e s = next_by x e.0 m2 e.1 none (stays_undisturbed its known value seeks has_key asks same (hashes x.hasher.now) x.call m m2 h e s)
 
-    on_machine : (x : OnKey K V Q S) (m : Mem (Node K V)) → IsStillSo m x → (m2 : Mem (Node K V)) (end : OnKey K V Q S × Progress Stop) → Steps Took value_at m (the_plan x) m2 end → IsNextSo m2 end.0 end.1
+    on_machine : (x : OnKey K V Q S) (m : Mem (Node K V)) → IsStillSo m x → (m2 : Mem (Node K V)) (end : OnKey K V Q S × Advance Stop) → Steps Took value_at m (the_plan x) m2 end → IsNextSo m2 end.0 end.1
     on_machine x m h m2 end s =
         next_turned (λ y n. IsStillSo n y) (λ y n result. HasCome n y result) (on_key_after x) m m2 (call_plan asks same (hashes x.hasher.now) x.call) (on_step x m m2 h) end s
 

@@ -5,29 +5,29 @@ use Rattle.papaya_raw.specs.declared.machines.answer.Missing.{Missing}
 use Rattle.papaya_raw.specs.declared.machines.answer.Missing.TheVariants as missing
 use Rattle.papaya_raw.specs.declared.machines.answer.There.{There}
 use Rattle.papaya_raw.specs.declared.machines.answer.There.TheVariants as there
-use Rattle.papaya_raw.specs.declared.machines.asking.Reply.{Reply}
-use Rattle.papaya_raw.specs.declared.machines.asking.Reply.TheVariants as reply
+use Rattle.papaya_raw.specs.declared.machines.asking.MachineReply.{MachineReply}
+use Rattle.papaya_raw.specs.declared.machines.asking.MachineReply.TheVariants as reply
 use Rattle.papaya_raw.specs.declared.machines.asking.Takes.{Takes}
 use Rattle.papaya_raw.specs.declared.machines.asking.Takes.TheVariants as takes
 use Rattle.owner_calls.specs.Given.CallersAsked.{Asked, last_told, LeavesPair, LeavesNone}
 use Rattle.owner_asks.specs.Asks.Asking.{meant}
 
 -- the only thing that it was told, about this
-module _ {V : Type 0} (told : Reply V) where
+module _ {V : Type 0} (told : MachineReply V) where
   abbrev pub only : Option ℕ → List (Asked V)
   only about = record { about = about; told = told } ∷ []
 
-  if_told : (b : Bool) (other : Reply V) → (if b then Some told else None) ≡ Some other → told ≡ other
+  if_told : (b : Bool) (other : MachineReply V) → (if b then Some told else None) ≡ Some other → told ≡ other
   if_told true other e = cc e
   if_told false other e = absurd (cc e)
 
-  told_pair : (n o : ℕ) (other : Reply V) → last_told (Some o) (only (Some n)) ≡ Some other → told ≡ other
+  told_pair : (n o : ℕ) (other : MachineReply V) → last_told (Some o) (only (Some n)) ≡ Some other → told ≡ other
   told_pair n o other e = if_told (n == o) other e
 
-  told_none : (other : Reply V) → last_told None (only None) ≡ Some other → told ≡ other
+  told_none : (other : MachineReply V) → last_told None (only None) ≡ Some other → told ≡ other
   told_none other e = cc e
 
-  means : (other : Reply V) → told ≡ other → meant other ≡ meant told
+  means : (other : MachineReply V) → told ≡ other → meant other ≡ meant told
   means other e = ap meant (sym e)
 
   -- what it has stored, removed or left, it was told so

@@ -8,8 +8,8 @@ use Rattle.seize_words.specs.OneMemory.Word.{block_in}
 use Rattle.seize_words.specs.OneMemory.Mem.{Mem, word_at, word_in, block_of, fresh, IsFreeNumber, after}
 use Rattle.seize_words.specs.OneMemory.Op.{Make, Made}
 use Rattle.seize_words.proofs.OneMemory.OneOwner.AfterWrites.{block_of-made}
-use Rattle.map_tables.specs.Given.SeizeDeclared.progress.Progress.{Progress}
-use Rattle.map_tables.specs.Given.SeizeDeclared.progress.Progress.TheVariants as progress
+use Rattle.map_tables.specs.Given.SeizeDeclared.advance.Advance.{Advance}
+use Rattle.map_tables.specs.Given.SeizeDeclared.advance.Advance.TheVariants as progress
 use Rattle.map_tables.specs.Given.SeizeDeclared.rows.settle.Settled.{Settled}
 use Rattle.map_tables.specs.Given.SeizeDeclared.rows.settle.Settled.TheVariants as settled
 use Rattle.papaya_raw.specs.Call.{first_made, next_made, disposed, helped, copied}
@@ -32,8 +32,8 @@ use Rattle.owner_calls.specs.Given.ResizeDispose.{disposing}
 use Rattle.owner_calls.specs.Given.ResizeDeclared.copier.Copier.{Copier}
 use Rattle.owner_calls.specs.Given.ResizeDeclared.dispose.Dispose.{Dispose}
 use Rattle.owner_calls.specs.Given.ResizeDeclared.new_table.NewTable.{NewTable}
-use Rattle.owner_calls.specs.Given.ResizeDeclared.outcome.Outcome.{Outcome}
-use Rattle.owner_calls.specs.Given.ResizeDeclared.outcome.Outcome.TheVariants as outcome
+use Rattle.owner_calls.specs.Given.ResizeDeclared.yielding.Yielding.{Yielding}
+use Rattle.owner_calls.specs.Given.ResizeDeclared.yielding.Yielding.TheVariants as outcome
 use Rattle.papaya_raw.specs.declared.machines.answer.KeyAnswer.{KeyAnswer}
 use Rattle.papaya_raw.specs.declared.machines.answer.KeyAnswer.TheVariants as answers
 use Rattle.papaya_raw.specs.declared.machines.answer.Called.{Called}
@@ -295,26 +295,26 @@ module _ {K V Q : Type 0} (its : Option K) (known value : Option V) (seeks : Boo
             (goes_on (at.Copies (copying_all p.setting p.trial.table table)) (seek, bare))
 
         -- what machines within it tell
-        pub stays_first : (end : NewTable × Progress Table) → So (first_made p end)
+        pub stays_first : (end : NewTable × Advance Table) → So (first_made p end)
         stays_first (n, progress.Goes) = goes_on (at.Firsts n) (seek, bare)
         stays_first (n, progress.Waits) = goes_on (at.Firsts n) (seek, bare)
         stays_first (n, progress.Done table) = stays_entering table
         stays_first (n, progress.Refused fault) = stays_ending (ends.Refused fault)
 
-        pub stays_next : (end : NewTable × Progress Table) → So (next_made p end)
+        pub stays_next : (end : NewTable × Advance Table) → So (next_made p end)
         stays_next (n, progress.Goes) = goes_on (at.Allocs n) (seek, bare)
         stays_next (n, progress.Waits) = goes_on (at.Allocs n) (seek, bare)
         stays_next (n, progress.Done table) = stays_on table
         stays_next (n, progress.Refused fault) = stays_ending (ends.Refused fault)
 
-        pub stays_helped : (goal : Table) (end : Copier × Outcome (Node K V) Table) → So (helped p goal end)
+        pub stays_helped : (goal : Table) (end : Copier × Yielding (Node K V) Table) → So (helped p goal end)
         stays_helped goal (copier, outcome.Goes) = goes_on (at.Helps copier goal) (seek, bare)
         stays_helped goal (copier, outcome.Waits) = goes_on (at.Helps copier goal) (seek, bare)
         stays_helped goal (copier, outcome.Gave value) = goes_on (at.Helps copier goal) (seek, bare)
         stays_helped goal (copier, outcome.Done table) = stays_entering goal
         stays_helped goal (copier, outcome.Refused fault) = stays_ending (ends.Refused fault)
 
-        pub stays_copied : (end : Copier × Outcome (Node K V) Table) → So (copied p end)
+        pub stays_copied : (end : Copier × Yielding (Node K V) Table) → So (copied p end)
         stays_copied (copier, outcome.Goes) = goes_on (at.Copies copier) (seek, bare)
         stays_copied (copier, outcome.Waits) = goes_on (at.Copies copier) (seek, bare)
         stays_copied (copier, outcome.Gave value) = goes_on (at.Copies copier) (seek, bare)

@@ -42,8 +42,8 @@ use Rattle.papaya_raw.specs.declared.machines.answer.There.{There}
 use Rattle.papaya_raw.specs.declared.machines.answer.There.TheVariants as there
 use Rattle.papaya_raw.specs.declared.machines.asking.Asking.TheVariants as asking
 use Rattle.papaya_raw.specs.declared.machines.asking.Replies.{Replies}
-use Rattle.papaya_raw.specs.declared.machines.asking.Reply.{Reply}
-use Rattle.papaya_raw.specs.declared.machines.asking.Reply.TheVariants as reply
+use Rattle.papaya_raw.specs.declared.machines.asking.MachineReply.{MachineReply}
+use Rattle.papaya_raw.specs.declared.machines.asking.MachineReply.TheVariants as reply
 use Rattle.papaya_raw.specs.declared.machines.asking.Takes.{Takes}
 use Rattle.papaya_raw.specs.declared.machines.asking.Takes.TheVariants as takes
 use Rattle.papaya_raw.specs.declared.machines.asking.Told.{Told}
@@ -270,7 +270,7 @@ module _ (setting : Setting) (link : ℕ) where
 
     -- whatever it is told
     module _ (p : KeyCall K V Q) (s0 : IsSteady p) where
-      chosen_so : (kind : Takes) → (kind ≡ takes.Nothing) ⊎ (kind ≡ takes.Choices) → AtTable p.trial.table → (word : ℕ) (told : Reply V) → IsSteady (present_told kind p word told).0
+      chosen_so : (kind : Takes) → (kind ≡ takes.Nothing) ⊎ (kind ≡ takes.Choices) → AtTable p.trial.table → (word : ℕ) (told : MachineReply V) → IsSteady (present_told kind p word told).0
       chosen_so takes.Nothing is t word told = s0
       chosen_so takes.Choices is t word reply.Yes = (burying_so p s0.0 t word).0
       chosen_so takes.Choices is t word reply.No = (ending_so p s0.0 (answers.Found word)).0
@@ -280,7 +280,7 @@ module _ (setting : Setting) (link : ℕ) where
       chosen_so takes.Values is t word told = absurd (elim is as (λ _. ⊥) [ inl e ↦ cc e | inr e ↦ cc e ])
       chosen_so takes.Changes is t word told = absurd (elim is as (λ _. ⊥) [ inl e ↦ cc e | inr e ↦ cc e ])
 
-      pub told_steady : (told : Reply V) → IsSteady (replied p told).0
+      pub told_steady : (told : MachineReply V) → IsSteady (replied p told).0
       told_steady told = by p.stands s0.1
         where
           by : (stands : Calling) → StandsSo p.trial.table stands → IsSteady (told_at stands p told).0

@@ -1,7 +1,7 @@
 -- It begins, and comes to what it was told.
 use Rattle.std.specs.Prelude.{[], Some}
 use Rattle.std.proofs.Common.{refl, inl, subst}
-use Rattle.papaya_raw.specs.declared.machines.asking.Reply.TheVariants as reply
+use Rattle.papaya_raw.specs.declared.machines.asking.MachineReply.TheVariants as reply
 use Rattle.owner_calls.specs.Given.CallersKind.{computes}
 use Rattle.owner_calls.specs.Given.CallersPairs.{IsTold}
 use Rattle.owner_asks.specs.Asks.Closures.{ComesTo, ComputesAs, Computing}

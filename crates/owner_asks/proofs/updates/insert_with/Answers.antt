@@ -2,7 +2,7 @@
 use Rattle.std.specs.Fn.{FnOnceReturns}
 use Rattle.std.specs.Prelude.{Some, None}
 use Rattle.std.proofs.Common.{◌∙◌, ap, refl, inl}
-use Rattle.papaya_raw.specs.declared.machines.asking.Reply.TheVariants as reply
+use Rattle.papaya_raw.specs.declared.machines.asking.MachineReply.TheVariants as reply
 use Rattle.owner_calls.specs.Given.CallersKind.{tries_to_insert_with}
 use Rattle.owner_asks.specs.Asks.Closures.{Storing}
 use Rattle.owner_calls.specs.Owned.Owned.{hashed_by}

@@ -2,7 +2,7 @@
 use Rattle.std.specs.Prelude.{None}
 use Rattle.std.proofs.Common.{refl, sym, subst}
 use Rattle.owner_asks.specs.Asks.Asking.{IsTaken}
-use Rattle.papaya_raw.specs.declared.machines.asking.Reply.TheVariants as reply
+use Rattle.papaya_raw.specs.declared.machines.asking.MachineReply.TheVariants as reply
 use Rattle.owner_asks.proofs.updates.stored.Goals as goal
 
 pub pair_of-key-requires : goal.pair_of-key-requires

@@ -2,7 +2,7 @@
 use Rattle.std.specs.Fn.{FnOnceReturnsAt}
 use Rattle.std.specs.Prelude.{Some}
 use Rattle.std.proofs.Common.{◌∙◌, ap, refl, inl}
-use Rattle.papaya_raw.specs.declared.machines.asking.Reply.TheVariants as reply
+use Rattle.papaya_raw.specs.declared.machines.asking.MachineReply.TheVariants as reply
 use Rattle.owner_calls.specs.Given.CallersKind.{updates}
 use Rattle.owner_asks.specs.Asks.Closures.{Updating}
 use Rattle.owner_calls.specs.Owned.Owned.{hashed_by}

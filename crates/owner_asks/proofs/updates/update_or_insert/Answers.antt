@@ -2,7 +2,7 @@
 use Rattle.std.specs.Fn.{FnOnceReturnsAt}
 use Rattle.std.specs.Prelude.{[], Some, None}
 use Rattle.std.proofs.Common.{◌≡◌, ◌∙◌, ap, refl, inl, subst}
-use Rattle.papaya_raw.specs.declared.machines.asking.Reply.TheVariants as reply
+use Rattle.papaya_raw.specs.declared.machines.asking.MachineReply.TheVariants as reply
 use Rattle.owner_calls.specs.Given.CallersKind.{updates_or_inserts}
 use Rattle.owner_calls.specs.Given.CallersPairs.{IsTold}
 use Rattle.owner_asks.specs.Asks.Closures.{ComesTo, UpdatingOrStoring}

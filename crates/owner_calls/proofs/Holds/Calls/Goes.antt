@@ -4,8 +4,8 @@ use Rattle.std.proofs.Common.{◌≡◌, ◌≢◌, ℕ, Bool, true, false, ◌�
 use Rattle.std.proofs.lemmas.Bool.{eqb-false}
 use Rattle.seize_words.specs.OneMemory.Op.{Out, Found, Stored, Exchanged, Made, Taken, Roomed}
 use Rattle.seize_words.specs.OneMemory.Word.{block_in}
-use Rattle.seize.specs.declared.progress.Progress.{Progress}
-use Rattle.seize.specs.declared.progress.Progress.TheVariants as progress
+use Rattle.seize.specs.declared.advance.Advance.{Advance}
+use Rattle.seize.specs.declared.advance.Advance.TheVariants as progress
 use Rattle.seize.specs.declared.rows.settle.Settled.{Settled}
 use Rattle.seize.specs.declared.rows.settle.Settled.TheVariants as settled
 use Rattle.map_tables.specs.Chunks.{is_incremental}
@@ -22,8 +22,8 @@ use Rattle.map_straight.specs.Given.ResizeDeclared.copier.Copier.{Copier}
 use Rattle.map_straight.specs.Given.ResizeDeclared.dispose.Dispose.{Dispose}
 use Rattle.map_straight.specs.Given.ResizeDeclared.lookup.Lookup.{Lookup}
 use Rattle.map_straight.specs.Given.ResizeDeclared.new_table.NewTable.{NewTable}
-use Rattle.map_straight.specs.Given.ResizeDeclared.outcome.Outcome.{Outcome}
-use Rattle.map_straight.specs.Given.ResizeDeclared.outcome.Outcome.TheVariants as outcome
+use Rattle.map_straight.specs.Given.ResizeDeclared.yielding.Yielding.{Yielding}
+use Rattle.map_straight.specs.Given.ResizeDeclared.yielding.Yielding.TheVariants as outcome
 use Rattle.papaya_raw.specs.Answers.{ended}
 use Rattle.papaya_raw.specs.Call.{root_found, next_found, key_read, pair_read, word_read, word_found, tried, looked, first_made, next_made, disposed, helped, copied}
 use Rattle.papaya_raw.specs.CallPoints.{going, standing, over, ending, following_made, storing, burying, at_gap, gap_by, asking_at, pair_by, tableless, at_free, at_last, at_pair, told_of, entering, went_on, changed, counted, having_met}
@@ -209,33 +209,33 @@ module _ {K V Q : Type 0} where
         ]))
 
     -- what machines within it tell
-    pub looked_so : p.own ≡ 0 → (end : Lookup × Progress (Option ℕ)) → GoesWith p.own (looked p end)
+    pub looked_so : p.own ≡ 0 → (end : Lookup × Advance (Option ℕ)) → GoesWith p.own (looked p end)
     looked_so none (l, progress.Goes) = on_to (at.Looks l) none
     looked_so none (l, progress.Waits) = waiting (at.Looks l) none
     looked_so none (l, progress.Done (Some found)) = over_so (ends.Answered (answers.Found found)) none
     looked_so none (l, progress.Done None) = over_so (ends.Answered answers.Absent) none
     looked_so none (l, progress.Refused fault) = over_so (ends.Refused fault) none
 
-    pub first_so : (end : NewTable × Progress Table) → GoesWith p.own (first_made p end)
+    pub first_so : (end : NewTable × Advance Table) → GoesWith p.own (first_made p end)
     first_so (n, progress.Goes) = on_to (at.Firsts n) tt
     first_so (n, progress.Waits) = waiting (at.Firsts n) tt
     first_so (n, progress.Done table) = entering_so table
     first_so (n, progress.Refused fault) = ending_so (ends.Refused fault) tt
 
-    pub next_so : (end : NewTable × Progress Table) → GoesWith p.own (next_made p end)
+    pub next_so : (end : NewTable × Advance Table) → GoesWith p.own (next_made p end)
     next_so (n, progress.Goes) = on_to (at.Allocs n) tt
     next_so (n, progress.Waits) = waiting (at.Allocs n) tt
     next_so (n, progress.Done table) = on_so table
     next_so (n, progress.Refused fault) = ending_so (ends.Refused fault) tt
 
-    pub helped_so : (goal : Table) (end : Copier × Outcome (Node K V) Table) → GoesWith p.own (helped p goal end)
+    pub helped_so : (goal : Table) (end : Copier × Yielding (Node K V) Table) → GoesWith p.own (helped p goal end)
     helped_so goal (c, outcome.Goes) = on_to (at.Helps c goal) tt
     helped_so goal (c, outcome.Waits) = waiting (at.Helps c goal) tt
     helped_so goal (c, outcome.Gave value) = giving (at.Helps c goal) value tt
     helped_so goal (c, outcome.Done table) = entering_so goal
     helped_so goal (c, outcome.Refused fault) = ending_so (ends.Refused fault) tt
 
-    pub copied_so : (end : Copier × Outcome (Node K V) Table) → GoesWith p.own (copied p end)
+    pub copied_so : (end : Copier × Yielding (Node K V) Table) → GoesWith p.own (copied p end)
     copied_so (c, outcome.Goes) = on_to (at.Copies c) tt
     copied_so (c, outcome.Waits) = waiting (at.Copies c) tt
     copied_so (c, outcome.Gave value) = giving (at.Copies c) value tt

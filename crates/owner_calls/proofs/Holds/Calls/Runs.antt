@@ -7,8 +7,8 @@ use Rattle.seize_words.specs.OneMemory.Word.{block_in}
 use Rattle.seize_words.specs.declared.fault.Fault.{Fault}
 use Rattle.seize_words.specs.declared.fault.Fault.TheVariants.{RemoveNothing}
 use Rattle.seize_words.proofs.OneMemory.Plans.{may_as}
-use Rattle.seize.specs.declared.progress.Progress.{Progress}
-use Rattle.seize.specs.declared.progress.Progress.TheVariants as progress
+use Rattle.seize.specs.declared.advance.Advance.{Advance}
+use Rattle.seize.specs.declared.advance.Advance.TheVariants as progress
 use Rattle.map_straight.proofs.Given.SeizeRuleRows.Leaving.{steps_back}
 use Rattle.map_tables.specs.declared.node.Node.{Node}
 use Rattle.papaya_raw.specs.Call.{call_plan}
@@ -22,8 +22,8 @@ use Rattle.papaya_raw.specs.declared.machines.answer.KeyAnswer.TheVariants as an
 use Rattle.papaya_raw.specs.declared.machines.answer.There.TheVariants as there
 use Rattle.papaya_raw.specs.declared.machines.asking.Asking.TheVariants as asking
 use Rattle.papaya_raw.specs.declared.machines.asking.Gap.{Gap}
-use Rattle.papaya_raw.specs.declared.machines.asking.Reply.{Reply}
-use Rattle.papaya_raw.specs.declared.machines.asking.Reply.TheVariants as reply
+use Rattle.papaya_raw.specs.declared.machines.asking.MachineReply.{MachineReply}
+use Rattle.papaya_raw.specs.declared.machines.asking.MachineReply.TheVariants as reply
 use Rattle.papaya_raw.specs.declared.machines.asking.Takes.{Takes}
 use Rattle.papaya_raw.specs.declared.machines.asking.Takes.TheVariants as takes
 use Rattle.papaya_raw.specs.declared.machines.asking.Told.TheVariants as tells
@@ -85,7 +85,7 @@ module _ {K V : Type 0} (m0 m : Mem (Node K V)) (own : ℕ) (only : (b : ℕ) (x
 
 module _ {K V Q S : Type 0} (m0 m : Mem (Node K V)) where
   -- where a step of the machine leads
-  abbrev Next : OnKey K V Q S × Progress Stop → Type 0
+  abbrev Next : OnKey K V Q S × Advance Stop → Type 0
   Next (x, progress.Done (stop.Answered answer)) = CameBy m0 m answer
   Next (x, progress.Done (stop.Asks asked)) = HasCome m0 m x.call
   Next (x, progress.Refused fault) = NoneCame m0 m
@@ -100,7 +100,7 @@ module _ {K V Q S : Type 0} (m0 m : Mem (Node K V)) where
   next_by x (called.Done answer) owns so only = answered m0 m x.call.own only answer so
   next_by x (called.Refused fault) owns so only = none_so m0 m x.call.own only so
 
-  stopped : (x : OnKey K V Q S) (told : Progress Stop) (result : Result Stop Fault) → Next (x, told) → Tells told result → ComesWith m0 m x result
+  stopped : (x : OnKey K V Q S) (told : Advance Stop) (result : Result Stop Fault) → Next (x, told) → Tells told result → ComesWith m0 m x result
   stopped x (progress.Done a) (Ok b) next tells = subst (λ (z : Stop). ComesWith m0 m x (Ok z)) (sym tells) (by a next)
     where
       by : (a : Stop) → Next (x, progress.Done a) → ComesWith m0 m x (Ok a)
@@ -114,14 +114,14 @@ module _ {K V Q S : Type 0} (m0 m : Mem (Node K V)) where
   stopped x progress.Waits (Ok b) next tells = absurd tells
   stopped x progress.Waits (Err g) next tells = absurd tells
 
-  goes_on : (x : OnKey K V Q S) (told : Progress Stop) → GoesOn told → Next (x, told) → HasCome m0 m x.call
+  goes_on : (x : OnKey K V Q S) (told : Advance Stop) → GoesOn told → Next (x, told) → HasCome m0 m x.call
   goes_on x progress.Goes on next = next
   goes_on x progress.Waits on next = next
   goes_on x (progress.Done a) on next = absurd on
   goes_on x (progress.Refused f) on next = absurd on
 
 module _ (K V Q S : Type 0) (asks : Q → K → Bool) (same : K → K → Bool) (hashes : S → K → ℕ) (m0 : Mem (Node K V)) where
-  next_of : (x : OnKey K V Q S) (m : Mem (Node K V)) → HasCome m0 m x.call → Ends (on_key_plan asks same hashes) x m → (m2 : Mem (Node K V)) (end : OnKey K V Q S × Progress Stop)
+  next_of : (x : OnKey K V Q S) (m : Mem (Node K V)) → HasCome m0 m x.call → Ends (on_key_plan asks same hashes) x m → (m2 : Mem (Node K V)) (end : OnKey K V Q S × Advance Stop)
       → Steps Took value_at m (on_key_plan asks same hashes x) m2 end → Next m0 m2 end
   next_of x m h last m2 end s =
       let d = steps_back (on_key_after x) m m2 (call_plan asks same (hashes x.hasher.now) x.call) end s in
@@ -155,7 +155,7 @@ module _ {K V Q : Type 0} (p : KeyCall K V Q) (o : Owns p) where
       point = here r kind stands;
     }
 
-    absent_so : (t : Takes) (gap : Gap) (told : Reply V) → Stays (absent_told t p gap told).0
+    absent_so : (t : Takes) (gap : Gap) (told : MachineReply V) → Stays (absent_told t p gap told).0
     absent_so takes.Values gap (reply.Insert value) = let r = with_absent p value in let g = gap_so r (with_told r refl refl refl refl) some gap in (g.0, g.2)
     absent_so takes.Changes gap (reply.Insert value) = let r = with_absent p value in let g = gap_so r (with_told r refl refl refl refl) some gap in (g.0, g.2)
     absent_so takes.Changes gap reply.Remove = let g = ending_so p o (ends.Refused RemoveNothing) tt in (g.0, g.2)
@@ -172,7 +172,7 @@ module _ {K V Q : Type 0} (p : KeyCall K V Q) (o : Owns p) where
     filling : (word : ℕ) (value : V) → Stays (standing (with_present p word (tells.Value value)) (at.Asks (asking.Fills word)))
     filling word value = (record { code = o.code; live = o.live; removes = o.removes; point = some }, refl)
 
-    present_so : (t : Takes) (word : ℕ) (told : Reply V) → Stays (present_told t p word told).0
+    present_so : (t : Takes) (word : ℕ) (told : MachineReply V) → Stays (present_told t p word told).0
     present_so takes.Values word (reply.Insert value) = filling word value
     present_so takes.Changes word (reply.Insert value) = filling word value
     present_so takes.Changes word reply.Remove = let r = with_present p word tells.Removes in let g = burying_so r (with_told r refl refl refl refl) some word in (g.0, g.2)
@@ -193,7 +193,7 @@ module _ {K V Q : Type 0} (p : KeyCall K V Q) (o : Owns p) where
   asks_at : (stands : Calling) → p.stands ≡ stands → ((r : KeyCall K V Q) → r.there ≡ p.there → OwnsAt r stands) → (r : KeyCall K V Q) → r.there ≡ p.there → r.stands ≡ p.stands → OwnsAt r r.stands
   asks_at stands is so r kind here = subst (OwnsAt r) (sym (here ∙ is)) (so r kind)
 
-  pub told_so : (stands : Calling) → p.stands ≡ stands → OwnsAt p stands → (told : Reply V) → Stays (told_at stands p told).0
+  pub told_so : (stands : Calling) → p.stands ≡ stands → OwnsAt p stands → (told : MachineReply V) → Stays (told_at stands p told).0
   told_so (at.Asks (asking.Absent gap)) is some told =
       absent_so some (asks_at (at.Asks (asking.Absent gap)) is (λ r kind e. some (sym kind ∙ e))) p.replies.takes gap told
   told_so (at.Asks (asking.Present word)) is some told =
@@ -215,7 +215,7 @@ module _ {K V Q : Type 0} (p : KeyCall K V Q) (o : Owns p) where
   told_so (at.Drops end) is some told = as_it_is
   told_so (at.Over end) is some told = as_it_is
 
-pub replies_keep_own : {K V Q : Type 0} (p : KeyCall K V Q) → Owns p → (told : Reply V) → (replied p told).0.own ≡ p.own
+pub replies_keep_own : {K V Q : Type 0} (p : KeyCall K V Q) → Owns p → (told : MachineReply V) → (replied p told).0.own ≡ p.own
 replies_keep_own p o told = (told_so p o p.stands refl o.point told).1
 
 pub replies_put_none : (K V Q : Type 0) → RepliesPutNone K V Q

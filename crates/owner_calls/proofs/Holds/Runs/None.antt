@@ -4,7 +4,7 @@ use Rattle.seize_words.specs.OneMemory.Mem.{Mem}
 use Rattle.seize_words.specs.OneMemory.Plan.{Plan}
 use Rattle.seize_words.specs.declared.fault.Fault.{Fault}
 use Rattle.seize.specs.Leave.{leave_plan}
-use Rattle.seize.specs.declared.progress.Progress.{Progress}
+use Rattle.seize.specs.declared.advance.Advance.{Advance}
 use Rattle.map_tables.specs.Nodes.{deferred_word}
 use Rattle.map_tables.specs.declared.node.Node.{Node}
 use Rattle.map_straight.specs.Given.ResizeNewMap.{new_map_plan}
@@ -19,7 +19,7 @@ use Rattle.owner_calls.specs.Holds.Promises.{RoomsPutNone, SweepsPutNone, Refres
 use Rattle.owner_calls.proofs.Holds.Runs.Machines.{leave_puts, reserve_puts, sweep_puts, map_puts}
 use Rattle.owner_calls.proofs.Holds.Runs.Puts.{PutsNoneBy, puts_as, puts_none}
 
-module _ {K V X A : Type 0} (plan : X → Plan (Node K V) (X × Progress A)) (none : (x : X) → PutsNoneBy (plan x)) where
+module _ {K V X A : Type 0} (plan : X → Plan (Node K V) (X × Advance A)) (none : (x : X) → PutsNoneBy (plan x)) where
   pub runs_put_none : (x : X) (m : Mem (Node K V)) → Ends plan x m → (x2 : X) (m2 : Mem (Node K V)) (result : Result A Fault) → RunsTo plan x m x2 m2 result → NoneCame m m2
   runs_put_none x m ends x2 m2 result (stops _ _ _ _ told _ s tells) b y there = puts_none m m2 (plan x) (x2, told) (none x) (may_step plan x m ends) s b y there
   runs_put_none x m ends x2 m2 result (goes _ _ x1 m1 told on s _ _ _ runs) b y there =

@@ -7,8 +7,8 @@ use Rattle.seize_words.specs.OneMemory.Op.{Found}
 use Rattle.seize_words.specs.OneMemory.Plan.{Plan, Then, Now, Seeing, May, MaySee, Steps, Ends as Comes}
 use Rattle.seize_words.specs.OneMemory.Word.{block_in}
 use Rattle.seize_words.specs.declared.at.At.{At}
-use Rattle.seize.specs.declared.progress.Progress.{Progress}
-use Rattle.seize.specs.declared.progress.Progress.TheVariants as progress
+use Rattle.seize.specs.declared.advance.Advance.{Advance}
+use Rattle.seize.specs.declared.advance.Advance.TheVariants as progress
 use Rattle.map_tables.specs.Finding.{finding, may_name}
 use Rattle.map_tables.specs.Chunks.{is_incremental}
 use Rattle.map_tables.specs.Trials.{place_tried, next_trial}
@@ -48,10 +48,10 @@ pub found_at : {T : Type 0} (m0 m : Mem T) → m0 ≡ m → (at0 at : At) → at
 found_at m0 m is at0 at so w found = ap (λ a. word_at m a) (sym so) ∙ ap (λ x. word_at x at0) (sym is) ∙ found
 
 module _ {K V : Type 0} (keys : K → Bool) (m : Mem (Node K V)) (l : Lookup) (trial : Trial) (w : ℕ) (found : word_at m (place_tried trial) ≡ Some w) where
-  abbrev seeing : Then (Node K V) (Lookup × Progress (Option ℕ))
+  abbrev seeing : Then (Node K V) (Lookup × Advance (Option ℕ))
   seeing = Seeing (block_in w) (λ value. Now (told (at_try l trial) trial w (names_pair keys value)))
 
-  abbrev passing : Then (Node K V) (Lookup × Progress (Option ℕ))
+  abbrev passing : Then (Node K V) (Lookup × Advance (Option ℕ))
   passing = Now (told (at_try l trial) trial w false)
 
   -- the pair that its word may name can be looked at
@@ -100,7 +100,7 @@ at_first l trial is = ap (λ s. record l { stands = s }) (sym is)
 
 -- of the finding of a try: how the lookup goes on
 module _ (l : Lookup) (trial : Trial) (w : ℕ) (f : Finding) where
-  abbrev end : Lookup × Progress (Option ℕ)
+  abbrev end : Lookup × Advance (Option ℕ)
   end = told_of (at_try l trial) trial w f
 
   pub on_next : (n : Trial) → f ≡ is.Passed → next_trial trial ≡ Some n → end ≡ (at_try l n, progress.Goes)
@@ -120,9 +120,9 @@ module _ (l : Lookup) (trial : Trial) (w : ℕ) (f : Finding) where
 
 -- what follows from a try that was made, for who looks in this map
 module _ {K V : Type 0} (same : K → K → Bool) (hash : K → ℕ) (keys : K → Bool) (m : Mem (Node K V)) (c : Chart K) (blocks : Blocks) (begun l : Lookup) (trial : Trial)
-    (h : LooksIn same hash keys m c blocks begun (at_try l trial)) (end : Lookup × Progress (Option ℕ)) (s : Steps Took value_at m (lookup_plan keys (at_try l trial)) m end) where
-  abbrev step_to : (end2 : Lookup × Progress (Option ℕ)) → end ≡ end2 → Steps Took value_at m (lookup_plan keys (at_try l trial)) m end2
-  step_to end2 is = subst (λ (x : Lookup × Progress (Option ℕ)). Steps Took value_at m (lookup_plan keys (at_try l trial)) m x) is s
+    (h : LooksIn same hash keys m c blocks begun (at_try l trial)) (end : Lookup × Advance (Option ℕ)) (s : Steps Took value_at m (lookup_plan keys (at_try l trial)) m end) where
+  abbrev step_to : (end2 : Lookup × Advance (Option ℕ)) → end ≡ end2 → Steps Took value_at m (lookup_plan keys (at_try l trial)) m end2
+  step_to end2 is = subst (λ (x : Lookup × Advance (Option ℕ)). Steps Took value_at m (lookup_plan keys (at_try l trial)) m x) is s
 
   pub looks_then : (l2 : Lookup) → end ≡ (l2, progress.Goes) → LooksIn same hash keys m c blocks begun l2
   looks_then l2 is = (looks_on same hash keys m c blocks begun (at_try l trial) l2 h progress.Goes (not_done progress.Goes (inl refl)) (step_to (l2, progress.Goes) is)).0
@@ -147,11 +147,11 @@ module _ {K V : Type 0} (same : K → K → Bool) (hash : K → ℕ) (keys : K �
       by false is = finds_then _ None is
 
 -- and of the number of steps that are left
-module _ {K V : Type 0} (keys : K → Bool) (m : Mem (Node K V)) (l : Lookup) (trial : Trial) (end : Lookup × Progress (Option ℕ)) (s : Steps Took value_at m (lookup_plan keys (at_try l trial)) m end) (n : ℕ)
+module _ {K V : Type 0} (keys : K → Bool) (m : Mem (Node K V)) (l : Lookup) (trial : Trial) (end : Lookup × Advance (Option ℕ)) (s : Steps Took value_at m (lookup_plan keys (at_try l trial)) m end) (n : ℕ)
     (near : (k : ℕ) × (k ≤ n) × (within (lookup_plan keys) k (at_try l trial) m ≡ true)) where
   pub nearer_then : (l2 : Lookup) → end ≡ (l2, progress.Goes) → (k : ℕ) × (k ≤ n) × (within (lookup_plan keys) k l2 m ≡ true)
   nearer_then l2 is =
-      let o = within_on (lookup_plan keys) near.0 (at_try l trial) m near.2 l2 m progress.Goes tt (subst (λ (x : Lookup × Progress (Option ℕ)). Steps Took value_at m (lookup_plan keys (at_try l trial)) m x) is s) in
+      let o = within_on (lookup_plan keys) near.0 (at_try l trial) m near.2 l2 m progress.Goes tt (subst (λ (x : Lookup × Advance (Option ℕ)). Steps Took value_at m (lookup_plan keys (at_try l trial)) m x) is s) in
       let below = o.1 in let most = near.1 in
       (o.0, omega (arith, below, most), o.2)
 
@@ -163,7 +163,7 @@ module _ {K V : Type 0} (keys : K → Bool) (m : Mem (Node K V)) (l : Lookup) (t
       by true is = nearer_then (at_next l trial.table) is
       by false is = tt
 
-abbrev asked_plan : {K V Q : Type 0} → (Q → K → Bool) → Q → Lookup → Plan (Node K V) (Lookup × Progress (Option ℕ))
+abbrev asked_plan : {K V Q : Type 0} → (Q → K → Bool) → Q → Lookup → Plan (Node K V) (Lookup × Advance (Option ℕ))
 asked_plan asks q = lookup_plan (asks q)
 
 -- the same bound of the same lookup
@@ -176,7 +176,7 @@ same_within asks n m m0 l l0 q q0 em el eq =
 
 -- the least bound is lower after a step and the tries behind it
 pub lower_behind : {K V Q : Type 0} (asks : Q → K → Bool) (n : ℕ) (m m0 : Mem (Node K V)) (l l0 : Lookup) (q q0 : Q) → m0 ≡ m → l0 ≡ l → q0 ≡ q → IsLeast (λ k. within (asked_plan asks q0) k l0 m0) n
-    → (l2 : Lookup) (told : Progress (Option ℕ)) → GoesOn told → Steps Took value_at m (lookup_plan (asks q) l) m (l2, told)
+    → (l2 : Lookup) (told : Advance (Option ℕ)) → GoesOn told → Steps Took value_at m (lookup_plan (asks q) l) m (l2, told)
     → (l3 : Lookup) → ((i : ℕ) → within (asked_plan asks q) i l2 m ≡ true → (j : ℕ) × (j ≤ i) × (within (asked_plan asks q) j l3 m ≡ true))
     → (k : ℕ) (m4 : Mem (Node K V)) (l4 : Lookup) (q4 : Q) → m4 ≡ m → l4 ≡ l3 → q4 ≡ q → IsLeast (λ j. within (asked_plan asks q4) j l4 m4) k → k < n
 lower_behind asks n m m0 l l0 q q0 em el eq least l2 told on s l3 near k m4 l4 q4 em4 el4 eq4 least4 =

@@ -15,7 +15,7 @@ use Rattle.map_tables.specs.declared.table.Table.{Table}
 use Rattle.map_straight.specs.Shown.Chain.{CannotGrowIn}
 use Rattle.papaya_raw.specs.declared.machines.answer.KeyAnswer.{KeyAnswer}
 use Rattle.papaya_raw.specs.declared.machines.answer.KeyAnswer.TheVariants as answers
-use Rattle.papaya_raw.specs.declared.machines.asking.Reply.TheVariants as reply
+use Rattle.papaya_raw.specs.declared.machines.asking.MachineReply.TheVariants as reply
 use Rattle.papaya_raw.specs.declared.machines.call.KeyCall.{KeyCall}
 use Rattle.map_straight.specs.Given.RuleChart.{Chart, Phase, Holds as HoldsPair, Still, put}
 use Rattle.map_straight.specs.Given.RuleWords.{Blocks, Shows, place_word}

@@ -6,7 +6,7 @@ use denote.Ref.{Bor}
 use Rattle.seize_words.specs.OneMemory.Mem.{Mem, Took, value_at}
 use Rattle.seize_words.specs.OneMemory.Plan.{Plan, Steps}
 use Rattle.seize_words.specs.declared.fault.Fault.{Fault}
-use Rattle.seize.specs.declared.progress.Progress.{Progress}
+use Rattle.seize.specs.declared.advance.Advance.{Advance}
 use Rattle.map_tables.specs.Chunks.{is_incremental}
 use Rattle.map_tables.specs.declared.node.Node.{Node}
 use Rattle.map_tables.specs.declared.setting.Setting.{Setting}
@@ -88,7 +88,7 @@ module _ {K V Q S : Type 0} (same : K → K → Bool) (asks : Q → K → Bool) 
   ComesSo x result = ComesBack pair result x.unstored
 
   -- where a step leads, by what the machine tells
-  abbrev HasNext : OnKey K V Q S → Mem (Node K V) → Progress Stop → Type 0
+  abbrev HasNext : OnKey K V Q S → Mem (Node K V) → Advance Stop → Type 0
   HasNext = NextOf (λ x m. HasStill x) (λ x m result. ComesSo x result)
 
   -- it has the pair, and this is what it tells
@@ -119,13 +119,13 @@ module _ {K V Q S : Type 0} (same : K → K → Bool) (asks : Q → K → Bool) 
       has_by e.0 o m2 e.1 (pair_kept asks same hash p h m m2 e s)
       (leading {Q = Q} {S = S} same asks hashes b setting lawful initial m0 c0 blocks0 rule0 keys (Begun kind pair) p m course m2 e.0 e.1 s).hands
 
-  abbrev the_plan : OnKey K V Q S → Plan (Node K V) (OnKey K V Q S × Progress Stop)
+  abbrev the_plan : OnKey K V Q S → Plan (Node K V) (OnKey K V Q S × Advance Stop)
   the_plan = on_key_plan asks same hashes
 
-  has_next : (x : OnKey K V Q S) (m : Mem (Node K V)) → UnderIt x m → HasStill x → (m2 : Mem (Node K V)) (end : OnKey K V Q S × Progress Stop) → Steps Took value_at m (the_plan x) m2 end → HasNext end.0 m2 end.1
+  has_next : (x : OnKey K V Q S) (m : Mem (Node K V)) → UnderIt x m → HasStill x → (m2 : Mem (Node K V)) (end : OnKey K V Q S × Advance Stop) → Steps Took value_at m (the_plan x) m2 end → HasNext end.0 m2 end.1
   has_next x m u has m2 end s =
       let k = under_back {Q = Q} same asks hashes b setting lawful initial m0 c0 blocks0 rule0 keys (Begun kind pair) x m u m2 end s in
-      subst (λ (y : OnKey K V Q S × Progress Stop). HasNext y.0 m2 y.1) (sym k.2) (has_step u.p u.unstored m m2 u.course k.0 k.1 (subst HasStill u.is has))
+      subst (λ (y : OnKey K V Q S × Advance Stop). HasNext y.0 m2 y.1) (sym k.2) (has_step u.p u.unstored m m2 u.course k.0 k.1 (subst HasStill u.is has))
 
   pub comes_back : (x : OnKey K V Q S) (m : Mem (Node K V)) (x2 : OnKey K V Q S) (m2 : Mem (Node K V)) (result : Result Stop Fault) → RunsTo the_plan x m x2 m2 result → UnderIt x m → HasStill x
       → ComesBack pair result x2.unstored

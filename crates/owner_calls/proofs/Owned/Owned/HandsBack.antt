@@ -5,8 +5,8 @@ use Rattle.std.proofs.lemmas.Bool.{eqb-false}
 use Rattle.seize_words.specs.OneMemory.Mem.{Mem, value_at, Took}
 use Rattle.seize_words.specs.OneMemory.Op.{Out, Found, Stored, Exchanged, Made, Taken, Roomed}
 use Rattle.seize_words.specs.OneMemory.Plan.{Steps}
-use Rattle.seize.specs.declared.progress.Progress.{Progress}
-use Rattle.seize.specs.declared.progress.Progress.TheVariants as progress
+use Rattle.seize.specs.declared.advance.Advance.{Advance}
+use Rattle.seize.specs.declared.advance.Advance.TheVariants as progress
 use Rattle.seize.specs.declared.rows.settle.Settled.{Settled}
 use Rattle.seize.specs.declared.rows.settle.Settled.TheVariants as settled
 use Rattle.papaya_raw.specs.Answers.{ended}
@@ -21,8 +21,8 @@ use Rattle.map_straight.specs.Given.ResizeNewTable.{new_table_plan}
 use Rattle.map_tables.specs.Trials.{next_trial, with_met}
 use Rattle.map_tables.specs.declared.marks.TheConstants.{TOMBSTONE}
 use Rattle.map_tables.specs.declared.node.Node.{Node}
-use Rattle.map_straight.specs.Given.ResizeDeclared.outcome.Outcome.{Outcome}
-use Rattle.map_straight.specs.Given.ResizeDeclared.outcome.Outcome.TheVariants as outcome
+use Rattle.map_straight.specs.Given.ResizeDeclared.yielding.Yielding.{Yielding}
+use Rattle.map_straight.specs.Given.ResizeDeclared.yielding.Yielding.TheVariants as outcome
 use Rattle.map_tables.specs.declared.table.Table.{Table}
 use Rattle.papaya_raw.specs.declared.machines.answer.KeyAnswer.{KeyAnswer}
 use Rattle.papaya_raw.specs.declared.machines.answer.KeyAnswer.TheVariants as answers
@@ -176,26 +176,26 @@ module _ {K V Q : Type 0} where
           (goes_on (at.Copies (copying_all p.setting p.trial.table table)) some)
 
       -- what machines within it tell
-      keeps_first : (end : NewTable × Progress Table) → KeepsPair (first_made p end)
+      keeps_first : (end : NewTable × Advance Table) → KeepsPair (first_made p end)
       keeps_first (n, progress.Goes) = goes_on (at.Firsts n) some
       keeps_first (n, progress.Waits) = goes_on (at.Firsts n) some
       keeps_first (n, progress.Done table) = keeps_entering table
       keeps_first (n, progress.Refused fault) = keeps_ending (ends.Refused fault)
 
-      keeps_next : (end : NewTable × Progress Table) → KeepsPair (next_made p end)
+      keeps_next : (end : NewTable × Advance Table) → KeepsPair (next_made p end)
       keeps_next (n, progress.Goes) = goes_on (at.Allocs n) some
       keeps_next (n, progress.Waits) = goes_on (at.Allocs n) some
       keeps_next (n, progress.Done table) = keeps_on table
       keeps_next (n, progress.Refused fault) = keeps_ending (ends.Refused fault)
 
-      keeps_helped : (goal : Table) (end : Copier × Outcome (Node K V) Table) → KeepsPair (helped p goal end)
+      keeps_helped : (goal : Table) (end : Copier × Yielding (Node K V) Table) → KeepsPair (helped p goal end)
       keeps_helped goal (copier, outcome.Goes) = goes_on (at.Helps copier goal) some
       keeps_helped goal (copier, outcome.Waits) = goes_on (at.Helps copier goal) some
       keeps_helped goal (copier, outcome.Gave value) = goes_on (at.Helps copier goal) some
       keeps_helped goal (copier, outcome.Done table) = keeps_entering goal
       keeps_helped goal (copier, outcome.Refused fault) = keeps_ending (ends.Refused fault)
 
-      keeps_copied : (end : Copier × Outcome (Node K V) Table) → KeepsPair (copied p end)
+      keeps_copied : (end : Copier × Yielding (Node K V) Table) → KeepsPair (copied p end)
       keeps_copied (copier, outcome.Goes) = goes_on (at.Copies copier) some
       keeps_copied (copier, outcome.Waits) = goes_on (at.Copies copier) some
       keeps_copied (copier, outcome.Gave value) = goes_on (at.Copies copier) some

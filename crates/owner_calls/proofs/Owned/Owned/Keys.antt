@@ -9,7 +9,7 @@ use Rattle.seize_words.specs.OneMemory.Plan.{Plan, Then, Turn, Do, Now, Seeing, 
 use Rattle.seize_words.specs.declared.fault.Fault.{Fault}
 use Rattle.seize_words.specs.declared.fault.Fault.TheVariants.{RemoveNothing}
 use Rattle.seize.specs.World.{World}
-use Rattle.seize.specs.declared.progress.Progress.{Progress}
+use Rattle.seize.specs.declared.advance.Advance.{Advance}
 use Rattle.map_straight.proofs.Given.SeizeRuleRows.Leaving.{steps_back}
 use Rattle.map_tables.specs.Chunks.{is_incremental}
 use Rattle.map_tables.specs.declared.node.Node.{Node}
@@ -252,7 +252,7 @@ module _ {K V Q S : Type 0} (same : K → K → Bool) (asks : Q → K → Bool) 
   StopsAt x m (Err fault) = IsRefused m fault × RefusalFits fault
 
   -- where a step of that machine leads, by what it tells
-  abbrev pub Next : OnKey K V Q S → Mem (Node K V) → Progress Stop → Type 0
+  abbrev pub Next : OnKey K V Q S → Mem (Node K V) → Advance Stop → Type 0
   Next = NextOf Under StopsAt
 
   next_by : (p : KeyCall K V Q) (o : Option (Node K V)) (m : Mem (Node K V)) (told : Called (Node K V)) → CourseTo p m told → Next (on_key_settled (it p o) told).0 m (on_key_settled (it p o) told).1
@@ -264,7 +264,7 @@ module _ {K V Q S : Type 0} (same : K → K → Bool) (asks : Q → K → Bool) 
   next_by p o m (called.Done answer) c = c
   next_by p o m (called.Refused fault) c = c
 
-  abbrev pub the_plan : OnKey K V Q S → Plan (Node K V) (OnKey K V Q S × Progress Stop)
+  abbrev pub the_plan : OnKey K V Q S → Plan (Node K V) (OnKey K V Q S × Advance Stop)
   the_plan = on_key_plan asks same hashes
 
   module _ (x : OnKey K V Q S) (m : Mem (Node K V)) (u : Under x m) where
@@ -273,12 +273,12 @@ module _ {K V Q S : Type 0} (same : K → K → Bool) (asks : Q → K → Bool) 
         subst (λ y. May Can Took value_at m (the_plan y)) (sym u.is)
         (may_turned (on_key_after (it u.p u.unstored)) Can Took value_at m (call_plan asks same hash u.p) (course_may u.p m u.course))
 
-    pub under_back : (m2 : Mem (Node K V)) (end : OnKey K V Q S × Progress Stop) → Steps Took value_at m (the_plan x) m2 end
+    pub under_back : (m2 : Mem (Node K V)) (end : OnKey K V Q S × Advance Stop) → Steps Took value_at m (the_plan x) m2 end
         → (e : KeyCall K V Q × Called (Node K V)) × Steps Took value_at m (call_plan asks same hash u.p) m2 e × (end ≡ on_key_after (it u.p u.unstored) e)
     under_back m2 end s =
         steps_back (on_key_after (it u.p u.unstored)) m m2 (call_plan asks same hash u.p) end (subst (λ y. Steps Took value_at m (the_plan y) m2 end) u.is s)
 
-    pub under_step : (m2 : Mem (Node K V)) (end : OnKey K V Q S × Progress Stop) → Steps Took value_at m (the_plan x) m2 end → Next end.0 m2 end.1
+    pub under_step : (m2 : Mem (Node K V)) (end : OnKey K V Q S × Advance Stop) → Steps Took value_at m (the_plan x) m2 end → Next end.0 m2 end.1
     under_step m2 end s =
         let k = under_back m2 end s in
         subst (λ y. Next y.0 m2 y.1) (sym k.2) (next_by k.0.0 u.unstored m2 k.0.1 (course_step u.p m u.course m2 k.0.0 k.0.1 k.1))

@@ -10,8 +10,8 @@ use Rattle.seize_words.specs.declared.fault.Fault.TheVariants.{Memory}
 use Rattle.seize.specs.Sequence.{Turn, Whole, Between, TakesTurns, RunsOn}
 use Rattle.seize.specs.WaitingSets.{Change}
 use Rattle.seize.specs.World.{World, Event, Begin, Step, Runs, Rests, IsInside, at_start}
-use Rattle.seize.specs.declared.progress.Progress.{Progress}
-use Rattle.seize.specs.declared.progress.Progress.TheVariants as progress
+use Rattle.seize.specs.declared.advance.Advance.{Advance}
+use Rattle.seize.specs.declared.advance.Advance.TheVariants as progress
 use Rattle.owner_whole.specs.Given.SeizeAloneAlone.{History, IsHistory, at_rest}
 use Rattle.map_tables.specs.Lengths.{IsTableLen}
 use Rattle.map_tables.specs.Nodes.{deferred_word}
@@ -98,20 +98,20 @@ module _ {K V : Type 0} (same : K → K → Bool) (hash : K → ℕ) (lawful : A
     pub opening : IsOpening same hash setting 1 places m0 h0 n m history
 
   module _ (n : NewMap) (m : Mem (Node K V)) (o : Opens n m) where
-    steps_at : (m2 : Mem (Node K V)) (end : NewMap × Progress Setting) → Steps Took value_at m (new_map_plan n) m2 end → Steps Took value_at o.w.memory (new_map_plan n) m2 end
+    steps_at : (m2 : Mem (Node K V)) (end : NewMap × Advance Setting) → Steps Took value_at m (new_map_plan n) m2 end → Steps Took value_at o.w.memory (new_map_plan n) m2 end
     steps_at m2 end s = subst (λ (x : Mem (Node K V)). Steps Took value_at x (new_map_plan n) m2 end) (sym o.memory) s
 
     pub opens_may : May Can Took value_at m (new_map_plan {K = K} {V = V} n)
     opens_may = (maps_go_on V same hash lawful setting initial mask 1 places m0 h0 n m o.history o.opening).0
 
-    opens_to : (m2 : Mem (Node K V)) (n2 : NewMap) (told : Progress Setting) → Steps Took value_at m (new_map_plan n) m2 (n2, told) → OpensTo same hash setting 1 places m0 h0 n2 m2 told
+    opens_to : (m2 : Mem (Node K V)) (n2 : NewMap) (told : Advance Setting) → Steps Took value_at m (new_map_plan n) m2 (n2, told) → OpensTo same hash setting 1 places m0 h0 n2 m2 told
     opens_to m2 n2 told s = (maps_go_on V same hash lawful setting initial mask 1 places m0 h0 n m o.history o.opening).1 m2 n2 told s
 
-    leads : (m2 : Mem (Node K V)) (n2 : NewMap) (told : Progress Setting) → Steps Took value_at m (new_map_plan n) m2 (n2, told)
+    leads : (m2 : Mem (Node K V)) (n2 : NewMap) (told : Advance Setting) → Steps Took value_at m (new_map_plan n) m2 (n2, told)
         → StepsOfMaking {Q = K} V same same setting.batch_size 1 slot_of o.w (λ m. None) (λ m i. None) o.makers 0 (making_at n) m2 (n2, told)
     leads m2 n2 told s = (makings_stand {Q = K} V same same setting.batch_size 1 slot_of o.w (λ m. None) (λ m i. None) o.makers o.together 0 (making_at n) o.its).1 m2 (n2, told) (steps_at m2 (n2, told) s)
 
-    pub opens_on : (m2 : Mem (Node K V)) (n2 : NewMap) (told : Progress Setting) → GoesOn told → Steps Took value_at m (new_map_plan n) m2 (n2, told) → Opens n2 m2 × (new_map_left n2 < new_map_left n)
+    pub opens_on : (m2 : Mem (Node K V)) (n2 : NewMap) (told : Advance Setting) → GoesOn told → Steps Took value_at m (new_map_plan n) m2 (n2, told) → Opens n2 m2 × (new_map_left n2 < new_map_left n)
     opens_on m2 n2 progress.Goes on s =
         let l = leads m2 n2 progress.Goes s in let to = opens_to m2 n2 progress.Goes s in (
           record {
@@ -141,13 +141,13 @@ module _ {K V : Type 0} (same : K → K → Bool) (hash : K → ℕ) (lawful : A
   opens_end n m o = ends_below (suc (new_map_left n)) n m o (omega arith)
 
   -- where it needs memory alone, it goes on so, and is refused for want of memory
-  needs_on : (n n2 : NewMap) (m m2 : Mem (Node K V)) → Opens n m → (told : Progress Setting) → GoesOn told → Steps Took value_at m (new_map_plan n) m2 (n2, told) → NeedsOn m2 (n2, told) → NeedsMemoryAlone m2 n2 n2.stands
+  needs_on : (n n2 : NewMap) (m m2 : Mem (Node K V)) → Opens n m → (told : Advance Setting) → GoesOn told → Steps Took value_at m (new_map_plan n) m2 (n2, told) → NeedsOn m2 (n2, told) → NeedsMemoryAlone m2 n2 n2.stands
   needs_on n n2 m m2 o progress.Goes on s needs = needs
   needs_on n n2 m m2 o progress.Waits on s needs = absurd (opens_to n m o m2 n2 progress.Waits s)
   needs_on n n2 m m2 o (progress.Done begun) on s needs = absurd on
   needs_on n n2 m m2 o (progress.Refused fault) on s needs = absurd on
 
-  refused_so : (n : NewMap) (m : Mem (Node K V)) (told : Progress Setting) (result : Result Setting Fault) → NeedsOn m (n, told) → Tells told result → IfErr result (λ fault. fault ≡ Memory)
+  refused_so : (n : NewMap) (m : Mem (Node K V)) (told : Advance Setting) (result : Result Setting Fault) → NeedsOn m (n, told) → Tells told result → IfErr result (λ fault. fault ≡ Memory)
   refused_so n m told (Ok begun) needs tells = tt
   refused_so n m (progress.Refused fault) (Err f) needs tells = tells ∙ needs
   refused_so n m (progress.Done begun) (Err f) needs tells = absurd tells
@@ -235,7 +235,7 @@ module _ {K V : Type 0} (same : K → K → Bool) (hash : K → ℕ) (lawful : A
     pub runs_made : (n : NewMap) (m : Mem (Node K V)) (n2 : NewMap) (m2 : Mem (Node K V)) (result : Result Setting Fault) → RunsTo (new_map_plan {K = K} {V = V}) n m n2 m2 result → Opens n m → Made m2 result
     runs_made n m n2 m2 result (stops _ _ _ _ told _ s tells) o = by_told told result s tells
       where
-        by_told : (told : Progress Setting) (result : Result Setting Fault) → Steps Took value_at m (new_map_plan n) m2 (n2, told) → Tells told result → Made m2 result
+        by_told : (told : Advance Setting) (result : Result Setting Fault) → Steps Took value_at m (new_map_plan n) m2 (n2, told) → Tells told result → Made m2 result
         by_told (progress.Done begun) (Ok b) s tells = shows_made b m2 (subst (λ (x : Setting). HoldsNew x m2) (sym tells) (done_holds n m o m2 n2 begun s))
         by_told (progress.Done begun) (Err f) s tells = absurd tells
         by_told told (Err f) s tells = tt

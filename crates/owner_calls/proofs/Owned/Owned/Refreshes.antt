@@ -11,7 +11,7 @@ use Rattle.seize_words.proofs.OneMemory.Plans.{ends_if}
 use Rattle.seize.specs.Leave.{leave_plan, plan_at as leave_plan_at, list_taken, settled, counted_down, standing, leaving as leaving_slot}
 use Rattle.seize.specs.Settle.{settle_plan, counting_down}
 use Rattle.seize.specs.World.{World, Row, Rests, Leaves, Refresh, Steps', MayStep, IsInside, Vacant, Outside, Inside, Changing, Use, leaves_on, left_as, left_row, with_row, with_use, at_start}
-use Rattle.seize.specs.declared.progress.Progress.{Progress}
+use Rattle.seize.specs.declared.advance.Advance.{Advance}
 use Rattle.seize.specs.declared.rows.leave.Leave.{Leave}
 use Rattle.seize.specs.declared.rows.leave.Leaving.{Leaving}
 use Rattle.seize.specs.declared.rows.leave.Leaving.TheVariants as leaving
@@ -50,7 +50,7 @@ use Rattle.owner_whole.proofs.Whole.Rows.Shards.{row_shards}
 use Rattle.owner_whole.specs.Strides.Ending.{Ends, all_end, RunsTo}
 use Rattle.owner_calls.specs.Owned.Machines.{refreshes_plan, refreshes_after, refreshes_settled}
 use Rattle.owner_calls.specs.Owned.Owned.{Holds}
-use Rattle.owner_calls.specs.declared.machines.Refreshes.{Refreshes}
+use Rattle.owner_calls.specs.declared.machines.OwnerRefresh.{OwnerRefresh}
 use Rattle.owner_calls.proofs.Owned.Owned.Blocks.{pair_same}
 use Rattle.owner_calls.proofs.Owned.Owned.Rests.{together_as}
 use Rattle.owner_calls.proofs.Owned.Owned.Keys.{may_turned}
@@ -118,7 +118,7 @@ module _ {K V : Type 0} (same : K → K → Bool) (hash : K → ℕ) (setting : 
   TogetherIn w blocks sights = Together {K = K} {Q = K} V same hash same setting slot_of w h.chart blocks sights (λ i. None)
 
   -- it is under way
-  pub record Refreshing (r : Refreshes) (m : Mem (Node K V)) : Type 0 where
+  pub record Refreshing (r : OwnerRefresh) (m : Mem (Node K V)) : Type 0 where
     pub w : World (Node K V)
     pub blocks : Blocks
     pub sights : ℕ → Sight
@@ -131,7 +131,7 @@ module _ {K V : Type 0} (same : K → K → Bool) (hash : K → ℕ) (setting : 
     pub stays : (o : ℕ) → h.chart.current o ≡ true → value_at w.memory (blocks.pair o) ≡ value_at h.world.memory (h.blocks.pair o)
     pub added : HasAdded setting h.world.memory 0 w.memory
 
-  module _ (r : Refreshes) (m : Mem (Node K V)) (at : Refreshing r m) where
+  module _ (r : OwnerRefresh) (m : Mem (Node K V)) (at : Refreshing r m) where
     steps_at : (m2 : Mem (Node K V)) (end : Leave × Settled (Node K V)) → Steps Took value_at m (leave_plan deferred_word r.leave) m2 end → Steps Took value_at at.w.memory (leave_plan deferred_word r.leave) m2 end
     steps_at m2 end s = subst (λ (x : Mem (Node K V)). Steps Took value_at x (leave_plan deferred_word r.leave) m2 end) (sym at.memory) s
 
@@ -253,41 +253,41 @@ module _ {K V : Type 0} (same : K → K → Bool) (hash : K → ℕ) (setting : 
         same_count had counted = had ∙ no_more _ ∙ counted
 
   -- it is under way, and has less to do than one that stood so
-  abbrev Nearer : Mem (Node K V) → Refreshes → Refreshes → Mem (Node K V) → Type 0
+  abbrev Nearer : Mem (Node K V) → OwnerRefresh → OwnerRefresh → Mem (Node K V) → Type 0
   Nearer m r x m2 = Refreshing x m2 × (leave_to_go deferred_word m2 x.leave < leave_to_go deferred_word m r.leave)
 
   -- what it comes to
-  abbrev Comes : Refreshes → Mem (Node K V) → Result Unit Fault → Type 0
+  abbrev Comes : OwnerRefresh → Mem (Node K V) → Result Unit Fault → Type 0
   Comes x m result = Holds same hash setting m xs
 
   -- where a step of the machine leads, by what it tells
-  abbrev Next : Refreshes → Mem (Node K V) → Mem (Node K V) → Refreshes → Progress Unit → Type 0
+  abbrev Next : OwnerRefresh → Mem (Node K V) → Mem (Node K V) → OwnerRefresh → Advance Unit → Type 0
   Next x m m2 r told = NextOf (Nearer m r) Comes x m2 told
 
-  next_by : (r : Refreshes) (m : Mem (Node K V)) → Refreshing r m → (m2 : Mem (Node K V)) (d : Leave) (o : Settled (Node K V)) → Steps Took value_at m (leave_plan deferred_word r.leave) m2 (d, o)
+  next_by : (r : OwnerRefresh) (m : Mem (Node K V)) → Refreshing r m → (m2 : Mem (Node K V)) (d : Leave) (o : Settled (Node K V)) → Steps Took value_at m (leave_plan deferred_word r.leave) m2 (d, o)
       → Next (refreshes_settled (record { leave = d }) o).0 m m2 r (refreshes_settled {T = Node K V} (record { leave = d }) o).1
   next_by r m at m2 d settling.Goes s = going_on r m at m2 d settling.Goes s refl refl
   next_by r m at m2 d settling.Waits s = going_on r m at m2 d settling.Waits s refl refl
   next_by r m at m2 d (settling.Gave value) s = going_on r m at m2 d (settling.Gave value) s refl refl
   next_by r m at m2 d settling.Done s = has_ended r m at m2 d s
 
-  abbrev the_plan : Refreshes → Plan (Node K V) (Refreshes × Progress Unit)
+  abbrev the_plan : OwnerRefresh → Plan (Node K V) (OwnerRefresh × Advance Unit)
   the_plan = refreshes_plan deferred_word
 
-  step_to : (r : Refreshes) (m : Mem (Node K V)) → Refreshing r m → (m2 : Mem (Node K V)) (x : Refreshes) (told : Progress Unit) → Steps Took value_at m (the_plan r) m2 (x, told) → Next x m m2 r told
+  step_to : (r : OwnerRefresh) (m : Mem (Node K V)) → Refreshing r m → (m2 : Mem (Node K V)) (x : OwnerRefresh) (told : Advance Unit) → Steps Took value_at m (the_plan r) m2 (x, told) → Next x m m2 r told
   step_to r m at m2 x told s =
       next_turned (Nearer m r) Comes (refreshes_after r) m m2 (leave_plan deferred_word r.leave) (λ k. next_by r m at m2 k.0 k.1) (x, told) s
 
-  ends_below : (k : ℕ) (r : Refreshes) (m : Mem (Node K V)) → Refreshing r m → leave_to_go deferred_word m r.leave < k → Ends the_plan r m
+  ends_below : (k : ℕ) (r : OwnerRefresh) (m : Mem (Node K V)) → Refreshing r m → leave_to_go deferred_word m r.leave < k → Ends the_plan r m
   ends_below zero r m at l = absurd (omega (arith, l))
   ends_below (suc k) r m at l =
       all_end r m (may_turned (refreshes_after r) Can Took value_at m (leave_plan deferred_word r.leave) (refresh_may r m at)) (λ m2 x told on s.
       let g = goes_on (Nearer m r) Comes x m2 told on (step_to r m at m2 x told s) in ends_below k x m2 g.0 (let less = g.1 in omega (arith, l, less)))
 
-  pub refreshing_ends : (r : Refreshes) (m : Mem (Node K V)) → Refreshing r m → Ends the_plan r m
+  pub refreshing_ends : (r : OwnerRefresh) (m : Mem (Node K V)) → Refreshing r m → Ends the_plan r m
   refreshing_ends r m at = ends_below (suc (leave_to_go deferred_word m r.leave)) r m at (omega arith)
 
-  pub refreshed : (r : Refreshes) (m : Mem (Node K V)) (x : Refreshes) (m2 : Mem (Node K V)) (result : Result Unit Fault) → RunsTo the_plan r m x m2 result → Refreshing r m → Holds same hash setting m2 xs
+  pub refreshed : (r : OwnerRefresh) (m : Mem (Node K V)) (x : OwnerRefresh) (m2 : Mem (Node K V)) (result : Result Unit Fault) → RunsTo the_plan r m x m2 result → Refreshing r m → Holds same hash setting m2 xs
   refreshed r m x m2 result runs at =
       run_comes Refreshing Comes the_plan (λ y n under n2 end s. next_as (Nearer n y) Refreshing Comes Comes end.0 n2 end.1 (λ nearer. nearer.0) (λ told holds. holds) (step_to y n under n2 end.0 end.1 s)) r m at x m2 result runs
 

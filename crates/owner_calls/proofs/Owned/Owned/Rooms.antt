@@ -9,14 +9,14 @@ use Rattle.seize_words.specs.OneMemory.Word.{block_in}
 use Rattle.seize_words.specs.declared.at.At.TheVariants.{Root}
 use Rattle.seize_words.specs.declared.fault.Fault.{Fault}
 use Rattle.seize.specs.World.{World}
-use Rattle.seize.specs.declared.progress.Progress.{Progress}
+use Rattle.seize.specs.declared.advance.Advance.{Advance}
 use Rattle.map_straight.proofs.Given.SeizeRuleRows.Leaving.{steps_back}
 use Rattle.map_tables.specs.Counts.{count_in}
 use Rattle.map_tables.specs.declared.node.Node.{Node}
 use Rattle.map_tables.specs.declared.node.Node.TheVariants as node
 use Rattle.map_tables.specs.declared.setting.Setting.{Setting}
-use Rattle.map_straight.specs.Given.ResizeDeclared.outcome.Outcome.{Outcome}
-use Rattle.map_straight.specs.Given.ResizeDeclared.outcome.Outcome.TheVariants as outcome
+use Rattle.map_straight.specs.Given.ResizeDeclared.yielding.Yielding.{Yielding}
+use Rattle.map_straight.specs.Given.ResizeDeclared.yielding.Yielding.TheVariants as outcome
 use Rattle.papaya_raw.specs.Given.ReservesReserve.{needed, reserving, reserve_plan}
 use Rattle.papaya_raw.specs.Given.ReservesDeclared.reserve.Reserve.{Reserve}
 use Rattle.map_straight.specs.Given.RuleChart.{Chart}
@@ -128,7 +128,7 @@ module _ {K V S : Type 0} (same : K → K → Bool) (hashes : S → K → ℕ) (
   IsRefused m fault = (e : HasEnded m) × IsRoom fault × IsForRoom e.c additional (length xs) fault
 
   -- where a step leads, by its outcome
-  abbrev pub CourseTo : Reserve → Mem (Node K V) → Outcome (Node K V) Unit → Type 0
+  abbrev pub CourseTo : Reserve → Mem (Node K V) → Yielding (Node K V) Unit → Type 0
   CourseTo p m outcome.Goes = Course p m
   CourseTo p m outcome.Waits = ⊥
   CourseTo p m (outcome.Gave value) = Course p m
@@ -136,7 +136,7 @@ module _ {K V S : Type 0} (same : K → K → Bool) (hashes : S → K → ℕ) (
   CourseTo p m (outcome.Refused fault) = IsRefused m fault
 
   module _ (p : Reserve) (m : Mem (Node K V)) (here : Course p m) where
-    abbrev Leading : Mem (Node K V) → Reserve → Outcome (Node K V) Unit → Type 0
+    abbrev Leading : Mem (Node K V) → Reserve → Yielding (Node K V) Unit → Type 0
     Leading m2 p2 told = RoomStepLeads {Q = K} same hash same setting slot_of here.w here.c here.blocks (since here.began p) m2 p2 told
 
     pub course_may : May Can Took value_at m (reserve_plan hash p)
@@ -144,7 +144,7 @@ module _ {K V S : Type 0} (same : K → K → Bool) (hashes : S → K → ℕ) (
         subst (λ (x : Mem (Node K V)). May Can Took value_at x (reserve_plan hash p)) here.memory
         (rooms_go_on_alone same hash same setting slot_of h.lawful h.initial here.w here.c here.blocks here.sights (since here.began p) here.alone).0
 
-    module _ (m2 : Mem (Node K V)) (p2 : Reserve) (told : Outcome (Node K V) Unit) (s : Steps Took value_at m (reserve_plan hash p) m2 (p2, told)) where
+    module _ (m2 : Mem (Node K V)) (p2 : Reserve) (told : Yielding (Node K V) Unit) (s : Steps Took value_at m (reserve_plan hash p) m2 (p2, told)) where
       leading : Leading m2 p2 told
       leading =
           (rooms_go_on_alone same hash same setting slot_of h.lawful h.initial here.w here.c here.blocks here.sights (since here.began p) here.alone).1 m2 p2 told
@@ -194,7 +194,7 @@ module _ {K V S : Type 0} (same : K → K → Bool) (hashes : S → K → ℕ) (
         counts = l.counts h.world.memory 0 here.counts;
       }
 
-    pub course_step : (m2 : Mem (Node K V)) (p2 : Reserve) (told : Outcome (Node K V) Unit) → Steps Took value_at m (reserve_plan hash p) m2 (p2, told) → CourseTo p2 m2 told
+    pub course_step : (m2 : Mem (Node K V)) (p2 : Reserve) (told : Yielding (Node K V) Unit) → Steps Took value_at m (reserve_plan hash p) m2 (p2, told) → CourseTo p2 m2 told
     unfolding ended_of
     course_step m2 p2 outcome.Goes s =
         let l = leading m2 p2 outcome.Goes s in course_of m2 p2 outcome.Goes s l l.leads (l.places h.incremental here.root here.sums)
@@ -228,17 +228,17 @@ module _ {K V S : Type 0} (same : K → K → Bool) (hashes : S → K → ℕ) (
   ComesTo x m (Err fault) = IsRefused m fault
 
   -- where a step of that machine leads, by what it tells
-  abbrev pub Next : ForRoom S → Mem (Node K V) → Progress Unit → Type 0
+  abbrev pub Next : ForRoom S → Mem (Node K V) → Advance Unit → Type 0
   Next = NextOf Under ComesTo
 
-  next_by : (p : Reserve) (m : Mem (Node K V)) (told : Outcome (Node K V) Unit) → CourseTo p m told → Next (for_room_settled (it p) told).0 m (for_room_settled (it p) told).1
+  next_by : (p : Reserve) (m : Mem (Node K V)) (told : Yielding (Node K V) Unit) → CourseTo p m told → Next (for_room_settled (it p) told).0 m (for_room_settled (it p) told).1
   next_by p m outcome.Goes c = record { p = p; is = refl; course = c }
   next_by p m outcome.Waits c = absurd c
   next_by p m (outcome.Gave value) c = record { p = p; is = refl; course = c }
   next_by p m (outcome.Done end) c = c
   next_by p m (outcome.Refused fault) c = c
 
-  abbrev pub the_plan : ForRoom S → Plan (Node K V) (ForRoom S × Progress Unit)
+  abbrev pub the_plan : ForRoom S → Plan (Node K V) (ForRoom S × Advance Unit)
   the_plan = for_room_plan hashes
 
   module _ (x : ForRoom S) (m : Mem (Node K V)) (u : Under x m) where
@@ -247,20 +247,20 @@ module _ {K V S : Type 0} (same : K → K → Bool) (hashes : S → K → ℕ) (
         subst (λ y. May Can Took value_at m (the_plan y)) (sym u.is)
         (may_turned (for_room_after (it u.p)) Can Took value_at m (reserve_plan hash u.p) (course_may u.p m u.course))
 
-    pub under_back : (m2 : Mem (Node K V)) (end : ForRoom S × Progress Unit) → Steps Took value_at m (the_plan x) m2 end
-        → (e : Reserve × Outcome (Node K V) Unit) × Steps Took value_at m (reserve_plan hash u.p) m2 e × (end ≡ for_room_after (it u.p) e)
+    pub under_back : (m2 : Mem (Node K V)) (end : ForRoom S × Advance Unit) → Steps Took value_at m (the_plan x) m2 end
+        → (e : Reserve × Yielding (Node K V) Unit) × Steps Took value_at m (reserve_plan hash u.p) m2 e × (end ≡ for_room_after (it u.p) e)
     under_back m2 end s =
         steps_back (for_room_after (it u.p)) m m2 (reserve_plan hash u.p) end (subst (λ y. Steps Took value_at m (the_plan y) m2 end) u.is s)
 
-    pub under_step : (m2 : Mem (Node K V)) (end : ForRoom S × Progress Unit) → Steps Took value_at m (the_plan x) m2 end → Next end.0 m2 end.1
+    pub under_step : (m2 : Mem (Node K V)) (end : ForRoom S × Advance Unit) → Steps Took value_at m (the_plan x) m2 end → Next end.0 m2 end.1
     under_step m2 end s =
         let k = under_back m2 end s in
         subst (λ y. Next y.0 m2 y.1) (sym k.2) (next_by k.0.0 m2 k.0.1 (course_step u.p m u.course m2 k.0.0 k.0.1 k.1))
 
-  OnTo : Reserve → Mem (Node K V) → Outcome (Node K V) Unit → Type 0
+  OnTo : Reserve → Mem (Node K V) → Yielding (Node K V) Unit → Type 0
   OnTo p2 m2 told = HasMore told × (v : Under (for_room_settled (it p2) told).0 m2) × (v.p ≡ p2)
 
-  on_told : (p2 : Reserve) (m2 : Mem (Node K V)) (told : Outcome (Node K V) Unit) → CourseTo p2 m2 told → GoesOn (for_room_settled (it p2) told).1 → OnTo p2 m2 told
+  on_told : (p2 : Reserve) (m2 : Mem (Node K V)) (told : Yielding (Node K V) Unit) → CourseTo p2 m2 told → GoesOn (for_room_settled (it p2) told).1 → OnTo p2 m2 told
   unfolding OnTo
   on_told p2 m2 outcome.Goes c on = (tt, record { p = p2; is = refl; course = c }, refl)
   on_told p2 m2 outcome.Waits c on = absurd c

@@ -10,8 +10,8 @@ use Rattle.seize_words.specs.declared.fault.Fault.{Fault}
 use Rattle.seize_words.specs.declared.fault.Fault.TheVariants.{Capacity}
 use Rattle.seize_words.specs.OneMemory.Op.{Found}
 use Rattle.seize_words.proofs.OneMemory.OneOwner.Operations.{loaded}
-use Rattle.seize.specs.declared.progress.Progress.{Progress}
-use Rattle.seize.specs.declared.progress.Progress.TheVariants as progress
+use Rattle.seize.specs.declared.advance.Advance.{Advance}
+use Rattle.seize.specs.declared.advance.Advance.TheVariants as progress
 use Rattle.map_straight.proofs.Given.SeizeRuleRows.Leaving.{steps_back}
 use Rattle.map_tables.proofs.TableLens.{have_table_lens}
 use Rattle.map_tables.specs.Lengths.{IsTableLen, places_for}
@@ -26,8 +26,8 @@ use Rattle.map_straight.specs.Given.ResizeSum.{sum_plan}
 use Rattle.map_straight.specs.Given.ResizeDeclared.new_table.Making.{Making}
 use Rattle.map_straight.specs.Given.ResizeDeclared.new_table.Making.TheVariants as makes
 use Rattle.map_straight.specs.Given.ResizeDeclared.new_table.NewTable.{NewTable}
-use Rattle.map_straight.specs.Given.ResizeDeclared.outcome.Outcome.{Outcome}
-use Rattle.map_straight.specs.Given.ResizeDeclared.outcome.Outcome.TheVariants as outcome
+use Rattle.map_straight.specs.Given.ResizeDeclared.yielding.Yielding.{Yielding}
+use Rattle.map_straight.specs.Given.ResizeDeclared.yielding.Yielding.TheVariants as outcome
 use Rattle.map_straight.specs.Given.ResizeDeclared.sum.Sum.{Sum}
 use Rattle.papaya_raw.specs.Given.ReservesReserve.{enough, made, needed, or_too_long, plan_at, refusing, reserve_plan, reserving, root_read, standing, summed}
 use Rattle.papaya_raw.specs.Given.ReservesDeclared.reserve.Reserve.{Reserve}
@@ -96,7 +96,7 @@ module _ {K V S : Type 0} (same : K → K → Bool) (hashes : S → K → ℕ) (
   abbrev InCourse : Reserve → Mem (Node K V) → Type 0
   InCourse = Course same hashes b setting m0 xs h additional
 
-  abbrev LeadsTo : Reserve → Mem (Node K V) → Outcome (Node K V) Unit → Type 0
+  abbrev LeadsTo : Reserve → Mem (Node K V) → Yielding (Node K V) Unit → Type 0
   LeadsTo = CourseTo same hashes b setting m0 xs h additional
 
   -- It has come to no table: it reads the root, counts, or is refused for the length.
@@ -108,7 +108,7 @@ module _ {K V S : Type 0} (same : K → K → Bool) (hashes : S → K → ℕ) (
   HasNoTable _ = ⊥
 
   -- so after a step, by what that tells
-  abbrev ComesToNone : Reserve × Outcome (Node K V) Unit → Type 0
+  abbrev ComesToNone : Reserve × Yielding (Node K V) Unit → Type 0
   ComesToNone (q, outcome.Done end) = ⊥
   ComesToNone (q, outcome.Refused fault) = fault ≡ Capacity
   ComesToNone (q, _) = HasNoTable q.stands
@@ -128,7 +128,7 @@ module _ {K V S : Type 0} (same : K → K → Bool) (hashes : S → K → ℕ) (
       subst (λ (x : Bool). ComesToNone (if x then refusing p Capacity else (if nat_lt table.len need then (standing p (at.Follows table need), outcome.Goes) else (standing p at.Over, outcome.Done tt))))
       (sym (lt-ltb (2 ^ 48) need long)) refl
 
-  summed_so : (p : Reserve) (table : Table) (end : Sum × Progress ℕ) → CountsOn end → ((count : ℕ) → end.1 ≡ progress.Done count → 2 ^ 48 < needed p.additional count) → ComesToNone (summed p table end)
+  summed_so : (p : Reserve) (table : Table) (end : Sum × Advance ℕ) → CountsOn end → ((count : ℕ) → end.1 ≡ progress.Done count → 2 ^ 48 < needed p.additional count) → ComesToNone (summed p table end)
   summed_so p table (sum, progress.Goes) on is = tt
   summed_so p table (sum, progress.Waits) on is = tt
   summed_so p table (sum, progress.Done count) on is = refused_at p table (needed p.additional count) (is count refl)
@@ -140,7 +140,7 @@ module _ {K V S : Type 0} (same : K → K → Bool) (hashes : S → K → ℕ) (
   ReadTo p (at.Sums table sum) = Unit {0}
   ReadTo p _ = ⊥
 
-  abbrev WasRead : Reserve → Reserve × Outcome (Node K V) Unit → Type 0
+  abbrev WasRead : Reserve → Reserve × Yielding (Node K V) Unit → Type 0
   WasRead p (q, told) = (told ≡ outcome.Goes) × ReadTo p q.stands
 
   -- a first table of so many places is none
@@ -187,7 +187,7 @@ module _ {K V S : Type 0} (same : K → K → Bool) (hashes : S → K → ℕ) (
       by at.Over is r = absurd r
       by (at.Refused fault) is r = absurd r
 
-  led_on : (q : Reserve) (m : Mem (Node K V)) (told : Outcome (Node K V) Unit) → LeadsTo q m told → (p : Reserve) → p.additional ≡ additional → WasRead p (q, told) → ComesToNone (q, told)
+  led_on : (q : Reserve) (m : Mem (Node K V)) (told : Yielding (Node K V) Unit) → LeadsTo q m told → (p : Reserve) → p.additional ≡ additional → WasRead p (q, told) → ComesToNone (q, told)
   led_on q m outcome.Goes now p more read = first_so q m now p more read.1
   led_on q m outcome.Waits now p more read = absurd now
   led_on q m (outcome.Gave value) now p more read = absurd (let e = read.0 in cc e)
@@ -195,7 +195,7 @@ module _ {K V S : Type 0} (same : K → K → Bool) (hashes : S → K → ℕ) (
   led_on q m (outcome.Refused fault) now p more read = absurd (let e = read.0 in cc e)
 
   -- a step of one that has come to no table
-  module _ (p : Reserve) (m : Mem (Node K V)) (here : InCourse p m) (none : HasNoTable p.stands) (m2 : Mem (Node K V)) (p2 : Reserve) (told : Outcome (Node K V) Unit)
+  module _ (p : Reserve) (m : Mem (Node K V)) (here : InCourse p m) (none : HasNoTable p.stands) (m2 : Mem (Node K V)) (p2 : Reserve) (told : Yielding (Node K V) Unit)
       (leads : LeadsTo p2 m2 told) where
     abbrev Stepped : Reserving → Type 0
     Stepped stage = Steps Took value_at here.w.memory (plan_at hash p stage) m2 (p2, told)
@@ -213,7 +213,7 @@ module _ {K V S : Type 0} (same : K → K → Bool) (hashes : S → K → ℕ) (
         (summed_so p table d.0 (always_steps CountsOn here.w.memory m2 (sum_plan sum) d.0 (sum_counts (Node K V) sum) d.1)
         (λ count done. counted d.0 count done (sum_ahead setting here.w.memory sum facts.0 facts.1 m2 d.0 d.1)))
       where
-        counted : (end : Sum × Progress ℕ) (count : ℕ) → end.1 ≡ progress.Done count → Ahead setting here.w.memory sum facts.0 sum.stands end → 2 ^ 48 < needed p.additional count
+        counted : (end : Sum × Advance ℕ) (count : ℕ) → end.1 ≡ progress.Done count → Ahead setting here.w.memory sum facts.0 sum.stands end → 2 ^ 48 < needed p.additional count
         counted (next, progress.Done c) count done ahead =
             let one : c ≡ count = cc done in
             let all = said_still same hashes b setting m0 xs h additional here.w.memory here.counts in
@@ -222,10 +222,10 @@ module _ {K V S : Type 0} (same : K → K → Bool) (hashes : S → K → ℕ) (
         counted (next, progress.Waits) count done ahead = absurd (cc done)
         counted (next, progress.Refused fault) count done ahead = absurd (cc done)
 
-    refusing_so : (making : NewTable) → making.stands ≡ makes.Refused Capacity → (end : NewTable × Progress Table) → Steps Took value_at here.w.memory (new_table_plan {K = K} {V = V} making) m2 end → ComesToNone (made p end)
+    refusing_so : (making : NewTable) → making.stands ≡ makes.Refused Capacity → (end : NewTable × Advance Table) → Steps Took value_at here.w.memory (new_table_plan {K = K} {V = V} making) m2 end → ComesToNone (made p end)
     refusing_so making is end t =
         let stays = subst (λ (x : Making). Steps Took value_at here.w.memory (making_at {K = K} {V = V} making x) m2 end) is t in
-        subst (λ (x : NewTable × Progress Table). ComesToNone (made p x)) (sym stays.1) refl
+        subst (λ (x : NewTable × Advance Table). ComesToNone (made p x)) (sym stays.1) refl
 
     step_so : Steps Took value_at m (reserve_plan hash p) m2 (p2, told) → ComesToNone (p2, told)
     step_so s =
@@ -250,10 +250,10 @@ module _ {K V S : Type 0} (same : K → K → Bool) (hashes : S → K → ℕ) (
   HasNone x m = (u : Under same hashes b setting m0 xs h additional x m) × HasNoTable u.p.stands
 
   -- where a step of its machine leads, by what that tells
-  abbrev NextNone : ForRoom S → Mem (Node K V) → Progress Unit → Type 0
+  abbrev NextNone : ForRoom S → Mem (Node K V) → Advance Unit → Type 0
   NextNone = NextOf HasNone (λ x m result. result ≡ Err Capacity)
 
-  next_none : (q : Reserve) (m : Mem (Node K V)) (told : Outcome (Node K V) Unit) → LeadsTo q m told → ComesToNone (q, told)
+  next_none : (q : Reserve) (m : Mem (Node K V)) (told : Yielding (Node K V) Unit) → LeadsTo q m told → ComesToNone (q, told)
       → NextNone (for_room_settled (record { reserve = q; hasher = b }) told).0 m (for_room_settled (record { reserve = q; hasher = b }) told).1
   next_none q m outcome.Goes course none = (record { p = q; is = refl; course = course }, none)
   next_none q m outcome.Waits course none = absurd course
@@ -261,11 +261,11 @@ module _ {K V S : Type 0} (same : K → K → Bool) (hashes : S → K → ℕ) (
   next_none q m (outcome.Done end) course none = absurd none
   next_none q m (outcome.Refused fault) course none = ap (λ (z : Fault). Err z) none
 
-  under_none : (x : ForRoom S) (m : Mem (Node K V)) → HasNone x m → (m2 : Mem (Node K V)) (end : ForRoom S × Progress Unit) → Steps Took value_at m (for_room_plan {V = V} hashes x) m2 end → NextNone end.0 m2 end.1
+  under_none : (x : ForRoom S) (m : Mem (Node K V)) → HasNone x m → (m2 : Mem (Node K V)) (end : ForRoom S × Advance Unit) → Steps Took value_at m (for_room_plan {V = V} hashes x) m2 end → NextNone end.0 m2 end.1
   under_none x m n m2 end s =
       let k = under_back same hashes b setting m0 xs h additional x m n.0 m2 end s in
       let to = course_step same hashes b setting m0 xs h additional n.0.p m n.0.course m2 k.0.0 k.0.1 k.1 in
-      subst (λ (y : ForRoom S × Progress Unit). NextNone y.0 m2 y.1) (sym k.2) (next_none k.0.0 m2 k.0.1 to (step_so n.0.p m n.0.course n.1 m2 k.0.0 k.0.1 to k.1))
+      subst (λ (y : ForRoom S × Advance Unit). NextNone y.0 m2 y.1) (sym k.2) (next_none k.0.0 m2 k.0.1 to (step_so n.0.p m n.0.course n.1 m2 k.0.0 k.0.1 to k.1))
 
   runs_none : (x : ForRoom S) (m : Mem (Node K V)) (x2 : ForRoom S) (m2 : Mem (Node K V)) (result : Result Unit Fault) → RunsTo (for_room_plan {V = V} hashes) x m x2 m2 result → HasNone x m → result ≡ Err Capacity
   runs_none x m x2 m2 result runs none = run_comes HasNone (λ y n r. r ≡ Err Capacity) (for_room_plan {V = V} hashes) under_none x m none x2 m2 result runs

@@ -6,7 +6,7 @@ use Rattle.seize_words.specs.OneMemory.Mem.{Mem, Took, value_at}
 use Rattle.seize_words.specs.OneMemory.Plan.{Steps}
 use Rattle.seize_words.specs.declared.fault.Fault.{Fault}
 use Rattle.seize.specs.World.{World}
-use Rattle.seize.specs.declared.progress.Progress.{Progress}
+use Rattle.seize.specs.declared.advance.Advance.{Advance}
 use Rattle.map_tables.specs.declared.node.Node.{Node}
 use Rattle.map_tables.specs.declared.setting.Setting.{Setting}
 use Rattle.papaya_raw.specs.Call.{call_plan}
@@ -15,7 +15,7 @@ use Rattle.papaya_raw.specs.declared.machines.answer.Called.{Called}
 use Rattle.papaya_raw.specs.declared.machines.answer.Called.TheVariants as called
 use Rattle.papaya_raw.specs.declared.machines.answer.KeyAnswer.{KeyAnswer}
 use Rattle.papaya_raw.specs.declared.machines.asking.Asking.{Asking}
-use Rattle.papaya_raw.specs.declared.machines.asking.Reply.{Reply}
+use Rattle.papaya_raw.specs.declared.machines.asking.MachineReply.{MachineReply}
 use Rattle.papaya_raw.specs.declared.machines.call.Calling.TheVariants as at
 use Rattle.papaya_raw.specs.declared.machines.call.KeyCall.{KeyCall}
 use Rattle.map_straight.specs.Given.RuleChart.{Chart}
@@ -66,7 +66,7 @@ module _ {K V Q S : Type 0} (asks : Q → K → Bool) (same : K → K → Bool) 
 
     -- So does each reply.
     abbrev pub RepliesKeep : Type 0
-    RepliesKeep = (m : Mem (Node K V)) (c : Chart K) (blocks : Blocks) (u : CallOnKey K V Q) → Keeps u m c blocks → (about : Option ℕ) (told : Reply V) → Keeps (told_about u about told) m c blocks
+    RepliesKeep = (m : Mem (Node K V)) (c : Chart K) (blocks : Blocks) (u : CallOnKey K V Q) → Keeps u m c blocks → (about : Option ℕ) (told : MachineReply V) → Keeps (told_about u about told) m c blocks
 
     -- it is under way, and alone, and that is so
     pub record Course (u : CallOnKey K V Q) (m : Mem (Node K V)) : Type 0 where
@@ -96,7 +96,7 @@ module _ {K V Q S : Type 0} (asks : Q → K → Bool) (same : K → K → Bool) 
     StopsAt x m (Err fault) = Gives m (Err fault)
 
     -- where a step of its machine leads
-    abbrev Next : OnKey K V Q S → Mem (Node K V) → Progress Stop → Type 0
+    abbrev Next : OnKey K V Q S → Mem (Node K V) → Advance Stop → Type 0
     Next = NextOf Under StopsAt
 
     module _ (steps : StepsKeep) (replies : RepliesKeep) where
@@ -141,13 +141,13 @@ module _ {K V Q S : Type 0} (asks : Q → K → Bool) (same : K → K → Bool) 
       next_by u unstored m here m2 p2 (called.Done answer) s = (kept_then u m here m2 p2 (called.Done answer) s).1.0 answer refl
       next_by u unstored m here m2 p2 (called.Refused fault) s = (kept_then u m here m2 p2 (called.Refused fault) s).1.1 fault refl
 
-      under_step : (x : OnKey K V Q S) (m : Mem (Node K V)) → Under x m → (m2 : Mem (Node K V)) (end : OnKey K V Q S × Progress Stop) → Steps Took value_at m (on_key_plan asks same hashes x) m2 end → Next end.0 m2 end.1
+      under_step : (x : OnKey K V Q S) (m : Mem (Node K V)) → Under x m → (m2 : Mem (Node K V)) (end : OnKey K V Q S × Advance Stop) → Steps Took value_at m (on_key_plan asks same hashes x) m2 end → Next end.0 m2 end.1
       under_step x m v m2 end s =
           next_turned Under StopsAt (on_key_after (it v.u.call v.unstored)) m m2 (call_plan asks same hash v.u.call) (λ e. next_by v.u v.unstored m v.course m2 e.0 e.1) end
           (subst (λ (y : OnKey K V Q S). Steps Took value_at m (on_key_plan asks same hashes y) m2 end) v.is s)
 
       -- told anything, it is under way again
-      told_on : (x : OnKey K V Q S) (m : Mem (Node K V)) → AsksAt x m → (told : Reply V) → Under (record x { call = (replied x.call told).0 }) m
+      told_on : (x : OnKey K V Q S) (m : Mem (Node K V)) → AsksAt x m → (told : MachineReply V) → Under (record x { call = (replied x.call told).0 }) m
       told_on x m a told =
           let v = a.under in
           let c = v.course in

@@ -6,7 +6,7 @@ use Rattle.seize_words.specs.OneMemory.Mem.{Mem, Took, value_at}
 use Rattle.seize_words.specs.OneMemory.Plan.{Steps}
 use Rattle.seize_words.specs.declared.fault.Fault.{Fault}
 use Rattle.seize.specs.World.{World}
-use Rattle.seize.specs.declared.progress.Progress.{Progress}
+use Rattle.seize.specs.declared.advance.Advance.{Advance}
 use Rattle.map_tables.specs.declared.node.Node.{Node}
 use Rattle.map_tables.specs.declared.setting.Setting.{Setting}
 use Rattle.papaya_raw.specs.Given.SweepsSweep.{sweep_plan}
@@ -96,7 +96,7 @@ module _ {K V S : Type 0} (same : K → K → Bool) (hashes : S → K → ℕ) (
     StopsAt x m (Err fault) = IsKept m × Refuses m fault
 
     -- where a step of its machine leads
-    abbrev Next : OverPairs S → Mem (Node K V) → Progress Pause → Type 0
+    abbrev Next : OverPairs S → Mem (Node K V) → Advance Pause → Type 0
     Next = NextOf Under StopsAt
 
     under_of : (w : World (Node K V)) (m2 : Mem (Node K V)) (p2 : Sweep) (end : Swept (Node K V)) → (l : Led w m2 p2 end) → AloneIn l.w2 l.c2 l.blocks2 l.sights2 l.o2 → Under (it p2) m2
@@ -128,7 +128,7 @@ module _ {K V S : Type 0} (same : K → K → Bool) (hashes : S → K → ℕ) (
     next_by w m2 p2 (swept.Refused fault) l = (is_kept w m2 p2 (swept.Refused fault) l, l.refuses fault refl)
 
     module _ (steps : StepsKeep) (replies : RepliesKeep) where
-      under_step : (x : OverPairs S) (m : Mem (Node K V)) → Under x m → (m2 : Mem (Node K V)) (end : OverPairs S × Progress Pause) → Steps Took value_at m (over_pairs_plan {K = K} {V = V} hashes x) m2 end → Next end.0 m2 end.1
+      under_step : (x : OverPairs S) (m : Mem (Node K V)) → Under x m → (m2 : Mem (Node K V)) (end : OverPairs S × Advance Pause) → Steps Took value_at m (over_pairs_plan {K = K} {V = V} hashes x) m2 end → Next end.0 m2 end.1
       under_step x m u m2 end s =
           let c = u.course in
           next_turned Under StopsAt (over_pairs_after (it u.o.sweep)) m m2 (sweep_plan hash u.o.sweep)

@@ -3,7 +3,7 @@ use Rattle.std.specs.Prelude.{ℕ, Result, IfErr}
 use Rattle.seize_words.specs.OneMemory.Mem.{Mem, Took, value_at}
 use Rattle.seize_words.specs.OneMemory.Plan.{Steps}
 use Rattle.seize_words.specs.declared.fault.Fault.{Fault}
-use Rattle.seize.specs.declared.progress.Progress.{Progress}
+use Rattle.seize.specs.declared.advance.Advance.{Advance}
 use Rattle.map_tables.specs.declared.node.Node.{Node}
 use Rattle.papaya_raw.specs.Given.SweepsSweep.{sweep_plan}
 use Rattle.papaya_raw.specs.Given.ReservesDeclared.sweep.Swept.{Swept}
@@ -24,7 +24,7 @@ abbrev ComesSo : {S : Type 0} → OverPairs S → Result Pause Fault → Type 0
 ComesSo x result = RoomInSweeping x.sweep.stands × IfErr result IsRoom
 
 module _ {K V S : Type 0} (hashes : S → K → ℕ) where
-  abbrev NextSo : OverPairs S → Mem (Node K V) → Progress Pause → Type 0
+  abbrev NextSo : OverPairs S → Mem (Node K V) → Advance Pause → Type 0
   NextSo = NextOf (λ x m. IsSo x) (λ x m result. ComesSo x result)
 
   settled_so : (x : OverPairs S) (m : Mem (Node K V)) (told : Swept (Node K V)) → RoomInSweeping x.sweep.stands → SweepRefusesRoom told → NextSo (over_pairs_settled x told).0 m (over_pairs_settled x told).1
@@ -37,7 +37,7 @@ module _ {K V S : Type 0} (hashes : S → K → ℕ) where
   settled_so x m (swept.Asks word) here room = (here, tt)
   settled_so x m swept.Done here room = (here, tt)
 
-  step_so : (x : OverPairs S) (m : Mem (Node K V)) → IsSo x → (m2 : Mem (Node K V)) (end : OverPairs S × Progress Pause) → Steps Took value_at m (over_pairs_plan hashes x) m2 end → NextSo end.0 m2 end.1
+  step_so : (x : OverPairs S) (m : Mem (Node K V)) → IsSo x → (m2 : Mem (Node K V)) (end : OverPairs S × Advance Pause) → Steps Took value_at m (over_pairs_plan hashes x) m2 end → NextSo end.0 m2 end.1
   step_so x m here m2 end s =
       next_turned (λ y n. IsSo y) (λ y n result. ComesSo y result) (over_pairs_after x) m m2 (sweep_plan (hashes x.hasher.now) x.sweep)
       (λ e t. let room = sweeps_refuse_room (hashes x.hasher.now) x.sweep here m m2 e t in settled_so (record x { sweep = e.0 }) m2 e.1 room.0 room.1) end s

@@ -7,7 +7,7 @@ use Rattle.seize_words.specs.OneMemory.Plan.{Plan, May, Steps}
 use Rattle.seize_words.specs.declared.fault.Fault.{Fault}
 use Rattle.seize_words.specs.declared.fault.Fault.TheVariants.{Capacity}
 use Rattle.seize.specs.World.{World}
-use Rattle.seize.specs.declared.progress.Progress.{Progress}
+use Rattle.seize.specs.declared.advance.Advance.{Advance}
 use Rattle.map_straight.proofs.Given.SeizeRuleRows.Leaving.{steps_back}
 use Rattle.map_tables.specs.Chunks.{is_incremental}
 use Rattle.map_tables.specs.declared.node.Node.{Node}
@@ -265,7 +265,7 @@ module _ {K V S : Type 0} (same : K → K → Bool) (hashes : S → K → ℕ) (
   ComesTo said x m (Err fault) = (o : CallOverAll) × IsRefused said o m fault
 
   -- where a step of that machine leads, by what it tells
-  abbrev pub Next : Said → OverPairs S → Mem (Node K V) → Progress Pause → Type 0
+  abbrev pub Next : Said → OverPairs S → Mem (Node K V) → Advance Pause → Type 0
   Next said = NextOf (Under said) (ComesTo said)
 
   next_by : (said : Said) (o : CallOverAll) (m : Mem (Node K V)) (told : Swept (Node K V)) → CourseTo said o m told → Next said (over_pairs_settled (it o.sweep) told).0 m (over_pairs_settled (it o.sweep) told).1
@@ -278,7 +278,7 @@ module _ {K V S : Type 0} (same : K → K → Bool) (hashes : S → K → ℕ) (
   next_by said o m swept.Done c = (o, c)
   next_by said o m (swept.Refused fault) c = (o, c)
 
-  abbrev pub the_plan : OverPairs S → Plan (Node K V) (OverPairs S × Progress Pause)
+  abbrev pub the_plan : OverPairs S → Plan (Node K V) (OverPairs S × Advance Pause)
   the_plan = over_pairs_plan hashes
 
   module _ (said : Said) (x : OverPairs S) (m : Mem (Node K V)) (u : Under said x m) where
@@ -287,12 +287,12 @@ module _ {K V S : Type 0} (same : K → K → Bool) (hashes : S → K → ℕ) (
         subst (λ y. May Can Took value_at m (the_plan y)) (sym u.is)
         (may_turned (over_pairs_after (it u.o.sweep)) Can Took value_at m (sweep_plan hash u.o.sweep) (course_may said u.o m u.course))
 
-    pub under_back : (m2 : Mem (Node K V)) (end : OverPairs S × Progress Pause) → Steps Took value_at m (the_plan x) m2 end
+    pub under_back : (m2 : Mem (Node K V)) (end : OverPairs S × Advance Pause) → Steps Took value_at m (the_plan x) m2 end
         → (e : Sweep × Swept (Node K V)) × Steps Took value_at m (sweep_plan hash u.o.sweep) m2 e × (end ≡ over_pairs_after (it u.o.sweep) e)
     under_back m2 end s =
         steps_back (over_pairs_after (it u.o.sweep)) m m2 (sweep_plan hash u.o.sweep) end (subst (λ y. Steps Took value_at m (the_plan y) m2 end) u.is s)
 
-    pub under_step : (m2 : Mem (Node K V)) (end : OverPairs S × Progress Pause) → Steps Took value_at m (the_plan x) m2 end → Next said end.0 m2 end.1
+    pub under_step : (m2 : Mem (Node K V)) (end : OverPairs S × Advance Pause) → Steps Took value_at m (the_plan x) m2 end → Next said end.0 m2 end.1
     under_step m2 end s =
         let k = under_back m2 end s in
         let d = course_step said u.o m u.course m2 k.0.0 k.0.1 k.1 in

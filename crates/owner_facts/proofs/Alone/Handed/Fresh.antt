@@ -5,8 +5,8 @@ use Rattle.many_maps.specs.Given.SeizeWordsMem.{Mem, value_at, Took}
 use Rattle.many_maps.specs.Given.SeizeWordsOp.{Out, Found, Stored, Exchanged, Made, Taken, Roomed}
 use Rattle.many_maps.specs.Given.SeizeWordsPlan.{Then, Steps}
 use Rattle.many_maps.proofs.Given.SeizeRuleRows.Leaving.{steps_back}
-use Rattle.many_maps.specs.Given.SeizeDeclared.progress.Progress.{Progress}
-use Rattle.many_maps.specs.Given.SeizeDeclared.progress.Progress.TheVariants as progress
+use Rattle.many_maps.specs.Given.SeizeDeclared.advance.Advance.{Advance}
+use Rattle.many_maps.specs.Given.SeizeDeclared.advance.Advance.TheVariants as progress
 use Rattle.many_maps.specs.Given.RawAnswers.{ended}
 use Rattle.many_maps.specs.Given.RawCall.{made, makes_of, root_found, next_found, dropped, key_read, pair_read, word_read, word_found, tried, looked, looks_for, first_made, next_made, helped, copied, plan_at}
 use Rattle.many_maps.specs.Given.RawCallPoints.{going, standing, over, ending, tableless, at_free, following_made, asking_at, at_last, at_pair, told_of, entering, went_on, changed, counted, having_met}
@@ -20,8 +20,8 @@ use Rattle.many_maps.specs.Given.ResizeNewTable.{new_table_plan}
 use Rattle.many_maps.specs.Given.TablesTrials.{next_trial, with_met}
 use Rattle.many_maps.specs.Given.TablesDeclared.marks.TheConstants.{TOMBSTONE}
 use Rattle.many_maps.specs.Given.TablesDeclared.node.Node.{Node}
-use Rattle.many_maps.specs.Given.ResizeDeclared.outcome.Outcome.{Outcome}
-use Rattle.many_maps.specs.Given.ResizeDeclared.outcome.Outcome.TheVariants as outcome
+use Rattle.many_maps.specs.Given.ResizeDeclared.yielding.Yielding.{Yielding}
+use Rattle.many_maps.specs.Given.ResizeDeclared.yielding.Yielding.TheVariants as outcome
 use Rattle.many_maps.specs.Given.TablesDeclared.table.Table.{Table}
 use Rattle.many_maps.specs.Given.RawDeclared.machines.answer.KeyAnswer.{KeyAnswer}
 use Rattle.many_maps.specs.Given.RawDeclared.machines.answer.KeyAnswer.TheVariants as answers
@@ -141,33 +141,33 @@ module _ {K V Q : Type 0} where
         either (removed == 0) (over p (ends.Answered (answers.Stored p.own))) (going p (at.Disposes (disposing p.setting removed p.trial.table) (answers.Removed removed))) (refl, tt) (refl, tt)
 
     -- what machines within it tell
-    fresh_looked : (end : Lookup × Progress (Option ℕ)) → IsFresh (looked p end)
+    fresh_looked : (end : Lookup × Advance (Option ℕ)) → IsFresh (looked p end)
     fresh_looked (l, progress.Goes) = (refl, tt)
     fresh_looked (l, progress.Waits) = (refl, tt)
     fresh_looked (l, progress.Done (Some found)) = (refl, tt)
     fresh_looked (l, progress.Done None) = (refl, tt)
     fresh_looked (l, progress.Refused fault) = (refl, tt)
 
-    fresh_first : (end : NewTable × Progress Table) → IsFresh (first_made p end)
+    fresh_first : (end : NewTable × Advance Table) → IsFresh (first_made p end)
     fresh_first (n, progress.Goes) = (refl, tt)
     fresh_first (n, progress.Waits) = (refl, tt)
     fresh_first (n, progress.Done table) = (refl, tt)
     fresh_first (n, progress.Refused fault) = fresh_ending p (ends.Refused fault) tt
 
-    fresh_next : (end : NewTable × Progress Table) → IsFresh (next_made p end)
+    fresh_next : (end : NewTable × Advance Table) → IsFresh (next_made p end)
     fresh_next (n, progress.Goes) = (refl, tt)
     fresh_next (n, progress.Waits) = (refl, tt)
     fresh_next (n, progress.Done table) = fresh_on table
     fresh_next (n, progress.Refused fault) = fresh_ending p (ends.Refused fault) tt
 
-    pub fresh_helped : (goal : Table) (end : Copier × Outcome (Node K V) Table) → has_unlinked end.0.stands ≡ false → IsFresh (helped p goal end)
+    pub fresh_helped : (goal : Table) (end : Copier × Yielding (Node K V) Table) → has_unlinked end.0.stands ≡ false → IsFresh (helped p goal end)
     fresh_helped goal (copier, outcome.Goes) e = (e, tt)
     fresh_helped goal (copier, outcome.Waits) e = (e, tt)
     fresh_helped goal (copier, outcome.Gave value) e = (e, tt)
     fresh_helped goal (copier, outcome.Done table) e = (refl, tt)
     fresh_helped goal (copier, outcome.Refused fault) e = fresh_ending p (ends.Refused fault) tt
 
-    pub fresh_copied : (end : Copier × Outcome (Node K V) Table) → has_unlinked end.0.stands ≡ false → IsFresh (copied p end)
+    pub fresh_copied : (end : Copier × Yielding (Node K V) Table) → has_unlinked end.0.stands ≡ false → IsFresh (copied p end)
     fresh_copied (copier, outcome.Goes) e = (e, tt)
     fresh_copied (copier, outcome.Waits) e = (e, tt)
     fresh_copied (copier, outcome.Gave value) e = (e, tt)

@@ -24,7 +24,7 @@ use Rattle.many_maps.specs.Given.ResizeDeclared.lookup.Lookup.{Lookup}
 use Rattle.many_maps.specs.Given.ResizeDeclared.new_table.NewTable.{NewTable}
 use Rattle.many_maps.specs.Given.TablesDeclared.marks.TheConstants.{TOMBSTONE}
 use Rattle.many_maps.specs.Given.TablesDeclared.node.Node.{Node}
-use Rattle.many_maps.specs.Given.ResizeDeclared.outcome.Outcome.{Outcome}
+use Rattle.many_maps.specs.Given.ResizeDeclared.yielding.Yielding.{Yielding}
 use Rattle.many_maps.specs.Given.TablesDeclared.resize_mode.ResizeMode.{ResizeMode}
 use Rattle.many_maps.specs.Given.TablesDeclared.resize_mode.ResizeMode.TheVariants.{Blocking, Incremental}
 use Rattle.many_maps.specs.Given.TablesDeclared.setting.Setting.{Setting}
@@ -33,15 +33,15 @@ use Rattle.many_maps.proofs.Given.RuleWords.PlaceWords.{HasBlock, HasByte}
 use Rattle.many_maps.proofs.Given.RuleWords.PlaceWordsFinding.{finding-tombstone, finding-copied, finding-copying, finding-other, finding-still}
 use Rattle.many_maps.specs.Given.RuleChart.{Tombstone, Copied, Copying, Empty, Holds, Place, Still}
 use Rattle.many_maps.specs.Given.RuleWords.{word_of}
-use Rattle.many_maps.specs.Given.SeizeDeclared.progress.Progress.{Progress}
+use Rattle.many_maps.specs.Given.SeizeDeclared.advance.Advance.{Advance}
 use Rattle.many_maps.specs.Given.SeizeDeclared.rows.settle.Settled.{Settled}
 use Rattle.many_maps.proofs.Given.SeizeWordsOneOwner.Operations.{loaded}
 use Rattle.std.proofs.Common.{◌≡◌, ◌≢◌, ℕ, Bool, true, false, Option, Some, None, refl, sym, subst, ◌∙◌}
 use Rattle.std.specs.Prelude.{◌==◌, if◌then◌else◌}
 use Rattle.many_maps.specs.Given.RawDeclared.machines.call.Calling.TheVariants as at
-use Rattle.many_maps.specs.Given.ResizeDeclared.outcome.Outcome.TheVariants as outcome
+use Rattle.many_maps.specs.Given.ResizeDeclared.yielding.Yielding.TheVariants as outcome
 use Rattle.many_maps.specs.Given.RawDeclared.machines.answer.End.TheVariants as ends
-use Rattle.many_maps.specs.Given.SeizeDeclared.progress.Progress.TheVariants as progress
+use Rattle.many_maps.specs.Given.SeizeDeclared.advance.Advance.TheVariants as progress
 use Rattle.many_maps.specs.Given.SeizeDeclared.rows.settle.Settled.TheVariants as settled
 use Rattle.many_maps.specs.Given.RawDeclared.machines.answer.KeyAnswer.TheVariants as answers
 use Rattle.many_maps.specs.Given.RawDeclared.machines.answer.Missing.TheVariants as missing
@@ -195,33 +195,33 @@ module _ {K V Q : Type 0} (p : KeyCall K V Q) where
       answered true = (tt, tt)
       answered false = (tt, tt)
 
-  pub looked_on : (end : Lookup × Progress (Option ℕ)) → end.1 ≢ progress.Waits → On (looked p end)
+  pub looked_on : (end : Lookup × Advance (Option ℕ)) → end.1 ≢ progress.Waits → On (looked p end)
   looked_on (next, progress.Goes) none = (tt, tt)
   looked_on (next, progress.Waits) none = absurd (none refl)
   looked_on (next, progress.Done (Some found)) none = (tt, tt)
   looked_on (next, progress.Done None) none = (tt, tt)
   looked_on (next, progress.Refused fault) none = (tt, tt)
 
-  pub first_on : (end : NewTable × Progress Table) → end.1 ≢ progress.Waits → On (first_made p end)
+  pub first_on : (end : NewTable × Advance Table) → end.1 ≢ progress.Waits → On (first_made p end)
   first_on (next, progress.Goes) none = (tt, tt)
   first_on (next, progress.Waits) none = absurd (none refl)
   first_on (next, progress.Done table) none = (tt, tt)
   first_on (next, progress.Refused fault) none = ending_on (ends.Refused fault)
 
-  pub next_on : (end : NewTable × Progress Table) → end.1 ≢ progress.Waits → On (next_made p end)
+  pub next_on : (end : NewTable × Advance Table) → end.1 ≢ progress.Waits → On (next_made p end)
   next_on (next, progress.Goes) none = (tt, tt)
   next_on (next, progress.Waits) none = absurd (none refl)
   next_on (next, progress.Done table) none = following_on table
   next_on (next, progress.Refused fault) none = ending_on (ends.Refused fault)
 
-  pub helped_on : (goal : Table) (end : Copier × Outcome (Node K V) Table) → end.1 ≢ outcome.Waits → Proceeds (helped p goal end)
+  pub helped_on : (goal : Table) (end : Copier × Yielding (Node K V) Table) → end.1 ≢ outcome.Waits → Proceeds (helped p goal end)
   helped_on goal (next, outcome.Goes) none = tt
   helped_on goal (next, outcome.Waits) none = absurd (none refl)
   helped_on goal (next, outcome.Gave value) none = tt
   helped_on goal (next, outcome.Done table) none = tt
   helped_on goal (next, outcome.Refused fault) none = (ending_on (ends.Refused fault)).0
 
-  pub copied_on : (end : Copier × Outcome (Node K V) Table) → end.1 ≢ outcome.Waits → Proceeds (copied p end)
+  pub copied_on : (end : Copier × Yielding (Node K V) Table) → end.1 ≢ outcome.Waits → Proceeds (copied p end)
   copied_on (next, outcome.Goes) none = tt
   copied_on (next, outcome.Waits) none = absurd (none refl)
   copied_on (next, outcome.Gave value) none = tt

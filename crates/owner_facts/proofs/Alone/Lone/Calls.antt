@@ -20,7 +20,7 @@ use Rattle.many_maps.specs.Given.ResizeDeclared.dispose.Dispose.{Dispose}
 use Rattle.many_maps.specs.Given.ResizeDeclared.lookup.Lookup.{Lookup}
 use Rattle.many_maps.specs.Given.ResizeDeclared.new_table.NewTable.{NewTable}
 use Rattle.many_maps.specs.Given.TablesDeclared.node.Node.{Node}
-use Rattle.many_maps.specs.Given.ResizeDeclared.outcome.Outcome.{Outcome}
+use Rattle.many_maps.specs.Given.ResizeDeclared.yielding.Yielding.{Yielding}
 use Rattle.many_maps.specs.Given.TablesDeclared.setting.Setting.{Setting}
 use Rattle.many_maps.specs.Given.TablesDeclared.table.Table.{Table}
 use Rattle.many_maps.specs.Given.TablesDeclared.table_words.TheConstants.{NEXT}
@@ -49,7 +49,7 @@ use Rattle.many_maps.proofs.Given.PointsLookups.Points.{went_lookup}
 use Rattle.owner_facts.specs.Alone.FactsAloneCalls.{StandsAlone}
 use Rattle.many_maps.proofs.Given.SeizeRuleRows.Leaving.{steps_back}
 use Rattle.many_maps.specs.Given.SeizeWorld.{World}
-use Rattle.many_maps.specs.Given.SeizeDeclared.progress.Progress.{Progress}
+use Rattle.many_maps.specs.Given.SeizeDeclared.advance.Advance.{Advance}
 use Rattle.many_maps.specs.Given.SeizeDeclared.rows.settle.Settled.{Settled}
 use Rattle.many_maps.proofs.Given.SeizeWordsOneOwner.Operations.{loaded, exchanged, added, made as made_by_step, taken}
 use Rattle.many_maps.proofs.Given.SeizeWordsPlans.{ends_if}
@@ -66,8 +66,8 @@ use Rattle.many_maps.specs.Given.RawDeclared.machines.answer.End.TheVariants as 
 use Rattle.many_maps.specs.Given.TablesDeclared.finding.Finding.TheVariants as is
 use Rattle.many_maps.specs.Given.SeizeWordsDeclared.fault.Fault.TheVariants.{Memory}
 use Rattle.many_maps.specs.Given.TablesDeclared.node.Node.TheVariants as nodes
-use Rattle.many_maps.specs.Given.ResizeDeclared.outcome.Outcome.TheVariants as outcome
-use Rattle.many_maps.specs.Given.SeizeDeclared.progress.Progress.TheVariants as progress
+use Rattle.many_maps.specs.Given.ResizeDeclared.yielding.Yielding.TheVariants as outcome
+use Rattle.many_maps.specs.Given.SeizeDeclared.advance.Advance.TheVariants as progress
 use Rattle.many_maps.specs.Given.SeizeDeclared.rows.settle.Settled.TheVariants as settled
 use Rattle.many_maps.specs.Given.PointsFactsIdle.{IsIdle}
 use Rattle.owner_facts.proofs.Alone.Lone.Awaits.{IsFresh, Proceeds, On, copying_place, ended_on, tableless_on, last_on, following_on, changed_on, counted_on, told_on, looked_on, first_on, next_on, helped_on, copied_on, disposed_on, asks_on}
@@ -154,19 +154,19 @@ module _ {K V Q : Type 0} (same : K → K → Bool) (hash : K → ℕ) (asks : Q
         ]
 
     -- what machines within it tell
-    lookup_on : (keys : K → Bool) (out : Lookup × Progress (Option ℕ)) → LookupTold same hash setting.mode setting.root keys p.hash c blocks out → out.1 ≢ progress.Waits
+    lookup_on : (keys : K → Bool) (out : Lookup × Advance (Option ℕ)) → LookupTold same hash setting.mode setting.root keys p.hash c blocks out → out.1 ≢ progress.Waits
     lookup_on keys (next, progress.Goes) told e = cc
     lookup_on keys (next, progress.Waits) told e = told
     lookup_on keys (next, progress.Done found) told e = cc
     lookup_on keys (next, progress.Refused fault) told e = cc
 
-    new_table_on : (w2 : World (Node K V)) (c2 : Chart K) (blocks2 : Blocks) (link : At) (turn : ℕ) (out : NewTable × Progress Table) → NewTableTold w2 caller setting c2 blocks2 link turn out → out.1 ≢ progress.Waits
+    new_table_on : (w2 : World (Node K V)) (c2 : Chart K) (blocks2 : Blocks) (link : At) (turn : ℕ) (out : NewTable × Advance Table) → NewTableTold w2 caller setting c2 blocks2 link turn out → out.1 ≢ progress.Waits
     new_table_on w2 c2 blocks2 link turn (next, progress.Goes) told e = cc
     new_table_on w2 c2 blocks2 link turn (next, progress.Waits) told e = told
     new_table_on w2 c2 blocks2 link turn (next, progress.Done table) told e = cc
     new_table_on w2 c2 blocks2 link turn (next, progress.Refused fault) told e = cc
 
-    copier_on : (c2 : Chart K) (out : Copier × Outcome (Node K V) Table) → LeadsAlone c2 caller out → out.1 ≢ outcome.Waits
+    copier_on : (c2 : Chart K) (out : Copier × Yielding (Node K V) Table) → LeadsAlone c2 caller out → out.1 ≢ outcome.Waits
     copier_on c2 (next, outcome.Goes) told e = cc
     copier_on c2 (next, outcome.Waits) told e = told
     copier_on c2 (next, outcome.Gave value) told e = cc

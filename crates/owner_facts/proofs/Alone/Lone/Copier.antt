@@ -5,8 +5,8 @@ use Rattle.many_maps.specs.Given.SeizeWordsMem.{Mem, value_at, Took}
 use Rattle.many_maps.specs.Given.SeizeWordsPlan.{Steps}
 use Rattle.many_maps.proofs.Given.SeizeWordsOneOwner.Operations.{exchanged}
 use Rattle.many_maps.specs.Given.SeizeWorld.{World}
-use Rattle.many_maps.specs.Given.SeizeDeclared.progress.Progress.{Progress}
-use Rattle.many_maps.specs.Given.SeizeDeclared.progress.Progress.TheVariants as progress
+use Rattle.many_maps.specs.Given.SeizeDeclared.advance.Advance.{Advance}
+use Rattle.many_maps.specs.Given.SeizeDeclared.advance.Advance.TheVariants as progress
 use Rattle.many_maps.specs.Given.TablesChunks.{is_incremental}
 use Rattle.many_maps.specs.Given.ResizeCopier.{plan_at, copier_plan}
 use Rattle.many_maps.specs.Given.ResizeCopierPlaces.{put_told, copied_word, next_try, pair_put}
@@ -18,8 +18,8 @@ use Rattle.many_maps.specs.Given.TablesDeclared.table_words.TheConstants.{NEXT}
 use Rattle.many_maps.specs.Given.SeizeWordsDeclared.at.At.TheVariants.{Word}
 use Rattle.many_maps.specs.Given.TablesTablePlaces.{at_place}
 use Rattle.many_maps.specs.Given.TablesDeclared.node.Node.{Node}
-use Rattle.many_maps.specs.Given.ResizeDeclared.outcome.Outcome.{Outcome}
-use Rattle.many_maps.specs.Given.ResizeDeclared.outcome.Outcome.TheVariants.{Goes, Waits}
+use Rattle.many_maps.specs.Given.ResizeDeclared.yielding.Yielding.{Yielding}
+use Rattle.many_maps.specs.Given.ResizeDeclared.yielding.Yielding.TheVariants.{Goes, Waits}
 use Rattle.many_maps.specs.Given.TablesDeclared.setting.Setting.{Setting}
 use Rattle.many_maps.specs.Given.TablesDeclared.table.Table.{Table}
 use Rattle.many_maps.specs.Given.ResizeDeclared.copier.Copier.{Copier}
@@ -45,7 +45,7 @@ use Rattle.owner_facts.proofs.Alone.Lone.CopierSteps.{LeadsOn, WaitsFor, AwaitsP
 module _ {K V : Type 0} (same : K → K → Bool) (hash : K → ℕ) (setting : Setting) (bits : is_incremental setting.mode ≡ true) (initial_is : IsPowerOfTwo setting.initial)
     (lawful : IsLawful same (spot_of hash)) (fits : (k : K) → hash k < 2 ^ 64)
     (w : World (Node K V)) (caller : ℕ) (c : Chart K) (blocks : Blocks) (map : IsMapIn same hash setting w c blocks) (p : Copier)
-    (m2 : Mem (Node K V)) (end : Copier × Outcome (Node K V) Table) where
+    (m2 : Mem (Node K V)) (end : Copier × Yielding (Node K V) Table) where
   -- what it waits for: at a place that another caller copies, or for the status
   abbrev pub Awaits : Point → Type 0
   Awaits at.Marks = AwaitsPlace p w.memory m2 end
@@ -53,7 +53,7 @@ module _ {K V : Type 0} (same : K → K → Bool) (hash : K → ℕ) (setting : 
   Awaits _ = ⊥
 
   waiting : (q : Copier) → end ≡ (q, Goes) → end.1 ≡ Waits → ⊥
-  waiting q ends waits = let goes = ap (λ (x : Copier × Outcome (Node K V) Table). x.1) ends in cc (goes, waits)
+  waiting q ends waits = let goes = ap (λ (x : Copier × Yielding (Node K V) Table). x.1) ends in cc (goes, waits)
 
   below : (stands : Point) → LeadsOn p w.memory m2 end stands → end.1 ≡ Waits → ⊥
   below stands h = waiting h.0 h.1
@@ -63,7 +63,7 @@ module _ {K V : Type 0} (same : K → K → Bool) (hash : K → ℕ) (setting : 
   or_waits stands Other (inr h) waits = absurd (below stands h waits)
 
   -- a making of a table never waits
-  grown_waits : (word code : ℕ) (w2 : World (Node K V)) (c2 : Chart K) (blocks2 : Blocks) (b t : ℕ) (made : NewTable × Progress Table) → end ≡ grown p word code made
+  grown_waits : (word code : ℕ) (w2 : World (Node K V)) (c2 : Chart K) (blocks2 : Blocks) (b t : ℕ) (made : NewTable × Advance Table) → end ≡ grown p word code made
       → NewTableTold w2 caller setting c2 blocks2 (Word b NEXT) (suc t) made → end.1 ≡ Waits → ⊥
   grown_waits word code w2 c2 blocks2 b t (making, progress.Goes) ends told = waiting (standing p (at.Grows word code making)) ends
   grown_waits word code w2 c2 blocks2 b t (making, progress.Waits) ends told = absurd told
@@ -103,8 +103,8 @@ module _ {K V : Type 0} (same : K → K → Bool) (hash : K → ℕ) (setting : 
     awaits_at at.Announces f none s = below at.Announces (leads_announces p w.memory m2 end s)
     awaits_at (at.Succeeds table) f none s = below (at.Succeeds table) (leads_succeeds p w.memory m2 end table s)
     awaits_at (at.Retires settle rest) f none s = absurd (none tt)
-    awaits_at at.Over f none s = λ waits. let done = ap (λ (x : Copier × Outcome (Node K V) Table). x.1) s.1 in cc (done, waits)
-    awaits_at (at.Refused fault) f none s = λ waits. let refused = ap (λ (x : Copier × Outcome (Node K V) Table). x.1) s.1 in cc (refused, waits)
+    awaits_at at.Over f none s = λ waits. let done = ap (λ (x : Copier × Yielding (Node K V) Table). x.1) s.1 in cc (done, waits)
+    awaits_at (at.Refused fault) f none s = λ waits. let refused = ap (λ (x : Copier × Yielding (Node K V) Table). x.1) s.1 in cc (refused, waits)
 
     -- a copier of a whole table waits, if any does
     awaits_whole : (stands : Point) → CopyingFacts same hash w caller setting c blocks p stands → Awaits stands → p.whole ≡ true

@@ -16,8 +16,8 @@ use Rattle.many_maps.specs.Given.ResizeCopierCounts.{counts, tallies, unmarks, u
 use Rattle.many_maps.specs.Given.ResizeCopierPromotes.{promotes, announces, succeeds, promoted, successor_read, retiring_table, also_retired}
 use Rattle.many_maps.specs.Given.TablesDeclared.marks.TheConstants.{COPYING, COPIED}
 use Rattle.many_maps.specs.Given.TablesDeclared.node.Node.{Node}
-use Rattle.many_maps.specs.Given.ResizeDeclared.outcome.Outcome.{Outcome}
-use Rattle.many_maps.specs.Given.ResizeDeclared.outcome.Outcome.TheVariants.{Goes, Waits}
+use Rattle.many_maps.specs.Given.ResizeDeclared.yielding.Yielding.{Yielding}
+use Rattle.many_maps.specs.Given.ResizeDeclared.yielding.Yielding.TheVariants.{Goes, Waits}
 use Rattle.many_maps.specs.Given.TablesDeclared.status.TheConstants.Status.{ABORTED, PROMOTED}
 use Rattle.many_maps.specs.Given.TablesDeclared.table.Table.{Table}
 use Rattle.many_maps.specs.Given.TablesDeclared.table_words.TheConstants.{NEXT, CLAIM, STATUS, COPIED as COUNT}
@@ -26,7 +26,7 @@ use Rattle.many_maps.specs.Given.ResizeDeclared.copier.Copying.{Copying as Point
 use Rattle.many_maps.specs.Given.ResizeDeclared.copier.Copying.TheVariants as at
 use Rattle.owner_facts.proofs.Alone.Lone.QuietPoints.{GoesTo, quiet_none_left, quiet_next}
 
-module _ {K V : Type 0} (p : Copier) (m m2 : Mem (Node K V)) (end : Copier × Outcome (Node K V) Table) where
+module _ {K V : Type 0} (p : Copier) (m m2 : Mem (Node K V)) (end : Copier × Yielding (Node K V) Table) where
   -- it goes on
   abbrev pub LeadsOn : Point → Type 0
   LeadsOn stands = (q : Copier) × (end ≡ (q, Goes)) × GoesTo stands q.stands

@@ -9,7 +9,7 @@ use Rattle.many_maps.specs.Given.ResizeCopierMarks.{is_mine}
 use Rattle.many_maps.specs.Given.TablesMarks.{has_mark}
 use Rattle.many_maps.specs.Given.TablesDeclared.marks.TheConstants.{COPIED}
 use Rattle.many_maps.specs.Given.TablesDeclared.node.Node.{Node}
-use Rattle.many_maps.specs.Given.ResizeDeclared.outcome.Outcome.{Outcome}
+use Rattle.many_maps.specs.Given.ResizeDeclared.yielding.Yielding.{Yielding}
 use Rattle.many_maps.specs.Given.TablesDeclared.setting.Setting.{Setting}
 use Rattle.many_maps.specs.Given.TablesDeclared.status.TheConstants.Status.{PROMOTED}
 use Rattle.many_maps.specs.Given.TablesDeclared.table.Table.{Table}
@@ -89,7 +89,7 @@ counted_with caller share (inr e) = ap (λ (s : Share). is_counted (with_counted
 
 module _ {K V : Type 0} (same : K → K → Bool) (hash : K → ℕ) (caller : ℕ) (setting : Setting) (w : World (Node K V)) (c : Chart K) (blocks : Blocks)
     (map : IsMapIn same hash setting w c blocks) (bits : is_incremental setting.mode ≡ true) (idle : OthersIdle caller c) (p : Copier) (is : p.setting ≡ setting)
-    (m2 : Mem (Node K V)) (end : Copier × Outcome (Node K V) Table) where
+    (m2 : Mem (Node K V)) (end : Copier × Yielding (Node K V) Table) where
   rule : Rule same (spot_of hash) true c
   rule = rule_incremental same hash setting w c blocks map bits
 

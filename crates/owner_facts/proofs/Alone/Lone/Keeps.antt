@@ -16,9 +16,9 @@ use Rattle.many_maps.specs.Given.ResizeNewTable.{table_after, new_table_plan}
 use Rattle.many_maps.specs.Given.TablesTablePlaces.{at_place}
 use Rattle.many_maps.specs.Given.TablesDeclared.lengths.Reason.TheVariants.{NoPlace}
 use Rattle.many_maps.specs.Given.TablesDeclared.node.Node.{Node}
-use Rattle.many_maps.specs.Given.ResizeDeclared.outcome.Outcome.{Outcome}
-use Rattle.many_maps.specs.Given.ResizeDeclared.outcome.Outcome.TheVariants.{Goes}
-use Rattle.many_maps.specs.Given.ResizeDeclared.outcome.Outcome.TheVariants as outcome
+use Rattle.many_maps.specs.Given.ResizeDeclared.yielding.Yielding.{Yielding}
+use Rattle.many_maps.specs.Given.ResizeDeclared.yielding.Yielding.TheVariants.{Goes}
+use Rattle.many_maps.specs.Given.ResizeDeclared.yielding.Yielding.TheVariants as outcome
 use Rattle.many_maps.specs.Given.TablesDeclared.setting.Setting.{Setting}
 use Rattle.many_maps.specs.Given.TablesDeclared.table.Table.{Table}
 use Rattle.many_maps.specs.Given.ResizeDeclared.copier.Copier.{Copier}
@@ -41,7 +41,7 @@ use Rattle.owner_facts.proofs.Alone.Lone.Steps.{quiet_next_try, quiet_pair_put, 
 
 module _ {K V : Type 0} (same : K → K → Bool) (hash : K → ℕ) (setting : Setting) (bits : is_incremental setting.mode ≡ true) (initial_is : IsPowerOfTwo setting.initial)
     (w : World (Node K V)) (caller : ℕ) (c : Chart K) (blocks : Blocks) (map : IsMapIn same hash setting w c blocks) (p : Copier) (is : p.setting ≡ setting)
-    (idle : OthersIdle caller c) (m2 : Mem (Node K V)) (end : Copier × Outcome (Node K V) Table)
+    (idle : OthersIdle caller c) (m2 : Mem (Node K V)) (end : Copier × Yielding (Node K V) Table)
     (w2 : World (Node K V)) (c2 : Chart K) (blocks2 : Blocks) (map2 : IsMapIn same hash setting w2 c2 blocks2) where
   goes : (q : Copier) → end ≡ (q, Goes) → IsQuiet q.stands → IsQuiet end.0.stands
   goes q = quiet_goes same hash setting bits w caller c blocks map p idle m2 end w2 c2 blocks2 map2 q Goes
@@ -57,12 +57,12 @@ module _ {K V : Type 0} (same : K → K → Bool) (hash : K → ℕ) (setting : 
   )
 
   further : (q : Copier) → end ≡ (q, Goes) → FactsAlone c2 caller end.0 → Kept
-  further q on alone = (alone, λ ends. absurd (ends (ap (λ (x : Copier × Outcome (Node K V) Table). x.1) on)))
+  further q on alone = (alone, λ ends. absurd (ends (ap (λ (x : Copier × Yielding (Node K V) Table). x.1) on)))
 
-  last : (outcome : Outcome (Node K V) Table) → end ≡ (p, outcome) → IsQuiet p.stands → AllAnnounced c × IsUncounted c → c2 ≡ c → Kept
+  last : (outcome : Yielding (Node K V) Table) → end ≡ (p, outcome) → IsQuiet p.stands → AllAnnounced c × IsUncounted c → c2 ≡ c → Kept
   last outcome ends quiet alone moved = (
     ends_kept same hash setting bits w caller c blocks map p idle m2 end w2 c2 blocks2 map2 outcome ends quiet alone moved,
-    λ _. subst (λ (x : Copier × Outcome (Node K V) Table). IsQuiet x.0.stands) (sym ends) quiet,
+    λ _. subst (λ (x : Copier × Yielding (Node K V) Table). IsQuiet x.0.stands) (sym ends) quiet,
   )
 
   pub kept_at : (stands : Point) → p.stands ≡ stands → CopyingFacts same hash w caller setting c blocks p stands → (IsRowOfCopier stands → ⊥)
@@ -109,7 +109,7 @@ module _ {K V : Type 0} (same : K → K → Bool) (hash : K → ℕ) (setting : 
       either q (inr e) = subst (λ (x : Copier). IsQuiet x.stands) (sym e.2) tt
   kept_at (at.Grows word code making) here f none s alone told moved =
       let b = steps_back (grown p word code) w.memory m2 (new_table_plan making) end s in
-      plain (subst (λ (x : Copier × Outcome (Node K V) Table). IsQuiet x.0.stands) (sym b.2) (quiet_grown K V p word code b.0)) (let made = f.3.copies.0.made in omega arith) alone moved
+      plain (subst (λ (x : Copier × Yielding (Node K V) Table). IsQuiet x.0.stands) (sym b.2) (quiet_grown K V p word code b.0)) (let made = f.3.copies.0.made in omega arith) alone moved
   kept_at at.Aborts here f none s alone told moved = absurd f
   kept_at at.Replaces here f none s alone told moved = absurd f
   kept_at (at.Remakes making) here f none s alone told moved = absurd f

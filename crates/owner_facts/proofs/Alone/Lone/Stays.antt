@@ -18,8 +18,8 @@ use Rattle.many_maps.specs.Given.RawDeclared.machines.call.Calling.{Calling}
 use Rattle.many_maps.specs.Given.RawDeclared.machines.call.Calling.TheVariants as at
 use Rattle.many_maps.specs.Given.ResizeDeclared.copier.Copier.{Copier}
 use Rattle.many_maps.specs.Given.TablesDeclared.node.Node.{Node}
-use Rattle.many_maps.specs.Given.ResizeDeclared.outcome.Outcome.{Outcome}
-use Rattle.many_maps.specs.Given.ResizeDeclared.outcome.Outcome.TheVariants as outcome
+use Rattle.many_maps.specs.Given.ResizeDeclared.yielding.Yielding.{Yielding}
+use Rattle.many_maps.specs.Given.ResizeDeclared.yielding.Yielding.TheVariants as outcome
 use Rattle.many_maps.specs.Given.TablesDeclared.setting.Setting.{Setting}
 use Rattle.many_maps.specs.Given.TablesDeclared.table.Table.{Table}
 use Rattle.many_maps.specs.Given.RawDeclared.machines.answer.Called.TheVariants as called
@@ -85,7 +85,7 @@ module _ {K V Q : Type 0} (b : Bool) (caller : ℕ) (c : Chart K) (p : KeyCall K
       by true (ends.Refused fault) = rests
       by false end = record { idle = rests.idle; point = rests.tables }
 
-  helped_lone : b ≡ true → (goal : Table) (end : Copier × Outcome (Node K V) Table) → end.1 ≢ outcome.Waits
+  helped_lone : b ≡ true → (goal : Table) (end : Copier × Yielding (Node K V) Table) → end.1 ≢ outcome.Waits
       → FactsAlone c caller end.0 × (end.1 ≢ outcome.Goes → IsQuiet end.0.stands) → Leads (helped p goal end)
   helped_lone bits goal (next, outcome.Goes) none alone = record { idle = alone.0.idle; point = alone.0.point }
   helped_lone bits goal (next, outcome.Waits) none alone = absurd (none refl)
@@ -98,7 +98,7 @@ module _ {K V Q : Type 0} (b : Bool) (caller : ℕ) (c : Chart K) (p : KeyCall K
       ending_lone (ends.Refused fault)
       (record { idle = alone.0.idle; tables = subst (λ (x : Bool). TablesAlone x c) (sym bits) (quiet_alone c next next.stands (alone.1 (λ e. cc e)) alone.0.point) })
 
-  copied_lone : b ≡ false → (end : Copier × Outcome (Node K V) Table) → LeadsAlone c caller end → Leads (copied p end)
+  copied_lone : b ≡ false → (end : Copier × Yielding (Node K V) Table) → LeadsAlone c caller end → Leads (copied p end)
   copied_lone blocking (next, outcome.Goes) alone = record { idle = alone.0; point = alone.1 }
   copied_lone blocking (next, outcome.Waits) alone = absurd alone
   copied_lone blocking (next, outcome.Gave value) alone = absurd alone

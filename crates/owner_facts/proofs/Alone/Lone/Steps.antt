@@ -6,8 +6,8 @@ use Rattle.many_maps.specs.Given.SeizeWordsMem.{Mem, value_at, word_at, with_wor
 use Rattle.many_maps.specs.Given.SeizeWordsPlan.{Steps, Ends}
 use Rattle.many_maps.proofs.Given.SeizeWordsOneOwner.Operations.{added}
 use Rattle.many_maps.specs.Given.SeizeWorld.{World}
-use Rattle.many_maps.specs.Given.SeizeDeclared.progress.Progress.{Progress}
-use Rattle.many_maps.specs.Given.SeizeDeclared.progress.Progress.TheVariants as progress
+use Rattle.many_maps.specs.Given.SeizeDeclared.advance.Advance.{Advance}
+use Rattle.many_maps.specs.Given.SeizeDeclared.advance.Advance.TheVariants as progress
 use Rattle.many_maps.specs.Given.TablesChunks.{is_incremental}
 use Rattle.many_maps.specs.Given.ResizeCopierCounts.{counts, counted, tallies, to}
 use Rattle.many_maps.specs.Given.ResizeCopierFurther.{grown}
@@ -16,8 +16,8 @@ use Rattle.many_maps.specs.Given.ResizeCopierStates.{standing, behind, place_don
 use Rattle.many_maps.specs.Given.TablesProbes.{probe_after}
 use Rattle.many_maps.specs.Given.TablesTablePlaces.{at_word}
 use Rattle.many_maps.specs.Given.TablesDeclared.node.Node.{Node}
-use Rattle.many_maps.specs.Given.ResizeDeclared.outcome.Outcome.{Outcome}
-use Rattle.many_maps.specs.Given.ResizeDeclared.outcome.Outcome.TheVariants.{Goes, Waits}
+use Rattle.many_maps.specs.Given.ResizeDeclared.yielding.Yielding.{Yielding}
+use Rattle.many_maps.specs.Given.ResizeDeclared.yielding.Yielding.TheVariants.{Goes, Waits}
 use Rattle.many_maps.specs.Given.SeizeWordsDeclared.fault.Fault.{Fault}
 use Rattle.many_maps.specs.Given.TablesDeclared.probe.Probe.{Probe}
 use Rattle.many_maps.specs.Given.TablesDeclared.setting.Setting.{Setting}
@@ -64,7 +64,7 @@ quiet_pair_put p word = by (is_incremental p.setting.mode)
     by true = tt
     by false = quiet_next (record p { done = (p.done + 1) % 2 ^ 64 })
 
-pub quiet_grown : (K V : Type 0) (p : Copier) (word code : ℕ) (b : NewTable × Progress Table) → IsQuiet (grown {K = K} {V = V} p word code b).0.stands
+pub quiet_grown : (K V : Type 0) (p : Copier) (word code : ℕ) (b : NewTable × Advance Table) → IsQuiet (grown {K = K} {V = V} p word code b).0.stands
 quiet_grown K V p word code (making, progress.Goes) = tt
 quiet_grown K V p word code (making, progress.Waits) = tt
 quiet_grown K V p word code (making, progress.Done table) = tt
@@ -76,7 +76,7 @@ quiet_grown K V p word code (making, progress.Refused fault) = by (p.done == 0)
 
 module _ {K V : Type 0} (same : K → K → Bool) (hash : K → ℕ) (setting : Setting) (bits : is_incremental setting.mode ≡ true)
     (w : World (Node K V)) (caller : ℕ) (c : Chart K) (blocks : Blocks) (map : IsMapIn same hash setting w c blocks) (p : Copier)
-    (idle : OthersIdle caller c) (m2 : Mem (Node K V)) (end : Copier × Outcome (Node K V) Table)
+    (idle : OthersIdle caller c) (m2 : Mem (Node K V)) (end : Copier × Yielding (Node K V) Table)
     (w2 : World (Node K V)) (c2 : Chart K) (blocks2 : Blocks) (map2 : IsMapIn same hash setting w2 c2 blocks2) where
   -- it goes on from a point at which nothing is to be said
   pub quiet_kept : IsQuiet end.0.stands → c.first < c.past → AllAnnounced c × IsUncounted c → MovedPlain hash caller c c2 → FactsAlone c2 caller end.0
@@ -87,8 +87,8 @@ module _ {K V : Type 0} (same : K → K → Bool) (hash : K → ℕ) (setting : 
         point = alone_quiet (after (spot_of hash) true move c) end.0 end.0.stands quiet (plain_kept same hash caller c move plain made alone);
       })
 
-  pub quiet_goes : (q : Copier) (outcome : Outcome (Node K V) Table) → end ≡ (q, outcome) → IsQuiet q.stands → IsQuiet end.0.stands
-  quiet_goes q outcome e = subst (λ (x : Copier × Outcome (Node K V) Table). IsQuiet x.0.stands) (sym e)
+  pub quiet_goes : (q : Copier) (outcome : Yielding (Node K V) Table) → end ≡ (q, outcome) → IsQuiet q.stands → IsQuiet end.0.stands
+  quiet_goes q outcome e = subst (λ (x : Copier × Yielding (Node K V) Table). IsQuiet x.0.stands) (sym e)
 
   pub quiet_waits : (stands : Point) (Other : Type 0) → (LeadsOn p w.memory m2 end stands → IsQuiet end.0.stands) → IsQuiet p.stands
       → WaitsFor p w.memory m2 end Other ⊎ LeadsOn p w.memory m2 end stands → IsQuiet end.0.stands
@@ -111,7 +111,7 @@ module _ {K V : Type 0} (same : K → K → Bool) (hash : K → ℕ) (setting : 
           → Ends (value_at m) (if b then to (record p { place = 0; end = 0; done = 0; stands = at.Promotes }) else to (behind (record p { done = 0 }))) end
           → AloneAt (after (spot_of hash) true (Counts caller (suc c.first) p.done) c) end.0 end.0.stands
       by m found read true full ends =
-          subst (λ (x : Copier × Outcome (Node K V) Table). AloneAt (after (spot_of hash) true (Counts caller (suc c.first) p.done) c) x.0 x.0.stands) (sym ends)
+          subst (λ (x : Copier × Yielding (Node K V) Table). AloneAt (after (spot_of hash) true (Counts caller (suc c.first) p.done) c) x.0 x.0.stands) (sym ends)
           (alone.0, ap (λ (x : Table). x.turn) f.0.0.is)
       by m found read false left ends =
           alone_quiet (after (spot_of hash) true (Counts caller (suc c.first) p.done) c) end.0 end.0.stands
@@ -136,9 +136,9 @@ module _ {K V : Type 0} (same : K → K → Bool) (hash : K → ℕ) (setting : 
       let l = added w.memory (λ out. to (record p { done = 0; stands = at.Unmarks word fault })) (at_word p.target COPIED) p.done m2 end s in
       record {
         idle = subst (OthersIdle caller) (sym e) (idle_kept same hash caller c (Counts caller (suc c.first) p.done) (λ i other by. other (sym by)) idle);
-        point = subst (λ (x : Copier × Outcome (Node K V) Table). AloneAt c2 x.0 x.0.stands) (sym l.3) (
+        point = subst (λ (x : Copier × Yielding (Node K V) Table). AloneAt c2 x.0 x.0.stands) (sym l.3) (
           subst AllAnnounced (sym e) announced,
-          few (subst (λ (x : Copier × Outcome (Node K V) Table). CopierTold w2 caller setting c2 blocks2 same hash x) l.3 told),
+          few (subst (λ (x : Copier × Yielding (Node K V) Table). CopierTold w2 caller setting c2 blocks2 same hash x) l.3 told),
         );
       }
     where
@@ -159,7 +159,7 @@ module _ {K V : Type 0} (same : K → K → Bool) (hash : K → ℕ) (setting : 
       let kept = promoted_kept same hash caller c (rule_incremental same hash setting w c blocks map bits) (omega (arith, source, turn, made)) alone.0 in
       subst (λ (x : Chart K). FactsAlone x caller end.0) (sym e.1) (record {
         idle = idle;
-        point = subst (λ (x : Copier × Outcome (Node K V) Table). AloneAt (record c { first = suc c.first }) x.0 x.0.stands) (sym e.0)
+        point = subst (λ (x : Copier × Yielding (Node K V) Table). AloneAt (record c { first = suc c.first }) x.0 x.0.stands) (sym e.0)
             (subst (λ (u : ℕ). AllAnnouncedBut (record c { first = suc c.first }) u × IsUncounted (record c { first = suc c.first })) (sym root) kept);
       })
 
@@ -169,6 +169,6 @@ module _ {K V : Type 0} (same : K → K → Bool) (hash : K → ℕ) (setting : 
     point = alone_quiet (record c { status = put c.status p.target.turn PROMOTED }) end.0 end.0.stands quiet (announced_kept same hash caller c p.target.turn alone);
   })
 
-  pub ends_kept : (outcome : Outcome (Node K V) Table) → end ≡ (p, outcome) → IsQuiet p.stands → AllAnnounced c × IsUncounted c → c2 ≡ c → FactsAlone c2 caller end.0
+  pub ends_kept : (outcome : Yielding (Node K V) Table) → end ≡ (p, outcome) → IsQuiet p.stands → AllAnnounced c × IsUncounted c → c2 ≡ c → FactsAlone c2 caller end.0
   ends_kept outcome ends quiet alone e = subst (λ (x : Chart K). FactsAlone x caller end.0) (sym e)
       (record { idle = idle; point = alone_quiet c end.0 end.0.stands (quiet_goes p outcome ends quiet) alone })

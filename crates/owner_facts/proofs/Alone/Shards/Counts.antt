@@ -4,8 +4,8 @@ use Rattle.std.proofs.Common.{◌≡◌, ℕ, Bool, true, false, refl, ap, sym, 
 use Rattle.many_maps.specs.Given.SeizeWordsMem.{Mem, value_at, Took}
 use Rattle.many_maps.specs.Given.SeizeWordsOp.{Out, Found, Stored, Exchanged, Made, Taken, Roomed}
 use Rattle.many_maps.specs.Given.SeizeWordsPlan.{Steps}
-use Rattle.many_maps.specs.Given.SeizeDeclared.progress.Progress.{Progress}
-use Rattle.many_maps.specs.Given.SeizeDeclared.progress.Progress.TheVariants as progress
+use Rattle.many_maps.specs.Given.SeizeDeclared.advance.Advance.{Advance}
+use Rattle.many_maps.specs.Given.SeizeDeclared.advance.Advance.TheVariants as progress
 use Rattle.many_maps.specs.Given.SeizeDeclared.rows.settle.Settled.{Settled}
 use Rattle.many_maps.specs.Given.SeizeDeclared.rows.settle.Settled.TheVariants as settled
 use Rattle.many_maps.specs.Given.TablesCounts.{count_change}
@@ -22,8 +22,8 @@ use Rattle.many_maps.specs.Given.ResizeNewTable.{new_table_plan}
 use Rattle.many_maps.specs.Given.TablesTrials.{next_trial, with_met}
 use Rattle.many_maps.specs.Given.TablesDeclared.marks.TheConstants.{TOMBSTONE}
 use Rattle.many_maps.specs.Given.TablesDeclared.node.Node.{Node}
-use Rattle.many_maps.specs.Given.ResizeDeclared.outcome.Outcome.{Outcome}
-use Rattle.many_maps.specs.Given.ResizeDeclared.outcome.Outcome.TheVariants as outcome
+use Rattle.many_maps.specs.Given.ResizeDeclared.yielding.Yielding.{Yielding}
+use Rattle.many_maps.specs.Given.ResizeDeclared.yielding.Yielding.TheVariants as outcome
 use Rattle.many_maps.specs.Given.TablesDeclared.table.Table.{Table}
 use Rattle.many_maps.specs.Given.RawDeclared.machines.answer.KeyAnswer.{KeyAnswer}
 use Rattle.many_maps.specs.Given.RawDeclared.machines.answer.KeyAnswer.TheVariants as answers
@@ -147,33 +147,33 @@ module _ {K V Q : Type 0} where
         (either 0 (word == 0) (going p (at.Counts 0)) (going p (at.Disposes (disposing p.setting word p.trial.table) (answers.Replaced word p.own))) (refl, tt) (refl, tt))
 
     -- what machines within it tell
-    says_looked : (end : Lookup × Progress (Option ℕ)) → SaysNone (looked p end)
+    says_looked : (end : Lookup × Advance (Option ℕ)) → SaysNone (looked p end)
     says_looked (l, progress.Goes) = (refl, tt)
     says_looked (l, progress.Waits) = (refl, tt)
     says_looked (l, progress.Done (Some found)) = (refl, tt)
     says_looked (l, progress.Done None) = (refl, tt)
     says_looked (l, progress.Refused fault) = (refl, refl)
 
-    says_first : (end : NewTable × Progress Table) → SaysNone (first_made p end)
+    says_first : (end : NewTable × Advance Table) → SaysNone (first_made p end)
     says_first (n, progress.Goes) = (refl, tt)
     says_first (n, progress.Waits) = (refl, tt)
     says_first (n, progress.Done table) = (refl, tt)
     says_first (n, progress.Refused fault) = says_ending p (ends.Refused fault) refl
 
-    says_next : (end : NewTable × Progress Table) → SaysNone (next_made p end)
+    says_next : (end : NewTable × Advance Table) → SaysNone (next_made p end)
     says_next (n, progress.Goes) = (refl, tt)
     says_next (n, progress.Waits) = (refl, tt)
     says_next (n, progress.Done table) = says_on table
     says_next (n, progress.Refused fault) = says_ending p (ends.Refused fault) refl
 
-    says_helped : (goal : Table) (end : Copier × Outcome (Node K V) Table) → SaysNone (helped p goal end)
+    says_helped : (goal : Table) (end : Copier × Yielding (Node K V) Table) → SaysNone (helped p goal end)
     says_helped goal (copier, outcome.Goes) = (refl, tt)
     says_helped goal (copier, outcome.Waits) = (refl, tt)
     says_helped goal (copier, outcome.Gave value) = (refl, tt)
     says_helped goal (copier, outcome.Done table) = (refl, tt)
     says_helped goal (copier, outcome.Refused fault) = says_ending p (ends.Refused fault) refl
 
-    says_copied : (end : Copier × Outcome (Node K V) Table) → SaysNone (copied p end)
+    says_copied : (end : Copier × Yielding (Node K V) Table) → SaysNone (copied p end)
     says_copied (copier, outcome.Goes) = (refl, tt)
     says_copied (copier, outcome.Waits) = (refl, tt)
     says_copied (copier, outcome.Gave value) = (refl, tt)

@@ -12,8 +12,8 @@ use Rattle.many_maps.specs.Given.SeizeWordsPlan.{Steps, plan_as}
 use Rattle.many_maps.specs.Given.SeizeWordsWord.{block_in}
 use Rattle.many_maps.proofs.Given.SeizeWordsOneOwner.Operations.{loaded, exchanged}
 use Rattle.many_maps.proofs.Given.SeizeRuleRows.Leaving.{steps_back}
-use Rattle.many_maps.specs.Given.SeizeDeclared.progress.Progress.{Progress}
-use Rattle.many_maps.specs.Given.SeizeDeclared.progress.Progress.TheVariants as progress
+use Rattle.many_maps.specs.Given.SeizeDeclared.advance.Advance.{Advance}
+use Rattle.many_maps.specs.Given.SeizeDeclared.advance.Advance.TheVariants as progress
 use Rattle.many_maps.specs.Given.SeizeDeclared.rows.settle.Settled.{Settled}
 use Rattle.many_maps.specs.Given.SeizeDeclared.rows.settle.Settled.TheVariants as settled
 use Rattle.many_maps.specs.Given.TablesChunks.{is_incremental}
@@ -43,8 +43,8 @@ use Rattle.many_maps.specs.Given.ResizeDeclared.lookup.Lookup.{Lookup}
 use Rattle.many_maps.specs.Given.ResizeDeclared.new_table.NewTable.{NewTable}
 use Rattle.many_maps.specs.Given.ResizeDeclared.new_table.Making.{Making}
 use Rattle.many_maps.specs.Given.ResizeDeclared.new_table.Making.TheVariants as makes
-use Rattle.many_maps.specs.Given.ResizeDeclared.outcome.Outcome.{Outcome}
-use Rattle.many_maps.specs.Given.ResizeDeclared.outcome.Outcome.TheVariants as outcome
+use Rattle.many_maps.specs.Given.ResizeDeclared.yielding.Yielding.{Yielding}
+use Rattle.many_maps.specs.Given.ResizeDeclared.yielding.Yielding.TheVariants as outcome
 use Rattle.many_maps.specs.Given.ResizeDeclared.sum.Sum.{Sum}
 use Rattle.many_maps.specs.Given.ResizeDeclared.sum.Summing.{Summing}
 use Rattle.many_maps.specs.Given.ResizeDeclared.sum.Summing.TheVariants as sums
@@ -122,27 +122,27 @@ module _ {K V Q : Type 0} (m : Mem (Node K V)) where
       either (removed == 0) (over q (ends.Answered (answers.Stored q.own))) (going q (at.Disposes (disposing q.setting removed q.trial.table) (answers.Removed removed))) tt tt
 
   -- what machines within it tell
-  looked_met : (q : KeyCall K V Q) (end : Lookup × Progress (Option ℕ)) → On (looked q end)
+  looked_met : (q : KeyCall K V Q) (end : Lookup × Advance (Option ℕ)) → On (looked q end)
   looked_met q (l, progress.Goes) = tt
   looked_met q (l, progress.Waits) = tt
   looked_met q (l, progress.Done (Some found)) = tt
   looked_met q (l, progress.Done None) = tt
   looked_met q (l, progress.Refused fault) = tt
 
-  first_met : (q : KeyCall K V Q) (end : NewTable × Progress Table) → On (first_made q end)
+  first_met : (q : KeyCall K V Q) (end : NewTable × Advance Table) → On (first_made q end)
   first_met q (n, progress.Goes) = tt
   first_met q (n, progress.Waits) = tt
   first_met q (n, progress.Done table) = entering_met q table
   first_met q (n, progress.Refused fault) = ending_met q (ends.Refused fault)
 
-  helped_met : (q : KeyCall K V Q) (goal : Table) (end : Copier × Outcome (Node K V) Table) → On (helped q goal end)
+  helped_met : (q : KeyCall K V Q) (goal : Table) (end : Copier × Yielding (Node K V) Table) → On (helped q goal end)
   helped_met q goal (copier, outcome.Goes) = tt
   helped_met q goal (copier, outcome.Waits) = tt
   helped_met q goal (copier, outcome.Gave value) = tt
   helped_met q goal (copier, outcome.Done table) = entering_met q goal
   helped_met q goal (copier, outcome.Refused fault) = ending_met q (ends.Refused fault)
 
-  copied_met : (q : KeyCall K V Q) (end : Copier × Outcome (Node K V) Table) → On (copied q end)
+  copied_met : (q : KeyCall K V Q) (end : Copier × Yielding (Node K V) Table) → On (copied q end)
   copied_met q (copier, outcome.Goes) = tt
   copied_met q (copier, outcome.Waits) = tt
   copied_met q (copier, outcome.Gave value) = tt
@@ -278,11 +278,11 @@ module _ {K V Q : Type 0} (m : Mem (Node K V)) where
     after_none (names.Entry block word) table = tt
     after_none (names.Word block word) table = tt
 
-    abbrev Inside : NewTable × Progress Table → Type 0
+    abbrev Inside : NewTable × Advance Table → Type 0
     Inside end = On (next_made q end)
 
     -- where the pairs are counted, up to the end of that
-    counting_met : (n : NewTable) (before : Table) (reason : Reason) (sum : Sum) → MetMaking m q (makes.Sums before reason sum) → (end : Sum × Progress ℕ) → Inside (making.counted n before reason end)
+    counting_met : (n : NewTable) (before : Table) (reason : Reason) (sum : Sum) → MetMaking m q (makes.Sums before reason sum) → (end : Sum × Advance ℕ) → Inside (making.counted n before reason end)
     counting_met n before reason sum so (sum2, progress.Goes) = (so.0, so.1, so.2)
     counting_met n before reason sum so (sum2, progress.Waits) = (so.0, so.1, so.2)
     counting_met n before reason sum so (sum2, progress.Done count) =
@@ -355,7 +355,7 @@ module _ {K V Q : Type 0} (asks : Q → K → Bool) (same : K → K → Bool) (h
     MakesSo x = Steps Took value_at m (plan_as (next_made p) (making.plan_at n x)) m2 end
 
     module _ (before : Table) (reason : Reason) (sum : Sum) where
-      same_memory : (x : Summing) (b : Sum × Progress ℕ) → Steps Took value_at m (summing.plan_at {T = Node K V} sum x) m2 b → m2 ≡ m
+      same_memory : (x : Summing) (b : Sum × Advance ℕ) → Steps Took value_at m (summing.plan_at {T = Node K V} sum x) m2 b → m2 ≡ m
       same_memory (sums.Adds shard so_far) b s = (loaded m (summing.added sum shard so_far) (names.Word sum.setting.counter shard) m2 b s).2
       same_memory (sums.Over count) b s = s.0
 
@@ -365,7 +365,7 @@ module _ {K V Q : Type 0} (asks : Q → K → Bool) (same : K → K → Bool) (h
           let counts = steps_back (making.counted n before reason) m m2 (summing.sum_plan sum) told.0 told.1 in
           as_was (same_memory sum.stands counts.0 counts.1)
           (subst (λ (e : KeyCall K V Q × Called (Node K V)). On m e) (sym told.2)
-          (subst (λ (e : NewTable × Progress Table). Inside m p e) (sym counts.2) (counting_met m p n before reason sum met counts.0)))
+          (subst (λ (e : NewTable × Advance Table). Inside m p e) (sym counts.2) (counting_met m p n before reason sum met counts.0)))
 
     nothing : (x : Making) → ((before : Table) (reason : Reason) (sum : Sum) → x ≢ makes.Sums before reason sum) → MetMaking m2 p x
     nothing (makes.Sums before reason sum) other = absurd (other before reason sum refl)

@@ -2,8 +2,8 @@
 use Rattle.std.specs.Prelude.{◌==◌, ◌-◌, nat_lt, Option, Some, None, Ok, Err, if◌then◌else◌}
 use Rattle.std.proofs.Common.{◌≡◌, ◌≢◌, ℕ, ◌≤◌, Bool, true, false, refl, arith}
 use Rattle.many_maps.specs.Given.SeizeWordsOp.{Out, Found, Stored, Exchanged, Made, Taken, Roomed}
-use Rattle.many_maps.specs.Given.SeizeDeclared.progress.Progress.{Progress}
-use Rattle.many_maps.specs.Given.SeizeDeclared.progress.Progress.TheVariants as progress
+use Rattle.many_maps.specs.Given.SeizeDeclared.advance.Advance.{Advance}
+use Rattle.many_maps.specs.Given.SeizeDeclared.advance.Advance.TheVariants as progress
 use Rattle.many_maps.specs.Given.SeizeDeclared.rows.settle.Settled.{Settled}
 use Rattle.many_maps.specs.Given.SeizeDeclared.rows.settle.Settled.TheVariants as settled
 use Rattle.many_maps.specs.Given.TablesChunks.{is_incremental}
@@ -24,8 +24,8 @@ use Rattle.many_maps.specs.Given.ResizeDeclared.copier.Copier.{Copier}
 use Rattle.many_maps.specs.Given.ResizeDeclared.dispose.Dispose.{Dispose}
 use Rattle.many_maps.specs.Given.ResizeDeclared.lookup.Lookup.{Lookup}
 use Rattle.many_maps.specs.Given.ResizeDeclared.new_table.NewTable.{NewTable}
-use Rattle.many_maps.specs.Given.ResizeDeclared.outcome.Outcome.{Outcome}
-use Rattle.many_maps.specs.Given.ResizeDeclared.outcome.Outcome.TheVariants as outcome
+use Rattle.many_maps.specs.Given.ResizeDeclared.yielding.Yielding.{Yielding}
+use Rattle.many_maps.specs.Given.ResizeDeclared.yielding.Yielding.TheVariants as outcome
 use Rattle.many_maps.specs.Given.RawCall.{made, makes_of, root_found, next_found, dropped, key_read, pair_read, word_read, word_found, tried, looked, looks_for, first_made, next_made, disposed, helped, copied, plan_at, call_plan}
 use Rattle.many_maps.specs.Given.RawCallPoints.{going, standing, over, ending, tableless, storing, at_gap, gap_by, at_free, following_made, at_last, at_pair, passed, told_of, entering, went_on, changed, counted, having_met}
 use Rattle.many_maps.specs.Given.RawDeclared.machines.answer.Called.{Called}
@@ -123,33 +123,33 @@ module _ {K V Q : Type 0} (n : ℕ) where
         either (removed == 0) (over p (ends.Answered (answers.Stored p.own))) (going p (at.Disposes (disposing p.setting removed p.trial.table) (answers.Removed removed))) few few
 
     -- what machines within it tell
-    looked_few : (end : Lookup × Progress (Option ℕ)) → Few (looked p end)
+    looked_few : (end : Lookup × Advance (Option ℕ)) → Few (looked p end)
     looked_few (l, progress.Goes) = few
     looked_few (l, progress.Waits) = few
     looked_few (l, progress.Done (Some found)) = few
     looked_few (l, progress.Done None) = few
     looked_few (l, progress.Refused fault) = few
 
-    first_few : (end : NewTable × Progress Table) → Few (first_made p end)
+    first_few : (end : NewTable × Advance Table) → Few (first_made p end)
     first_few (m, progress.Goes) = few
     first_few (m, progress.Waits) = few
     first_few (m, progress.Done table) = few
     first_few (m, progress.Refused fault) = ending_few (ends.Refused fault)
 
-    next_few : (end : NewTable × Progress Table) → Few (next_made p end)
+    next_few : (end : NewTable × Advance Table) → Few (next_made p end)
     next_few (m, progress.Goes) = few
     next_few (m, progress.Waits) = few
     next_few (m, progress.Done table) = on_few table
     next_few (m, progress.Refused fault) = ending_few (ends.Refused fault)
 
-    helped_few : (goal : Table) (end : Copier × Outcome (Node K V) Table) → Few (helped p goal end)
+    helped_few : (goal : Table) (end : Copier × Yielding (Node K V) Table) → Few (helped p goal end)
     helped_few goal (copier, outcome.Goes) = few
     helped_few goal (copier, outcome.Waits) = few
     helped_few goal (copier, outcome.Gave value) = few
     helped_few goal (copier, outcome.Done table) = few
     helped_few goal (copier, outcome.Refused fault) = ending_few (ends.Refused fault)
 
-    copied_few : (end : Copier × Outcome (Node K V) Table) → Few (copied p end)
+    copied_few : (end : Copier × Yielding (Node K V) Table) → Few (copied p end)
     copied_few (copier, outcome.Goes) = few
     copied_few (copier, outcome.Waits) = few
     copied_few (copier, outcome.Gave value) = few

@@ -10,8 +10,8 @@ use Rattle.many_maps.specs.Given.SeizeWordsDeclared.fault.Fault.{Fault}
 use Rattle.many_maps.specs.Given.SeizeWordsDeclared.fault.Fault.TheVariants.{Capacity, RootsUsedUp}
 use Rattle.many_maps.proofs.Given.SeizeWordsOneOwner.Operations.{stored, exchanged, made as make_made, taken}
 use Rattle.many_maps.proofs.Given.SeizeRuleRows.Leaving.{steps_back}
-use Rattle.many_maps.specs.Given.SeizeDeclared.progress.Progress.{Progress}
-use Rattle.many_maps.specs.Given.SeizeDeclared.progress.Progress.TheVariants as progress
+use Rattle.many_maps.specs.Given.SeizeDeclared.advance.Advance.{Advance}
+use Rattle.many_maps.specs.Given.SeizeDeclared.advance.Advance.TheVariants as progress
 use Rattle.many_maps.specs.Given.TablesLengths.{next_len, next_limit, next_turn}
 use Rattle.many_maps.specs.Given.ResizeNewTable.{planned, goes, counted, following, making_of, making_first, after_making, with_block, first_table, made, linked, other, plan_at, new_table_plan}
 use Rattle.many_maps.specs.Given.ResizeNewMap as map
@@ -68,10 +68,10 @@ made_left (Word block field) table = omega arith
 
 module _ {K V : Type 0} (m : Mem (Node K V)) (n : NewTable) where
   -- if the step of a making goes on, less is left than where it stood
-  abbrev Lowers : Making → NewTable × Progress Table → Type 0
+  abbrev Lowers : Making → NewTable × Advance Table → Type 0
   Lowers stands end = end.1 ≡ progress.Goes → making_left end.0.stands < making_left stands
 
-  lowers_counted : (before : Table) (reason : Reason) (sum sum2 : Sum) (p : Progress ℕ)
+  lowers_counted : (before : Table) (reason : Reason) (sum sum2 : Sum) (p : Advance ℕ)
       → (p ≡ progress.Goes → shards_left sum2.setting.mask sum2.stands < shards_left sum.setting.mask sum.stands)
       → Lowers (at.Sums before reason sum) (counted n before reason (sum2, p))
   lowers_counted before reason sum sum2 progress.Goes below goes = let l = below refl in omega (arith, l)
@@ -81,14 +81,14 @@ module _ {K V : Type 0} (m : Mem (Node K V)) (n : NewTable) where
       omega (arith, l)
   lowers_counted before reason sum sum2 (progress.Refused fault) below goes = absurd (cc goes)
 
-  fewer : (sum : Sum) (m2 : Mem (Node K V)) (end : Sum × Progress ℕ) → Steps Took value_at m (sum_plan sum) m2 end → end.1 ≡ progress.Goes
+  fewer : (sum : Sum) (m2 : Mem (Node K V)) (end : Sum × Advance ℕ) → Steps Took value_at m (sum_plan sum) m2 end → end.1 ≡ progress.Goes
       → shards_left end.0.setting.mask end.0.stands < shards_left sum.setting.mask sum.stands
   fewer sum m2 end s goes = elim (sum_lowers m sum m2 end s goes) as (λ _. shards_left end.0.setting.mask end.0.stands < shards_left sum.setting.mask sum.stands) [
     | inl l ↦ l
     | inr k ↦ absurd k.1
   ]
 
-  lowers_at : (stands : Making) (m2 : Mem (Node K V)) (end : NewTable × Progress Table) → Steps Took value_at m (plan_at n stands) m2 end → Lowers stands end
+  lowers_at : (stands : Making) (m2 : Mem (Node K V)) (end : NewTable × Advance Table) → Steps Took value_at m (plan_at n stands) m2 end → Lowers stands end
   lowers_at (at.Sums before reason sum) m2 end s =
       let b = steps_back (counted n before reason) m m2 (sum_plan sum) end s in
       subst (λ e. Lowers (at.Sums before reason sum) e) (sym b.2) (lowers_counted before reason sum b.0.0 b.0.1 (fewer sum m2 b.0 b.1))
@@ -113,7 +113,7 @@ module _ {K V : Type 0} (m : Mem (Node K V)) (n : NewTable) where
 
 module _ {K V : Type 0} (m : Mem (Node K V)) (n : NewMap) where
   -- the same of the beginning of a map
-  abbrev LowersMap : Opening → NewMap × Progress Setting → Type 0
+  abbrev LowersMap : Opening → NewMap × Advance Setting → Type 0
   LowersMap stands end = end.1 ≡ progress.Goes → new_map_left end.0 < opening_left n.roots n.setting.root stands
 
   next_lowers : n.stands ≡ opens.Takes → LowersMap opens.Takes (map.next_root n)
@@ -133,14 +133,14 @@ module _ {K V : Type 0} (m : Mem (Node K V)) (n : NewMap) where
       by true goes = absurd (cc goes)
       by false goes = let l = first_left (max n.len 8) in omega (arith, l)
 
-  opened_lowers : (making making2 : NewTable) (p : Progress Table) → (p ≡ progress.Goes → making_left making2.stands < making_left making.stands)
+  opened_lowers : (making making2 : NewTable) (p : Advance Table) → (p ≡ progress.Goes → making_left making2.stands < making_left making.stands)
       → LowersMap (opens.Tables making) (map.opened n (making2, p))
   opened_lowers making making2 progress.Goes below goes = let l = below refl in omega (arith, l)
   opened_lowers making making2 progress.Waits below goes = absurd (cc goes)
   opened_lowers making making2 (progress.Done table) below goes = absurd (cc goes)
   opened_lowers making making2 (progress.Refused fault) below goes = omega arith
 
-  map_lowers_at : (stands : Opening) → n.stands ≡ stands → (m2 : Mem (Node K V)) (end : NewMap × Progress Setting) → Steps Took value_at m (map.plan_at n stands) m2 end → LowersMap stands end
+  map_lowers_at : (stands : Opening) → n.stands ≡ stands → (m2 : Mem (Node K V)) (end : NewMap × Advance Setting) → Steps Took value_at m (map.plan_at n stands) m2 end → LowersMap stands end
   map_lowers_at opens.Takes here m2 end s =
       elim (exchanged m (map.taken n) (Used n.setting.root) 0 1 m2 end s) as (λ _. LowersMap opens.Takes end) [
         | inl d ↦ subst (λ e. LowersMap opens.Takes e) (sym d.3) (λ goes. omega arith)
@@ -164,7 +164,7 @@ module _ {K V : Type 0} (m : Mem (Node K V)) (n : NewMap) where
   map_lowers_at (opens.Refused fault) here m2 end s = subst (λ e. LowersMap (opens.Refused fault) e) (sym s.1) (λ goes. absurd (cc goes))
 
 -- a step that goes on leaves less
-new_map_lowers : {K V : Type 0} (m : Mem (Node K V)) (n : NewMap) (m2 : Mem (Node K V)) (end : NewMap × Progress Setting) → Steps Took value_at m (map.new_map_plan n) m2 end
+new_map_lowers : {K V : Type 0} (m : Mem (Node K V)) (n : NewMap) (m2 : Mem (Node K V)) (end : NewMap × Advance Setting) → Steps Took value_at m (map.new_map_plan n) m2 end
     → end.1 ≡ progress.Goes → new_map_left end.0 < new_map_left n
 new_map_lowers m n m2 end s goes = map_lowers_at m n n.stands refl m2 end s goes
 

@@ -9,8 +9,8 @@ use Rattle.many_maps.specs.Given.SeizeWordsMem.{Mem, Took, value_at, with_word}
 use Rattle.many_maps.specs.Given.SeizeWordsPlan.{Now, Steps}
 use Rattle.many_maps.proofs.Given.SeizeWordsOneOwner.Operations.{stored, exchanged, made as make_made, taken}
 use Rattle.many_maps.proofs.Given.SeizeRuleRows.Leaving.{steps_back}
-use Rattle.many_maps.specs.Given.SeizeDeclared.progress.Progress.{Progress}
-use Rattle.many_maps.specs.Given.SeizeDeclared.progress.Progress.TheVariants as progress
+use Rattle.many_maps.specs.Given.SeizeDeclared.advance.Advance.{Advance}
+use Rattle.many_maps.specs.Given.SeizeDeclared.advance.Advance.TheVariants as progress
 use Rattle.many_maps.specs.Given.ResizeNewMap as opening
 use Rattle.many_maps.specs.Given.ResizeNewTable.{planned, goes, first_table, with_block, after_making, made, linked, other, plan_at, new_table_plan}
 use Rattle.many_maps.specs.Given.TablesProbes.{limit_of}
@@ -31,15 +31,15 @@ use Rattle.owner_facts.specs.Maps.FaultsBegins.{IsFirst, IsForRoot, NeedsMemoryA
 module _ {K V : Type 0} (m : Mem (Node K V)) where
   module _ (n : NewTable) (root : ℕ) (link : n.link ≡ Root root) where
     -- after a step of a making
-    abbrev Leads : NewTable × Progress Table → Type 0
+    abbrev Leads : NewTable × Advance Table → Type 0
     Leads (n2, progress.Goes) = IsForRoot n2
     Leads (n2, progress.Refused fault) = fault ≡ Memory
     Leads _ = Unit {0}
 
-    abbrev MakesOn : Mem (Node K V) → NewTable × Progress Table → Type 0
+    abbrev MakesOn : Mem (Node K V) → NewTable × Advance Table → Type 0
     MakesOn m2 end = (m2.slots ≡ m.slots) × Leads end
 
-    as_for : (m2 : Mem (Node K V)) (end other : NewTable × Progress Table) → end ≡ other → m2.slots ≡ m.slots → Leads other → MakesOn m2 end
+    as_for : (m2 : Mem (Node K V)) (end other : NewTable × Advance Table) → end ≡ other → m2.slots ≡ m.slots → Leads other → MakesOn m2 end
     as_for m2 end other e slots leads = (slots, subst Leads (sym e) leads)
 
     after_first : (l : At) → l ≡ Root root → (table : Table) → IsFirst (after_making l table)
@@ -48,7 +48,7 @@ module _ {K V : Type 0} (m : Mem (Node K V)) where
     link_slots : (l : At) → l ≡ Root root → (w : ℕ) → (with_word m l w).slots ≡ m.slots
     link_slots l e w = ap (λ (x : At). (with_word m x w).slots) e
 
-    making_on : (stands : Making) → IsFirst stands → (m2 : Mem (Node K V)) (end : NewTable × Progress Table)
+    making_on : (stands : Making) → IsFirst stands → (m2 : Mem (Node K V)) (end : NewTable × Advance Table)
         → Steps Took value_at m (plan_at n stands) m2 end → MakesOn m2 end
     making_on (makes.Sums before reason sum) first m2 end s = absurd first
     making_on (makes.Makes table) first m2 end s =
@@ -72,10 +72,10 @@ module _ {K V : Type 0} (m : Mem (Node K V)) where
 
   module _ (n : NewMap) (m2 : Mem (Node K V)) where
     -- after a step of the beginning
-    abbrev GoesOn : NewMap × Progress Setting → Type 0
+    abbrev GoesOn : NewMap × Advance Setting → Type 0
     GoesOn end = (m2.slots ≡ m.slots) × NeedsOn m2 end
 
-    as_told : (end other : NewMap × Progress Setting) → end ≡ other → m2.slots ≡ m.slots → NeedsOn m2 other → GoesOn end
+    as_told : (end other : NewMap × Advance Setting) → end ≡ other → m2.slots ≡ m.slots → NeedsOn m2 other → GoesOn end
     as_told end other e slots leads = (slots, subst (NeedsOn m2) (sym e) leads)
 
     shards_told : (s : Setting) → max n.len 8 ≤ 2 ^ 48 → NeedsOn m2 (opening.with_shards (record n { setting = s }))
@@ -91,14 +91,14 @@ module _ {K V : Type 0} (m : Mem (Node K V)) where
         by true = tt
         by false = ((s.root, refl), one (nat_le (max n.len 8) (2 ^ 48)) refl)
 
-    opened_told : (making : NewTable) (p : Progress Table) (root : ℕ) (before : NewTable) (link : before.link ≡ Root root) → Leads before root link (making, p)
+    opened_told : (making : NewTable) (p : Advance Table) (root : ℕ) (before : NewTable) (link : before.link ≡ Root root) → Leads before root link (making, p)
         → NeedsOn m2 (opening.opened n (making, p))
     opened_told making progress.Goes root before link leads = leads
     opened_told making progress.Waits root before link leads = tt
     opened_told making (progress.Done table) root before link leads = tt
     opened_told making (progress.Refused fault) root before link leads = leads
 
-    begins_at : (stands : Opening) → NeedsMemoryAlone m n stands → (end : NewMap × Progress Setting)
+    begins_at : (stands : Opening) → NeedsMemoryAlone m n stands → (end : NewMap × Advance Setting)
         → Steps Took value_at m (opening.plan_at n stands) m2 end → GoesOn end
     begins_at at.Takes known end s =
         elim (exchanged m (opening.taken n) (Used n.setting.root) 0 1 m2 end s) as (λ _. GoesOn end) [

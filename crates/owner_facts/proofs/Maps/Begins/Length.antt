@@ -3,8 +3,8 @@ use Rattle.std.specs.Prelude.{◌==◌, ◌-◌, nat_lt, if◌then◌else◌}
 use Rattle.std.proofs.Common.{◌≡◌, ◌+◌, Bool, true, false, Ok, Err, refl}
 use Rattle.many_maps.specs.Given.SeizeWordsDeclared.fault.Fault.TheVariants.{RootsUsedUp}
 use Rattle.many_maps.specs.Given.SeizeWordsOp.{Out, Found, Stored, Exchanged, Made, Taken, Roomed}
-use Rattle.many_maps.specs.Given.SeizeDeclared.progress.Progress.{Progress}
-use Rattle.many_maps.specs.Given.SeizeDeclared.progress.Progress.TheVariants as progress
+use Rattle.many_maps.specs.Given.SeizeDeclared.advance.Advance.{Advance}
+use Rattle.many_maps.specs.Given.SeizeDeclared.advance.Advance.TheVariants as progress
 use Rattle.many_maps.specs.Given.ResizeNewMap.{at_root, with_counter, next_root, taken as root_taken, with_shards, made, opened, refused, done, goes, plan_at}
 use Rattle.many_maps.specs.Given.ResizeNewTable.{first_table, new_table_plan}
 use Rattle.many_maps.specs.Given.TablesDeclared.node.Node.{Node}
@@ -17,7 +17,7 @@ use Rattle.many_maps.specs.Given.ResizeDeclared.new_table.NewTable.{NewTable}
 use Rattle.many_maps.proofs.Given.RuleKeys.Always.{Always, AlwaysOf, always_plan_as}
 
 module _ (K V : Type 0) (n : NewMap) where
-  abbrev KeepsLen : NewMap × Progress Setting → Type 0
+  abbrev KeepsLen : NewMap × Advance Setting → Type 0
   KeepsLen e = e.0.len ≡ n.len
 
   next_len : KeepsLen (next_root n)
@@ -34,7 +34,7 @@ module _ (K V : Type 0) (n : NewMap) where
       by true = refl
       by false = refl
 
-  opened_len : (b : NewTable × Progress Table) → KeepsLen (opened n b)
+  opened_len : (b : NewTable × Advance Table) → KeepsLen (opened n b)
   opened_len (making, progress.Goes) = refl
   opened_len (making, progress.Waits) = refl
   opened_len (making, progress.Done table) = refl

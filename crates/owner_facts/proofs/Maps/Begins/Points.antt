@@ -5,7 +5,7 @@ use Rattle.std.proofs.Common.{refl, sym, subst}
 use Rattle.many_maps.specs.Given.SeizeWordsMem.{Mem, value_at, Can, Took}
 use Rattle.many_maps.specs.Given.SeizeWordsPlan.{May, Steps}
 use Rattle.many_maps.specs.Given.SeizeWorld.{World}
-use Rattle.many_maps.specs.Given.SeizeDeclared.progress.Progress.{Progress}
+use Rattle.many_maps.specs.Given.SeizeDeclared.advance.Advance.{Advance}
 use Rattle.many_maps.specs.Given.TablesLengths.{IsTableLen}
 use Rattle.many_maps.specs.Given.ResizeNewMap.{opening, plan_at, new_map_plan}
 use Rattle.many_maps.specs.Given.TablesDeclared.node.Node.{Node}
@@ -37,7 +37,7 @@ module _ {K V : Type 0} (same : K → K → Bool) (hash : K → ℕ) (caller : �
       may_at at.Over here point = tt
       may_at (at.Refused fault) here point = tt
 
-      went_at : (stage : Opening) → n.stands ≡ stage → OpeningFacts same hash caller w setting n stage → (m2 : Mem (Node K V)) (end : NewMap × Progress Setting)
+      went_at : (stage : Opening) → n.stands ≡ stage → OpeningFacts same hash caller w setting n stage → (m2 : Mem (Node K V)) (end : NewMap × Advance Setting)
           → Steps Took value_at w.memory (plan_at n stage) m2 end → BeginWent same hash caller setting stage w n.setting.root m2 end
       went_at at.Takes here point m2 end s = went_takes same hash caller setting w n f here point m2 end s
       went_at at.Shards here point m2 end s = went_shards same hash caller setting w n f mask_fits point m2 end s
@@ -46,14 +46,14 @@ module _ {K V : Type 0} (same : K → K → Bool) (hash : K → ℕ) (caller : �
       went_at (at.Frees fault) here point m2 end s = went_frees same hash caller setting w n f fault point m2 end s
       went_at at.Over here point m2 end s =
           begin_still same hash caller setting w at.Over n.setting.root m2 s.0 end
-          (subst (λ (e : NewMap × Progress Setting). BeginTold same hash caller setting at.Over w w e) (sym s.1) (refl, f.setting_is, point))
+          (subst (λ (e : NewMap × Advance Setting). BeginTold same hash caller setting at.Over w w e) (sym s.1) (refl, f.setting_is, point))
       went_at (at.Refused fault) here point m2 end s =
           begin_still same hash caller setting w (at.Refused fault) n.setting.root m2 s.0 end
-          (subst (λ (e : NewMap × Progress Setting). BeginTold same hash caller setting (at.Refused fault) w w e) (sym s.1) refl)
+          (subst (λ (e : NewMap × Advance Setting). BeginTold same hash caller setting (at.Refused fault) w w e) (sym s.1) refl)
 
     pub may_new_map : (n : NewMap) → BeginFacts same hash caller w setting n → May Can Took value_at w.memory (new_map_plan n)
     may_new_map n f = may_at n f n.stands refl f.point
 
-    pub went_new_map : (n : NewMap) → BeginFacts same hash caller w setting n → (m2 : Mem (Node K V)) (end : NewMap × Progress Setting)
+    pub went_new_map : (n : NewMap) → BeginFacts same hash caller w setting n → (m2 : Mem (Node K V)) (end : NewMap × Advance Setting)
         → Steps Took value_at w.memory (new_map_plan n) m2 end → BeginWent same hash caller setting n.stands w n.setting.root m2 end
     went_new_map n f m2 end s = went_at n f n.stands refl f.point m2 end s

@@ -12,8 +12,8 @@ use Rattle.many_maps.proofs.Given.SeizeWordsOneOwner.AfterWrites.{word_at-with_w
 use Rattle.many_maps.proofs.Given.SeizeWordsOneOwner.Operations.{may_exchange, exchanged, may_store, stored}
 use Rattle.many_maps.specs.Given.SeizeWorld.{World, Operates, IsOwnOp}
 use Rattle.many_maps.specs.Given.TablesNodes.{deferred_word}
-use Rattle.many_maps.specs.Given.SeizeDeclared.progress.Progress.{Progress}
-use Rattle.many_maps.specs.Given.SeizeDeclared.progress.Progress.TheVariants as progress
+use Rattle.many_maps.specs.Given.SeizeDeclared.advance.Advance.{Advance}
+use Rattle.many_maps.specs.Given.SeizeDeclared.advance.Advance.TheVariants as progress
 use Rattle.many_maps.specs.Given.ResizeNewMap.{at_root, standing, next_root, taken, takes, refused, frees}
 use Rattle.many_maps.specs.Given.TablesDeclared.node.Node.{Node}
 use Rattle.many_maps.specs.Given.TablesDeclared.setting.Setting.{Setting}
@@ -26,7 +26,7 @@ use Rattle.owner_facts.specs.Maps.FactsBegins.{OpeningFacts, BeginFacts, LeavesR
 
 module _ {K V : Type 0} (same : K → K → Bool) (hash : K → ℕ) (caller : ℕ) (setting : Setting) (w : World (Node K V)) where
   -- a step that changed nothing
-  pub begin_still : (stage : Opening) (root : ℕ) (m2 : Mem (Node K V)) → m2 ≡ w.memory → (end : NewMap × Progress Setting) → BeginTold same hash caller setting stage w w end
+  pub begin_still : (stage : Opening) (root : ℕ) (m2 : Mem (Node K V)) → m2 ≡ w.memory → (end : NewMap × Advance Setting) → BeginTold same hash caller setting stage w w end
       → BeginWent same hash caller setting stage w root m2 end
   begin_still stage root m2 is end told = record {
     w2 = w;
@@ -56,7 +56,7 @@ module _ {K V : Type 0} (same : K → K → Bool) (hash : K → ℕ) (caller : �
 
     -- an operation wrote whether the root is taken
     begin_wrote : (stage : Opening) (op : Op (Node K V)) (out : Out (Node K V)) → IsOwnOp deferred_word w.memory op → Took w.memory op out (with_word w.memory (Used root) new)
-        → (m2 : Mem (Node K V)) → m2 ≡ with_word w.memory (Used root) new → (end : NewMap × Progress Setting)
+        → (m2 : Mem (Node K V)) → m2 ≡ with_word w.memory (Used root) new → (end : NewMap × Advance Setting)
         → BeginTold same hash caller setting stage w (record w { memory = with_word w.memory (Used root) new }) end → BeginWent same hash caller setting stage w root m2 end
     begin_wrote stage op out own took m2 is end told = record {
       w2 = record w { memory = with_word w.memory (Used root) new };
@@ -102,16 +102,16 @@ module _ {K V : Type 0} (same : K → K → Bool) (hash : K → ℕ) (caller : �
               → word_at w.memory (Root n.setting.root) ≡ Some 0
           by (used, is, free) = free (cc)
 
-      pub went_takes : (m2 : Mem (Node K V)) (end : NewMap × Progress Setting) → Steps Took value_at w.memory (takes n) m2 end
+      pub went_takes : (m2 : Mem (Node K V)) (end : NewMap × Advance Setting) → Steps Took value_at w.memory (takes n) m2 end
           → BeginWent same hash caller setting at.Takes w n.setting.root m2 end
       went_takes m2 end s =
           elim (exchanged w.memory (taken n) (Used n.setting.root) 0 1 m2 end s) as (λ _. BeginWent same hash caller setting at.Takes w n.setting.root m2 end) [
             | inl d ↦ (let free : word_at w.memory (Used n.setting.root) ≡ Some 0 = d.1.0 ∙ ap Some d.1.1 in
                 begin_wrote n.setting.root 1 there at.Takes (Exchange (Used n.setting.root) 0 1) (Exchanged (Ok d.0)) tt (d.1, refl) m2 d.2 end
-                (subst (λ (e : NewMap × Progress Setting). BeginTold same hash caller setting at.Takes w (record w { memory = with_word w.memory (Used n.setting.root) 1 }) e) (sym d.3)
+                (subst (λ (e : NewMap × Advance Setting). BeginTold same hash caller setting at.Takes w (record w { memory = with_word w.memory (Used n.setting.root) 1 }) e) (sym d.3)
                 (begin_at (record w { memory = with_word w.memory (Used n.setting.root) 1 }) n at.Shards f
                 (point.0, (used_written n.setting.root 1 there, free_root free)))))
-            | inr d ↦ begin_still at.Takes n.setting.root m2 d.2 end (subst (λ (e : NewMap × Progress Setting). BeginTold same hash caller setting at.Takes w w e) (sym d.3) next_told)
+            | inr d ↦ begin_still at.Takes n.setting.root m2 d.2 end (subst (λ (e : NewMap × Advance Setting). BeginTold same hash caller setting at.Takes w w e) (sym d.3) next_told)
           ]
 
     -- the root is given up
@@ -122,10 +122,10 @@ module _ {K V : Type 0} (same : K → K → Bool) (hash : K → ℕ) (caller : �
       pub may_frees : May Can Took value_at w.memory (frees n fault)
       may_frees = may_store w.memory (λ out. Now (refused n fault)) (Used n.setting.root) 0 taken_there tt
 
-      pub went_frees : (m2 : Mem (Node K V)) (end : NewMap × Progress Setting) → Steps Took value_at w.memory (frees n fault) m2 end
+      pub went_frees : (m2 : Mem (Node K V)) (end : NewMap × Advance Setting) → Steps Took value_at w.memory (frees n fault) m2 end
           → BeginWent same hash caller setting (at.Frees fault) w n.setting.root m2 end
       went_frees m2 end s =
           let d = stored w.memory (λ out. Now (refused n fault)) (Used n.setting.root) 0 m2 end s in
           begin_wrote n.setting.root 0 taken_there (at.Frees fault) (Store (Used n.setting.root) 0) Stored tt (tt, refl) m2 d.0 end
-          (subst (λ (e : NewMap × Progress Setting). BeginTold same hash caller setting (at.Frees fault) w (record w { memory = with_word w.memory (Used n.setting.root) 0 }) e) (sym d.1)
+          (subst (λ (e : NewMap × Advance Setting). BeginTold same hash caller setting (at.Frees fault) w (record w { memory = with_word w.memory (Used n.setting.root) 0 }) e) (sym d.1)
           (used_written n.setting.root 0 taken_there, point.0.1))

@@ -8,7 +8,7 @@ use Rattle.many_maps.specs.Given.SeizeWordsPlan.{Now, Steps}
 use Rattle.many_maps.proofs.Given.SeizeWordsOneOwner.AfterWrites.{word_at-with_word}
 use Rattle.many_maps.proofs.Given.SeizeWordsOneOwner.Operations.{exchanged, stored, made as make_made}
 use Rattle.many_maps.specs.Given.SeizeWorld.{World}
-use Rattle.many_maps.specs.Given.SeizeDeclared.progress.Progress.{Progress}
+use Rattle.many_maps.specs.Given.SeizeDeclared.advance.Advance.{Advance}
 use Rattle.many_maps.specs.Given.ResizeNewTable.{goes, made, linked, plan_at, new_table_plan}
 use Rattle.many_maps.specs.Given.TablesDeclared.node.Node.{Node}
 use Rattle.many_maps.specs.Given.TablesDeclared.node.Node.TheVariants as node
@@ -33,7 +33,7 @@ module _ {K V : Type 0} (m : Mem (Node K V)) (root : ℕ) where
     leaves m2 m3 is h = subst LeavesRootsBut (sym is) h
 
     module _ (w : World (Node K V)) (caller : ℕ) (setting : Setting) (blocks : Blocks) (there : IsSome (word_at m (Root root))) where
-      leaves_at : (stands : Point) → MakingFacts w caller setting (no_table {K = K}) blocks (Root setting.root) 0 stands → (m2 : Mem (Node K V)) (end : NewTable × Progress Table)
+      leaves_at : (stands : Point) → MakingFacts w caller setting (no_table {K = K}) blocks (Root setting.root) 0 stands → (m2 : Mem (Node K V)) (end : NewTable × Advance Table)
           → Steps Took value_at m (plan_at n stands) m2 end → LeavesRootsBut m2
       leaves_at (at.Sums before reason sum) facts m2 end s = absurd (let made = facts.0.1.made in omega (arith, made))
       leaves_at (at.Makes table) facts m2 end s =
@@ -59,6 +59,6 @@ module _ {K V : Type 0} (m : Mem (Node K V)) (root : ℕ) where
 
 -- of a map that has no table yet
 pub leaves_roots : {K V : Type 0} (w : World (Node K V)) (caller : ℕ) (setting : Setting) (blocks : Blocks) → IsSome (word_at w.memory (Root setting.root)) → (n : NewTable)
-    → NewTableFacts w caller setting (no_table {K = K}) blocks (Root setting.root) 0 n → (m2 : Mem (Node K V)) (end : NewTable × Progress Table)
+    → NewTableFacts w caller setting (no_table {K = K}) blocks (Root setting.root) 0 n → (m2 : Mem (Node K V)) (end : NewTable × Advance Table)
     → Steps Took value_at w.memory (new_table_plan n) m2 end → LeavesRootsBut w.memory setting.root m2
 leaves_roots w caller setting blocks there n f m2 end s = leaves_at w.memory setting.root n f.link_is w caller setting blocks there n.stands f.point m2 end s

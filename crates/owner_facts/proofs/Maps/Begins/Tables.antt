@@ -15,8 +15,8 @@ use Rattle.many_maps.proofs.Given.SeizeWordsPlans.{as_may}
 use Rattle.many_maps.proofs.Given.SeizeRuleRows.Leaving.{steps_back}
 use Rattle.many_maps.specs.Given.SeizeLaw.{Dropped}
 use Rattle.many_maps.specs.Given.SeizeWorld.{World, Hand, NoBlock, Making, Makes, Drops, Runs, with_hand, with_effect, made_by}
-use Rattle.many_maps.specs.Given.SeizeDeclared.progress.Progress.{Progress}
-use Rattle.many_maps.specs.Given.SeizeDeclared.progress.Progress.TheVariants as progress
+use Rattle.many_maps.specs.Given.SeizeDeclared.advance.Advance.{Advance}
+use Rattle.many_maps.specs.Given.SeizeDeclared.advance.Advance.TheVariants as progress
 use Rattle.many_maps.specs.Given.TablesChunks.{is_incremental}
 use Rattle.many_maps.specs.Given.TablesNodes.{deferred_word}
 use Rattle.many_maps.specs.Given.ResizeNewMap.{with_counter, at_root, goes, done, with_shards, made, shards, opened, unmakes}
@@ -100,7 +100,7 @@ module _ {K V : Type 0} (same : K → K → Bool) (hash : K → ℕ) where
               point = (point.1.0, hand_is, no_blocks, there, first_table_begins w2 caller (with_counter n.setting b) no_table no_blocks n.len f.len, first_len (with_counter n.setting b) n.len);
             }
 
-      pub went_shards : (m2 : Mem (Node K V)) (end : NewMap × Progress Setting) → Steps Took value_at w.memory (shards n) m2 end
+      pub went_shards : (m2 : Mem (Node K V)) (end : NewMap × Advance Setting) → Steps Took value_at w.memory (shards n) m2 end
           → BeginWent same hash caller setting at.Shards w n.setting.root m2 end
       went_shards mem end s =
           elim (make_made w.memory (made n) node.Shards ((n.setting.mask + 1) % 2 ^ 64) mem end s) as (λ _. BeginWent same hash caller setting at.Shards w n.setting.root mem end) [
@@ -112,10 +112,10 @@ module _ {K V : Type 0} (same : K → K → Bool) (hash : K → ℕ) where
               memory = sym d.2;
               others = λ r other. (refl, refl);
               spares = spares_made w caller node.Shards ((n.setting.mask + 1) % 2 ^ 64) d.0 d.1.0;
-              told = subst (λ (e : NewMap × Progress Setting). BeginTold same hash caller setting at.Shards w (w2 d.0 d.1) e) (sym d.3) (shards_told d.0 d.1);
+              told = subst (λ (e : NewMap × Advance Setting). BeginTold same hash caller setting at.Shards w (w2 d.0 d.1) e) (sym d.3) (shards_told d.0 d.1);
             }
             | inr d ↦ begin_still same hash caller setting w at.Shards n.setting.root mem d.2 end
-                (subst (λ (e : NewMap × Progress Setting). BeginTold same hash caller setting at.Shards w w e) (sym d.3)
+                (subst (λ (e : NewMap × Advance Setting). BeginTold same hash caller setting at.Shards w w e) (sym d.3)
                 (begin_at same hash caller setting w w n (at.Frees Memory) f (point.1, inl point.0)))
           ]
 
@@ -133,7 +133,7 @@ module _ {K V : Type 0} (same : K → K → Bool) (hash : K → ℕ) where
       dropped : left.hand n.setting.counter ≢ Making caller
       dropped = at_cases (λ (h : Hand). h ≢ Making caller) w.hand n.setting.counter NoBlock n.setting.counter (λ e is. absurd (cc)) (λ ne. absurd (ne refl))
 
-      pub went_unmakes : (m2 : Mem (Node K V)) (end : NewMap × Progress Setting) → Steps Took value_at w.memory (unmakes n fault) m2 end
+      pub went_unmakes : (m2 : Mem (Node K V)) (end : NewMap × Advance Setting) → Steps Took value_at w.memory (unmakes n fault) m2 end
           → BeginWent same hash caller setting (at.Unmakes fault) w n.setting.root m2 end
       went_unmakes m2 end s =
           let d = taken w.memory (λ out. Now (goes n (at.Frees fault))) n.setting.counter m2 end s in
@@ -145,7 +145,7 @@ module _ {K V : Type 0} (same : K → K → Bool) (hash : K → ℕ) where
             memory = sym d.2;
             others = λ r other. (refl, refl);
             spares = spares_taken w n.setting.counter NoBlock (Dropped n.setting.counter ∷ w.log) counter_there (λ k v is. let shards = point.2 in absurd (cc));
-            told = subst (λ (e : NewMap × Progress Setting). BeginTold same hash caller setting (at.Unmakes fault) w left e) (sym d.3)
+            told = subst (λ (e : NewMap × Advance Setting). BeginTold same hash caller setting (at.Unmakes fault) w left e) (sym d.3)
                 (begin_at same hash caller setting w left n (at.Frees fault) f (point.0, inr dropped));
           }
 
@@ -164,7 +164,7 @@ module _ {K V : Type 0} (same : K → K → Bool) (hash : K → ℕ) where
       module _ (w2 : World (Node K V)) (c2 : Chart K) (blocks2 : Blocks) (map2 : IsMapIn same hash n.setting w2 c2 blocks2)
           (used : word_at w2.memory (Used n.setting.root) ≡ Some 1) (hand : w2.hand n.setting.counter ≡ Making caller) where
         -- a step that did not end with a table has linked none
-        unlinked : (end : NewTable × Progress Table) → LinksLast hash n.setting.mode 0 no_table c2 end → ((table : Table) → end.1 ≢ progress.Done table) → c2 ≡ no_table
+        unlinked : (end : NewTable × Advance Table) → LinksLast hash n.setting.mode 0 no_table c2 end → ((table : Table) → end.1 ≢ progress.Done table) → c2 ≡ no_table
         unlinked end (inl e) other = e
         unlinked end (inr (last, table, is, e)) other = absurd (other table is)
 
@@ -177,7 +177,7 @@ module _ {K V : Type 0} (same : K → K → Bool) (hash : K → ℕ) where
             same_table : other ≡ table
             same_table = cc is
 
-        opened_told : (end : NewTable × Progress Table) → LinksLast hash n.setting.mode 0 no_table c2 end → NewTableTold w2 caller n.setting c2 blocks2 (Root n.setting.root) 0 end → LensTo (max n.len 8) end
+        opened_told : (end : NewTable × Advance Table) → LinksLast hash n.setting.mode 0 no_table c2 end → NewTableTold w2 caller n.setting c2 blocks2 (Root n.setting.root) 0 end → LensTo (max n.len 8) end
             → BeginTold same hash caller setting (at.Tables making) w w2 (opened n end)
         opened_told (making2, progress.Goes) links told lens =
             let same_chart : c2 ≡ no_table = unlinked (making2, progress.Goes) links (λ table is. absurd (cc is)) in
@@ -209,7 +209,7 @@ module _ {K V : Type 0} (same : K → K → Bool) (hash : K → ℕ) where
             begin_at same hash caller setting w w2 n (at.Unmakes fault) f
             ((used, (subst (λ (x : Chart K). IsMapIn same hash n.setting w2 x blocks2) same_chart map2).map.shows.root_there), hand, map2.counter)
 
-      pub went_tables : (m2 : Mem (Node K V)) (end : NewMap × Progress Setting) → Steps Took value_at w.memory (plan_as (opened n) (new_table_plan making)) m2 end
+      pub went_tables : (m2 : Mem (Node K V)) (end : NewMap × Advance Setting) → Steps Took value_at w.memory (plan_as (opened n) (new_table_plan making)) m2 end
           → BeginWent same hash caller setting (at.Tables making) w n.setting.root m2 end
       went_tables m2 end s =
           let b = steps_back (opened n) w.memory m2 (new_table_plan making) end s in
@@ -225,7 +225,7 @@ module _ {K V : Type 0} (same : K → K → Bool) (hash : K → ℕ) where
             memory = g.memory;
             others = λ r other. (leaves.others r other, leaves.used r);
             spares = g.told.0;
-            told = subst (λ (e : NewMap × Progress Setting). BeginTold same hash caller setting (at.Tables making) w g.w2 e) (sym b.2)
+            told = subst (λ (e : NewMap × Advance Setting). BeginTold same hash caller setting (at.Tables making) w g.w2 e) (sym b.2)
                 (opened_told g.w2 g.c2 g.blocks2 g.map (leaves.used n.setting.root ∙ point.0) (spares_counter same hash n.setting w no_table point.2 point.3 caller m2 _ g caller point.1) b.0 g.told.1 g.told.2
                 (lens_told w caller n.setting point.2 w.memory making (max n.len 8) point.4 point.5 m2 b.0 b.1));
           }

@@ -12,8 +12,8 @@ use Rattle.many_maps.proofs.Given.SeizeWordsOneOwner.Operations.{exchanged, stor
 use Rattle.many_maps.proofs.Given.SeizeWordsPlans.{may_as}
 use Rattle.many_maps.proofs.Given.SeizeRuleRows.Leaving.{steps_back}
 use Rattle.many_maps.specs.Given.SeizeWorld.{World}
-use Rattle.many_maps.specs.Given.SeizeDeclared.progress.Progress.{Progress}
-use Rattle.many_maps.specs.Given.SeizeDeclared.progress.Progress.TheVariants as progress
+use Rattle.many_maps.specs.Given.SeizeDeclared.advance.Advance.{Advance}
+use Rattle.many_maps.specs.Given.SeizeDeclared.advance.Advance.TheVariants as progress
 use Rattle.many_maps.specs.Given.ResizeNewMap.{at_root, with_counter, next_root, taken as root_taken, with_shards, made, opened, refused, done, goes, plan_at, new_map_plan}
 use Rattle.many_maps.specs.Given.ResizeNewTable.{first_table, new_table_plan}
 use Rattle.many_maps.specs.Given.TablesDeclared.node.Node.{Node}
@@ -46,7 +46,7 @@ uncounted_none setting m c none empty =
 
 module _ {K V : Type 0} (m2 : Mem (Node K V)) where
   -- the shards after a step
-  abbrev pub UncountedTo : NewMap × Progress Setting → Type 0
+  abbrev pub UncountedTo : NewMap × Advance Setting → Type 0
   UncountedTo (n, progress.Goes) = UncountedAt m2 n.setting n.stands
   UncountedTo (n, progress.Waits) = Unit {0}
   UncountedTo (n, progress.Done begun) = IsUncounted m2 n.setting
@@ -66,15 +66,15 @@ module _ {K V : Type 0} (m2 : Mem (Node K V)) where
       by true = subst (UncountedAt m2 (at_root n.setting (n.setting.root + 1))) (sym here) tt
       by false = tt
 
-  opened_uncounted : (n : NewMap) (b : NewTable × Progress Table) → IsUncounted m2 n.setting → UncountedTo (opened n b)
+  opened_uncounted : (n : NewMap) (b : NewTable × Advance Table) → IsUncounted m2 n.setting → UncountedTo (opened n b)
   opened_uncounted n (making, progress.Goes) h = h
   opened_uncounted n (making, progress.Waits) h = tt
   opened_uncounted n (making, progress.Done table) h = h
   opened_uncounted n (making, progress.Refused fault) h = tt
 
 module _ {K V : Type 0} (same : K → K → Bool) (hash : K → ℕ) (setting : Setting) (mask_fits : setting.mask + 1 < 2 ^ 64) (w : World (Node K V)) (n : NewMap) (facts : BeginFacts same hash 0 w setting n)
-    (m2 : Mem (Node K V)) (end : NewMap × Progress Setting) where
-  on_as : (other : NewMap × Progress Setting) → end ≡ other → UncountedTo m2 other → UncountedTo m2 end
+    (m2 : Mem (Node K V)) (end : NewMap × Advance Setting) where
+  on_as : (other : NewMap × Advance Setting) → end ≡ other → UncountedTo m2 other → UncountedTo m2 end
   on_as other is h = subst (UncountedTo m2) (sym is) h
 
   -- shards that are made are 0
@@ -89,7 +89,7 @@ module _ {K V : Type 0} (same : K → K → Bool) (hash : K → ℕ) (setting : 
       below mask e low = omega (arith, mask_fits, e, low)
 
   -- a step of the making of a first table leaves them
-  table_uncounted : (making : NewTable) → OpeningFacts same hash 0 w setting n (at.Tables making) → IsUncounted w.memory n.setting → (b : NewTable × Progress Table)
+  table_uncounted : (making : NewTable) → OpeningFacts same hash 0 w setting n (at.Tables making) → IsUncounted w.memory n.setting → (b : NewTable × Advance Table)
       → May Can Took value_at w.memory (new_table_plan making) → Steps Took value_at w.memory (new_table_plan making) m2 b → IsUncounted m2 n.setting
   table_uncounted making f h b may st shard l =
       shard_stays same hash w n.setting no_table f.2 f.3 (new_table_plan making) may m2 b st shard (omega (arith, l))

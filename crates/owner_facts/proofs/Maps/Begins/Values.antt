@@ -10,8 +10,8 @@ use Rattle.many_maps.proofs.Given.SeizeWordsOneOwner.Operations.{exchanged, stor
 use Rattle.many_maps.proofs.Given.SeizeWordsPlans.{may_as}
 use Rattle.many_maps.proofs.Given.SeizeRuleRows.Leaving.{steps_back}
 use Rattle.many_maps.specs.Given.SeizeWorld.{World}
-use Rattle.many_maps.specs.Given.SeizeDeclared.progress.Progress.{Progress}
-use Rattle.many_maps.specs.Given.SeizeDeclared.progress.Progress.TheVariants as progress
+use Rattle.many_maps.specs.Given.SeizeDeclared.advance.Advance.{Advance}
+use Rattle.many_maps.specs.Given.SeizeDeclared.advance.Advance.TheVariants as progress
 use Rattle.many_maps.specs.Given.ResizeNewMap.{at_root, with_counter, next_root, taken as root_taken, with_shards, made, opened, refused, done, goes, plan_at, new_map_plan}
 use Rattle.many_maps.specs.Given.ResizeNewTable.{first_table, new_table_plan}
 use Rattle.many_maps.specs.Given.TablesDeclared.node.Node.{Node}
@@ -36,7 +36,7 @@ use Rattle.many_maps.proofs.Given.PointsValues.Making.{MadeAfter, IsLinkedNow, n
 
 module _ {K V : Type 0} (m0 m2 : Mem (Node K V)) where
   -- the blocks after a step
-  abbrev pub OpensWith : NewMap × Progress Setting → Type 0
+  abbrev pub OpensWith : NewMap × Advance Setting → Type 0
   OpensWith (n, progress.Goes) = IsComing m0 m2 (HasLinked m2 n.setting.root n.stands) (IsMadeByOpening n.setting.counter n.stands)
   OpensWith (n, progress.Waits) = Unit {0}
   OpensWith (n, progress.Done begun) = IsComing m0 m2 (IsAtRoot m2 n.setting.root) (λ b. b ≡ n.setting.counter)
@@ -69,13 +69,13 @@ module _ {K V : Type 0} (m0 m2 : Mem (Node K V)) where
           (λ b k. k) (λ b k. inl k) of
 
 module _ {K V : Type 0} (same : K → K → Bool) (hash : K → ℕ) (setting : Setting) (m0 : Mem (Node K V)) (w w2 : World (Node K V)) (n : NewMap) (facts : BeginFacts same hash 0 w setting n)
-    (end : NewMap × Progress Setting) where
+    (end : NewMap × Advance Setting) where
   -- nothing was made or taken away
   module _ (Came Mine : ℕ → Type 0) (holds : IsComing m0 w.memory Came Mine) (kept : SameValues w.memory w2.memory) where
     stays : (Came2 Mine2 : ℕ → Type 0) → ((b : ℕ) → Came b → Came2 b) → ((b : ℕ) → Mine b → Mine2 b) → ((b : ℕ) → Mine2 b → Mine b) → IsComing m0 w2.memory Came2 Mine2
     stays Came2 Mine2 on to of = comes_same m0 w.memory Came Mine holds w2.memory kept Came2 Mine2 on to of
 
-  on_as : (other : NewMap × Progress Setting) → end ≡ other → OpensWith m0 w2.memory other → OpensWith m0 w2.memory end
+  on_as : (other : NewMap × Advance Setting) → end ≡ other → OpensWith m0 w2.memory other → OpensWith m0 w2.memory end
   on_as other is h = subst (OpensWith m0 w2.memory) (sym is) h
 
   -- a first table is made
@@ -100,7 +100,7 @@ module _ {K V : Type 0} (same : K → K → Bool) (hash : K → ℕ) (setting : 
         zero_is : (x : ℕ) → Some x ≡ Some 0 → x ≡ 0
         zero_is x e = cc e
 
-    opened_with : (b : NewTable × Progress Table) → IsComing m0 w.memory (λ b. ⊥) (λ b. (b ≡ n.setting.counter) ⊎ IsMadeBy making.stands b)
+    opened_with : (b : NewTable × Advance Table) → IsComing m0 w.memory (λ b. ⊥) (λ b. (b ≡ n.setting.counter) ⊎ IsMadeBy making.stands b)
         → Leaves w.memory w2.memory (IsMadeBy making.stands) (MadeAfter b) (IsLinkedNow w 0 n.setting no_table blocks w2.memory)
         → BeginTold same hash 0 setting (at.Tables making) w w2 (opened n b) → OpensWith m0 w2.memory (opened n b)
     opened_with (next, progress.Goes) holds l told =

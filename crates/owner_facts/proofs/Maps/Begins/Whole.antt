@@ -13,8 +13,8 @@ use Rattle.many_maps.proofs.Given.SeizeAloneHistories.Reached.{Reached, history_
 use Rattle.many_maps.proofs.Given.SeizeAloneHistories.UsersTurn.{users_turn}
 use Rattle.many_maps.specs.Given.SeizeWorld.{World}
 use Rattle.many_maps.specs.Given.SeizeAloneAlone.{History, IsHistory, at_rest}
-use Rattle.many_maps.specs.Given.SeizeDeclared.progress.Progress.{Progress}
-use Rattle.many_maps.specs.Given.SeizeDeclared.progress.Progress.TheVariants as progress
+use Rattle.many_maps.specs.Given.SeizeDeclared.advance.Advance.{Advance}
+use Rattle.many_maps.specs.Given.SeizeDeclared.advance.Advance.TheVariants as progress
 use Rattle.many_maps.specs.Given.TablesChunks.{is_incremental}
 use Rattle.many_maps.specs.Given.ResizeNewMap.{at_root, with_counter, next_root, taken as root_taken, with_shards, made, opened, refused, done, goes, plan_at, new_map_plan}
 use Rattle.many_maps.specs.Given.ResizeNewTable.{first_table, new_table_plan}
@@ -54,7 +54,7 @@ use Rattle.owner_facts.proofs.Maps.Begins.Values.{OpensWith, opens_with}
 
 module _ {K V : Type 0} (same : K → K → Bool) (hash : K → ℕ) (m0 m m2 : Mem (Node K V)) where
   -- the roots after a step
-  abbrev RootsTo : NewMap × Progress Setting → Type 0
+  abbrev RootsTo : NewMap × Advance Setting → Type 0
   RootsTo (n, progress.Goes) = RootsAt m0 same hash m2 n.setting.root n.stands
   RootsTo (n, progress.Waits) = Unit {0}
   RootsTo (n, progress.Done begun) = HasTaken m0 same hash m2 n.setting.root
@@ -88,7 +88,7 @@ module _ {K V : Type 0} (same : K → K → Bool) (hash : K → ℕ) (m0 m m2 : 
       by true = subst (λ (o : Opening). RootsAt m0 same hash m2 (n.setting.root + 1) o) (sym here) h
       by false = h
 
-  opened_roots : (n : NewMap) (b : NewTable × Progress Table) → HasTaken m0 same hash m2 n.setting.root → RootsTo (opened n b)
+  opened_roots : (n : NewMap) (b : NewTable × Advance Table) → HasTaken m0 same hash m2 n.setting.root → RootsTo (opened n b)
   opened_roots n (making, progress.Goes) h = h
   opened_roots n (making, progress.Waits) h = tt
   opened_roots n (making, progress.Done table) h = h
@@ -114,7 +114,7 @@ module _ {K V : Type 0} (same : K → K → Bool) (hash : K → ℕ) (are : AreL
   opening_may : May Can Took value_at m (new_map_plan n)
   opening_may = may_new_map same hash 0 setting are.lawful initial_is mask_fits (at_rest deferred_word m h) n now.facts
 
-  module _ (m2 : Mem (Node K V)) (n2 : NewMap) (end : Progress Setting) (steps : Steps Took value_at m (new_map_plan n) m2 (n2, end)) where
+  module _ (m2 : Mem (Node K V)) (n2 : NewMap) (end : Advance Setting) (steps : Steps Took value_at m (new_map_plan n) m2 (n2, end)) where
     went : BeginWent same hash 0 setting n.stands (at_rest deferred_word m h) n.setting.root m2 (n2, end)
     went = went_new_map same hash 0 setting are.lawful initial_is mask_fits (at_rest deferred_word m h) n now.facts m2 (n2, end) steps
 
@@ -137,7 +137,7 @@ module _ {K V : Type 0} (same : K → K → Bool) (hash : K → ℕ) (are : AreL
     told : BeginTold same hash 0 setting n.stands (at_rest deferred_word m h) (at_rest deferred_word m2 h2) (n2, end)
     told = subst (λ (v : World (Node K V)). BeginTold same hash 0 setting n.stands (at_rest deferred_word m h) v (n2, end)) there went.told
 
-    on_as : (other : NewMap × Progress Setting) → (n2, end) ≡ other → RootsTo same hash m0 m m2 other → RootsTo same hash m0 m m2 (n2, end)
+    on_as : (other : NewMap × Advance Setting) → (n2, end) ≡ other → RootsTo same hash m0 m m2 other → RootsTo same hash m0 m m2 (n2, end)
     on_as other is r = subst (RootsTo same hash m0 m m2) (sym is) r
 
     roots_at : (stage : Opening) → n.stands ≡ stage → RootsAt m0 same hash m n.setting.root stage → Steps Took value_at m (plan_at n stage) m2 (n2, end)
@@ -171,13 +171,13 @@ module _ {K V : Type 0} (same : K → K → Bool) (hash : K → ℕ) (are : AreL
         on_as (goes n (at.Frees fault)) d.3 (taken_on same hash m0 m m2 n.setting.root r leaves)
     roots_at (at.Frees fault) here r s told2 =
         let d = stored m (λ out. Now (refused n fault)) (Used n.setting.root) 0 m2 (n2, end) s in
-        let free = subst (λ (x : NewMap × Progress Setting). BeginTold same hash 0 setting (at.Frees fault) (at_rest deferred_word m h) (at_rest deferred_word m2 h2) x) d.1 told2 in
+        let free = subst (λ (x : NewMap × Advance Setting). BeginTold same hash 0 setting (at.Frees fault) (at_rest deferred_word m h) (at_rest deferred_word m2 h2) x) d.1 told2 in
         on_as (refused n fault) d.1 (given_up same hash m0 m m2 n.setting.root r leaves free.0 free.1)
     roots_at at.Over here r s told2 = on_as (n, progress.Done n.setting) s.1 (taken_on same hash m0 m m2 n.setting.root r leaves)
     roots_at (at.Refused fault) here r s told2 = on_as (n, progress.Refused fault) s.1 (same_on same hash m0 m m2 s.0 r)
 
     len2 : n2.len ≡ len
-    len2 = always_steps (λ (e : NewMap × Progress Setting). e.0.len ≡ n.len) m m2 (new_map_plan n) (n2, end) (keeps_len K V n n.stands) steps ∙ now.len_is
+    len2 = always_steps (λ (e : NewMap × Advance Setting). e.0.len ≡ n.len) m m2 (new_map_plan n) (n2, end) (keeps_len K V n n.stands) steps ∙ now.len_is
 
     roots2 : RootsTo same hash m0 m m2 (n2, end)
     roots2 = roots_at n.stands refl now.roots_are steps told
@@ -241,7 +241,7 @@ module _ {K V : Type 0} (same : K → K → Bool) (hash : K → ℕ) (are : AreL
     opening_told : OpensTo same hash setting roots len m0 h0 n2 m2 end
     opening_told = by end told roots2 holds2 uncounted2
       where
-        by : (q : Progress Setting) → BeginTold same hash 0 setting n.stands (at_rest deferred_word m h) (at_rest deferred_word m2 h2) (n2, q) → RootsTo same hash m0 m m2 (n2, q)
+        by : (q : Advance Setting) → BeginTold same hash 0 setting n.stands (at_rest deferred_word m h) (at_rest deferred_word m2 h2) (n2, q) → RootsTo same hash m0 m m2 (n2, q)
             → OpensWith m0 m2 (n2, q) → UncountedTo m2 (n2, q) → OpensTo same hash setting roots len m0 h0 n2 m2 q
         by progress.Goes f r k u = (h2, record { history = history2; facts = f; len_is = len2; roots_are = r; holds = k; uncounted = u; handed = now.handed })
         by progress.Waits f r k u = f

@@ -19,8 +19,8 @@ use Rattle.many_maps.specs.Given.ResizeCopierStates.{standing}
 use Rattle.many_maps.specs.Given.ResizeDeclared.copier.Copier.{Copier}
 use Rattle.many_maps.specs.Given.ResizeDeclared.copier.Copying.{Copying}
 use Rattle.many_maps.specs.Given.ResizeDeclared.copier.Copying.TheVariants as copies
-use Rattle.many_maps.specs.Given.ResizeDeclared.outcome.Outcome.{Outcome}
-use Rattle.many_maps.specs.Given.ResizeDeclared.outcome.Outcome.TheVariants as outcome
+use Rattle.many_maps.specs.Given.ResizeDeclared.yielding.Yielding.{Yielding}
+use Rattle.many_maps.specs.Given.ResizeDeclared.yielding.Yielding.TheVariants as outcome
 use Rattle.many_maps.specs.Given.ReservesReserve.{copied, needed, plan_at, reserve_plan}
 use Rattle.many_maps.specs.Given.ReservesDeclared.reserve.Reserve.{Reserve}
 use Rattle.many_maps.specs.Given.ReservesDeclared.reserve.Reserving.{Reserving}
@@ -44,9 +44,9 @@ use Rattle.owner_facts.proofs.Maps.Reserves.Told.{ReservesOnTo, copied_ends, res
 module _ {K V : Type 0} (same : K → K → Bool) (hash : K → ℕ) (setting : Setting) (incremental : is_incremental setting.mode ≡ true) (w w2 : World (Node K V)) (c c2 : Chart K) (blocks blocks2 : Blocks)
     (map : IsMapIn same hash setting w c blocks) (map2 : IsMapIn same hash setting w2 c2 blocks2) (lasts : Lasts same (spot_of hash) (is_incremental setting.mode) c c2)
     (since : SameBlocks c blocks blocks2) (moved : Moved same hash setting.mode 0 c c2) (p : Reserve) (f : ReserveFacts same hash w 0 setting c blocks p) (none : IsRowOfReserve p.stands → ⊥)
-    (end : Reserve × Outcome (Node K V) Unit) (told : ReserveAfter w2 0 setting c2 blocks2 same hash end) (steps : Steps Took value_at w.memory (reserve_plan hash p) w2.memory end) where
+    (end : Reserve × Yielding (Node K V) Unit) (told : ReserveAfter w2 0 setting c2 blocks2 same hash end) (steps : Steps Took value_at w.memory (reserve_plan hash p) w2.memory end) where
   -- where a step leads; where it has ended, the root is the same
-  abbrev RootTo : Reserve × Outcome (Node K V) Unit → Type 0
+  abbrev RootTo : Reserve × Yielding (Node K V) Unit → Type 0
   RootTo (q, outcome.Goes) = LooksAtRoot c2 q.stands
   RootTo (q, outcome.Waits) = LooksAtRoot c2 q.stands
   RootTo (q, outcome.Gave value) = Unit {0}
@@ -70,10 +70,10 @@ module _ {K V : Type 0} (same : K → K → Bool) (hash : K → ℕ) (setting : 
   looks_of additional at.Over alone = alone
   looks_of additional (at.Refused fault) alone = tt
 
-  abbrev OnTo : Reserve × Outcome (Node K V) Unit → Type 0
+  abbrev OnTo : Reserve × Yielding (Node K V) Unit → Type 0
   OnTo = ReservesOnTo same hash 0 setting w w2 c c2 blocks blocks2 map map2 lasts since moved p f.setting_is c.first
 
-  to_root : (e : Reserve × Outcome (Node K V) Unit) → OnTo e → RootTo e
+  to_root : (e : Reserve × Yielding (Node K V) Unit) → OnTo e → RootTo e
   to_root (q, outcome.Goes) on = looks_of q.additional q.stands on
   to_root (q, outcome.Waits) on = looks_of q.additional q.stands on
   to_root (q, outcome.Gave value) on = tt
@@ -87,14 +87,14 @@ module _ {K V : Type 0} (same : K → K → Bool) (hash : K → ℕ) (setting : 
       (reserves_on same hash 0 setting w w2 c c2 blocks blocks2 map map2 lasts since moved p f.setting_is c.first w2.memory refl end told known_root stage quiet facts alone s)
 
   -- a step of its copying
-  module _ (copier : Copier) (near : c.first ≤ copier.target.turn) (whole : CopiesWhole same hash w 0 setting c blocks copier) (b : Copier × Outcome (Node K V) Table) where
+  module _ (copier : Copier) (near : c.first ≤ copier.target.turn) (whole : CopiesWhole same hash w 0 setting c blocks copier) (b : Copier × Yielding (Node K V) Table) where
     its : copier.setting ≡ setting
     its = copier_setting same hash w 0 setting c blocks copier whole
 
     near_here : IsNear setting c copier
     near_here = subst (λ (x : Bool). cond x (c.first ≤ copier.target.turn) (Unit {0})) (sym incremental) near
 
-    from_copies : (e : Copier × Outcome (Node K V) Table) → CopiesTo setting c2 blocks2 c.first e → RootTo (copied p e)
+    from_copies : (e : Copier × Yielding (Node K V) Table) → CopiesTo setting c2 blocks2 c.first e → RootTo (copied p e)
     from_copies (q, outcome.Goes) on = near_of q on.1
     from_copies (q, outcome.Waits) on = near_of q on.1
     from_copies (q, outcome.Gave value) on = tt
@@ -104,7 +104,7 @@ module _ {K V : Type 0} (same : K → K → Bool) (hash : K → ℕ) (setting : 
     -- the root is the same, and so is the target
     kept : (q : Copier) → q.target ≡ copier.target → w2.memory.roots ≡ w.memory.roots → b ≡ (q, outcome.Goes) → RootTo (copied p b)
     kept q target roots is =
-        subst (λ (e : Copier × Outcome (Node K V) Table). RootTo (copied p e)) (sym is)
+        subst (λ (e : Copier × Yielding (Node K V) Table). RootTo (copied p e)) (sym is)
         (let first = first_kept same hash setting w w2 c c2 blocks blocks2 map map2 lasts since copier its c.first b roots in
         let turn = ap (λ (x : Table). x.turn) target in omega (arith, near, first, turn))
 
@@ -133,7 +133,7 @@ module _ {K V : Type 0} (same : K → K → Bool) (hash : K → ℕ) (setting : 
   root_at (at.Copies copier) quiet facts root s =
       let b = steps_back (copied p) w.memory w2.memory (copier_plan hash copier) end s in
       subst RootTo (sym b.2)
-      (copies_at copier root facts b.0 (subst (λ (x : Reserve × Outcome (Node K V) Unit). ReserveAfter w2 0 setting c2 blocks2 same hash x) b.2 told) copier.stands refl quiet
+      (copies_at copier root facts b.0 (subst (λ (x : Reserve × Yielding (Node K V) Unit). ReserveAfter w2 0 setting c2 blocks2 same hash x) b.2 told) copier.stands refl quiet
       (knows_tables same hash w 0 setting c blocks copier facts) b.1)
   root_at at.Over quiet facts root s = absurd root
   root_at (at.Refused fault) quiet facts root s = beside (at.Refused fault) quiet facts refl s
@@ -143,7 +143,7 @@ module _ {K V : Type 0} (same : K → K → Bool) (hash : K → ℕ) (setting : 
   counts_at at.Over root = root
   counts_at _ root = tt
 
-  both : (e : Reserve × Outcome (Node K V) Unit) → ReserveAfter w2 0 setting c2 blocks2 same hash e → RootTo e → SumsTo same hash setting w c blocks map c.first p f w2.memory end e
+  both : (e : Reserve × Yielding (Node K V) Unit) → ReserveAfter w2 0 setting c2 blocks2 same hash e → RootTo e → SumsTo same hash setting w c blocks map c.first p f w2.memory end e
       → KeepsToRoot setting w2.memory c2 e
   both (q, outcome.Goes) after root sums = (root, sums)
   both (q, outcome.Waits) after root sums = (root, sums)

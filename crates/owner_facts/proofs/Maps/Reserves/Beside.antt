@@ -11,8 +11,8 @@ use Rattle.many_maps.specs.Given.ResizeCopier.{copier_plan}
 use Rattle.many_maps.specs.Given.ResizeCopierStates.{copying_all}
 use Rattle.many_maps.specs.Given.ReservesReserve.{copied}
 use Rattle.many_maps.specs.Given.TablesDeclared.node.Node.{Node}
-use Rattle.many_maps.specs.Given.ResizeDeclared.outcome.Outcome.{Outcome}
-use Rattle.many_maps.specs.Given.ResizeDeclared.outcome.Outcome.TheVariants as outcome
+use Rattle.many_maps.specs.Given.ResizeDeclared.yielding.Yielding.{Yielding}
+use Rattle.many_maps.specs.Given.ResizeDeclared.yielding.Yielding.TheVariants as outcome
 use Rattle.many_maps.specs.Given.TablesDeclared.setting.Setting.{Setting}
 use Rattle.many_maps.specs.Given.TablesDeclared.table.Table.{Table}
 use Rattle.many_maps.specs.Given.ResizeDeclared.copier.Copier.{Copier}
@@ -43,7 +43,7 @@ use Rattle.owner_facts.proofs.Alone.Lone.QuietPoints.{IsQuiet, quiet_alone}
 use Rattle.owner_facts.specs.Maps.FactsAloneReserves.{CopierAlone, ReservesAlone, IsLoneReserve, LeadsReserve}
 
 -- where a step of its copier leads: it never waits
-abbrev pub CopierLeads : {K T : Type 0} → Bool → ℕ → Chart K → Copier × Outcome T Table → Type 0
+abbrev pub CopierLeads : {K T : Type 0} → Bool → ℕ → Chart K → Copier × Yielding T Table → Type 0
 CopierLeads b caller c (p, outcome.Goes) = OthersIdle caller c × CopierAlone b c p
 CopierLeads b caller c (p, outcome.Waits) = ⊥
 CopierLeads b caller c (p, outcome.Gave value) = ⊥
@@ -83,7 +83,7 @@ module _ {K : Type 0} (c : Chart K) (setting : Setting) (tables : TablesAlone (i
   fresh_alone at.Over fresh = tables
   fresh_alone (at.Refused fault) fresh = tables
 
-  proceeds_alone : {T : Type 0} (caller : ℕ) → OthersIdle caller c → (end : Reserve × Outcome T Unit) → Proceeds setting end → LeadsReserve (is_incremental setting.mode) caller c end
+  proceeds_alone : {T : Type 0} (caller : ℕ) → OthersIdle caller c → (end : Reserve × Yielding T Unit) → Proceeds setting end → LeadsReserve (is_incremental setting.mode) caller c end
   proceeds_alone caller idle (p, outcome.Goes) fresh = record { idle = idle; point = fresh_alone p.stands fresh }
   proceeds_alone caller idle (p, outcome.Waits) none = absurd none
   proceeds_alone caller idle (p, outcome.Gave value) none = absurd none
@@ -91,7 +91,7 @@ module _ {K : Type 0} (c : Chart K) (setting : Setting) (tables : TablesAlone (i
   proceeds_alone caller idle (p, outcome.Refused fault) on = record { idle = idle; tables = tables }
 
 module _ {K T : Type 0} (same : K → K → Bool) (hash : K → ℕ) (caller : ℕ) (setting : Setting) (c : Chart K) (stands : Reserving) (other : CopiesPairs stands → ⊥)
-    (end : Reserve × Outcome T Unit) (proceeds : Proceeds setting end) where
+    (end : Reserve × Yielding T Unit) (proceeds : Proceeds setting end) where
   -- a table was linked, if anything was changed
   linked_alone : (c2 : Chart K) → Rule same (spot_of hash) (is_incremental setting.mode) c → Rule same (spot_of hash) (is_incremental setting.mode) c2
       → OnlyLinks hash setting.mode c c2 → IsLoneReserve (is_incremental setting.mode) caller c stands → LeadsReserve (is_incremental setting.mode) caller c2 end
@@ -103,14 +103,14 @@ module _ {K T : Type 0} (same : K → K → Bool) (hash : K → ℕ) (caller : �
 
 module _ {K V : Type 0} (b : Bool) (caller : ℕ) (c : Chart K) where
   -- in incremental mode its copier is alone still, and has nothing to say of any table where it ends
-  led_incremental : b ≡ true → (end : Copier × Outcome (Node K V) Table) → end.1 ≢ outcome.Waits → ((value : Node K V) → end.1 ≢ outcome.Gave value)
+  led_incremental : b ≡ true → (end : Copier × Yielding (Node K V) Table) → end.1 ≢ outcome.Waits → ((value : Node K V) → end.1 ≢ outcome.Gave value)
       → FactsAlone c caller end.0 × (end.1 ≢ outcome.Goes → IsQuiet end.0.stands) → CopierLeads b caller c end
   led_incremental bits end goes none kept = subst (λ (x : Bool). CopierLeads x caller c end) (sym bits) (by end goes none kept)
     where
       rests : (p : Copier) → IsQuiet p.stands → FactsAlone c caller p → RestsAlone true caller c
       rests p quiet alone = record { idle = alone.idle; tables = quiet_alone c p p.stands quiet alone.point }
 
-      by : (end : Copier × Outcome (Node K V) Table) → end.1 ≢ outcome.Waits → ((value : Node K V) → end.1 ≢ outcome.Gave value)
+      by : (end : Copier × Yielding (Node K V) Table) → end.1 ≢ outcome.Waits → ((value : Node K V) → end.1 ≢ outcome.Gave value)
           → FactsAlone c caller end.0 × (end.1 ≢ outcome.Goes → IsQuiet end.0.stands) → CopierLeads true caller c end
       by (p, outcome.Goes) goes none kept = (kept.0.idle, kept.0.point)
       by (p, outcome.Waits) goes none kept = absurd (goes refl)
@@ -118,10 +118,10 @@ module _ {K V : Type 0} (b : Bool) (caller : ℕ) (c : Chart K) where
       by (p, outcome.Done table) goes none kept = rests p (kept.1 (λ e. cc e)) kept.0
       by (p, outcome.Refused fault) goes none kept = rests p (kept.1 (λ e. cc e)) kept.0
 
-  led_blocking : b ≡ false → (end : Copier × Outcome (Node K V) Table) → LeadsAlone c caller end → CopierLeads b caller c end
+  led_blocking : b ≡ false → (end : Copier × Yielding (Node K V) Table) → LeadsAlone c caller end → CopierLeads b caller c end
   led_blocking blocking end leads = subst (λ (x : Bool). CopierLeads x caller c end) (sym blocking) (by end leads)
     where
-      by : (end : Copier × Outcome (Node K V) Table) → LeadsAlone c caller end → CopierLeads false caller c end
+      by : (end : Copier × Yielding (Node K V) Table) → LeadsAlone c caller end → CopierLeads false caller c end
       by (p, outcome.Goes) alone = (alone.0, alone.1)
       by (p, outcome.Waits) alone = alone
       by (p, outcome.Gave value) alone = alone
@@ -129,7 +129,7 @@ module _ {K V : Type 0} (b : Bool) (caller : ℕ) (c : Chart K) where
       by (p, outcome.Refused fault) alone = record { idle = alone.0; tables = (alone.1, alone.2) }
 
   -- and so the reservation
-  copied_alone : (p : Reserve) (end : Copier × Outcome (Node K V) Table) → CopierLeads b caller c end → LeadsReserve b caller c (copied p end)
+  copied_alone : (p : Reserve) (end : Copier × Yielding (Node K V) Table) → CopierLeads b caller c end → LeadsReserve b caller c (copied p end)
   copied_alone p (next, outcome.Goes) alone = record { idle = alone.0; point = alone.1 }
   copied_alone p (next, outcome.Waits) alone = alone
   copied_alone p (next, outcome.Gave value) alone = alone
@@ -139,7 +139,7 @@ module _ {K V : Type 0} (b : Bool) (caller : ℕ) (c : Chart K) where
 module _ {K V : Type 0} (same : K → K → Bool) (hash : K → ℕ) (caller : ℕ) (setting : Setting) (lawful : IsLawful same (spot_of hash)) (fits : (k : K) → hash k < 2 ^ 64)
     (initial_is : IsPowerOfTwo setting.initial) (w w2 : World (Node K V)) (c c2 : Chart K) (blocks blocks2 : Blocks) (map : IsMapIn same hash setting w c blocks)
     (map2 : IsMapIn same hash setting w2 c2 blocks2) (m2 : Mem (Node K V)) where
-  gives_none : (end : Copier × Outcome (Node K V) Table) → CopierTold w2 caller setting c2 blocks2 same hash end → (value : Node K V) → end.1 ≢ outcome.Gave value
+  gives_none : (end : Copier × Yielding (Node K V) Table) → CopierTold w2 caller setting c2 blocks2 same hash end → (value : Node K V) → end.1 ≢ outcome.Gave value
   gives_none (p, outcome.Goes) told value e = absurd (cc e)
   gives_none (p, outcome.Waits) told value e = absurd (cc e)
   gives_none (p, outcome.Gave other) told value e = told
@@ -151,18 +151,18 @@ module _ {K V : Type 0} (same : K → K → Bool) (hash : K → ℕ) (caller : �
       cond b ((copier.whole ≡ true) × CopierFacts same hash w caller setting c blocks copier × IsEnding same hash w caller setting c blocks copier copier.stands)
       (CopierFactsBlocking same hash w caller setting c blocks copier)
 
-  abbrev ToldIn : Copier × Outcome (Node K V) Table → Bool → Type 0
+  abbrev ToldIn : Copier × Yielding (Node K V) Table → Bool → Type 0
   ToldIn end b =
       cond b (CopierTold w2 caller setting c2 blocks2 same hash end × (end.0.whole ≡ true) × EndsAtRoot w2 caller setting c2 blocks2 same hash end)
       (CopierToldBlocking w2 caller setting c2 blocks2 same hash end)
 
-  abbrev MovedIn : Copier → Copier × Outcome (Node K V) Table → Bool → Type 0
+  abbrev MovedIn : Copier → Copier × Yielding (Node K V) Table → Bool → Type 0
   MovedIn copier end b =
       cond b (MovedAt hash caller c copier copier.stands end c2) (OthersIdle caller c × AloneBlocking c copier copier.stands → LeadsAlone c2 caller end)
 
   -- a step of its copier, by the mode of the map
   pub copier_leads : (b : Bool) → is_incremental setting.mode ≡ b → (copier : Copier) → (IsRowOfCopier copier.stands → ⊥) → CopiesWhole same hash w caller setting c blocks copier
-      → (end : Copier × Outcome (Node K V) Table) → Steps Took value_at w.memory (copier_plan hash copier) m2 end → WholeTold w2 caller setting c2 blocks2 same hash end
+      → (end : Copier × Yielding (Node K V) Table) → Steps Took value_at w.memory (copier_plan hash copier) m2 end → WholeTold w2 caller setting c2 blocks2 same hash end
       → CopierMoves same hash caller setting w c copier end c2 → OthersIdle caller c → CopierAlone b c copier → CopierLeads b caller c2 end
   copier_leads true bits copier none facts end s told moves idle alone =
       let f = subst (KnowsIn copier) bits facts in
@@ -175,7 +175,7 @@ module _ {K V : Type 0} (same : K → K → Bool) (hash : K → ℕ) (caller : �
   copier_leads false blocking copier none facts end s told moves idle alone = led_blocking false caller c2 refl end (subst (MovedIn copier end) blocking moves (idle, alone))
 
   -- each step of a reservation that is alone
-  pub reserve_leads : (stage : Reserving) → ReservingFacts same hash w caller setting c blocks stage → (IsRowOfReserve stage → ⊥) → (end : Reserve × Outcome (Node K V) Unit)
+  pub reserve_leads : (stage : Reserving) → ReservingFacts same hash w caller setting c blocks stage → (IsRowOfReserve stage → ⊥) → (end : Reserve × Yielding (Node K V) Unit)
       → ReserveMoves same hash caller setting w c m2 stage end w2 c2 blocks2 → IsLoneReserve (is_incremental setting.mode) caller c stage → LeadsReserve (is_incremental setting.mode) caller c2 end
   reserve_leads (at.Copies copier) facts none end (b, s, from, told, moves) lone =
       subst (LeadsReserve (is_incremental setting.mode) caller c2) (sym from.1)

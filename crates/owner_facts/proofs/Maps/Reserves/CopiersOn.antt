@@ -5,8 +5,8 @@ use Rattle.many_maps.specs.Given.SeizeWordsMem.{Mem, value_at, Took}
 use Rattle.many_maps.specs.Given.SeizeWordsOp.{Out, Found, Stored, Exchanged, Made, Taken, Roomed}
 use Rattle.many_maps.specs.Given.SeizeWordsPlan.{Then, Steps}
 use Rattle.many_maps.specs.Given.SeizeWordsDeclared.fault.Fault.{Fault}
-use Rattle.many_maps.specs.Given.SeizeDeclared.progress.Progress.{Progress}
-use Rattle.many_maps.specs.Given.SeizeDeclared.progress.Progress.TheVariants as progress
+use Rattle.many_maps.specs.Given.SeizeDeclared.advance.Advance.{Advance}
+use Rattle.many_maps.specs.Given.SeizeDeclared.advance.Advance.TheVariants as progress
 use Rattle.many_maps.specs.Given.TablesChunks.{is_incremental}
 use Rattle.many_maps.specs.Given.ResizeNewTable.{new_table_plan}
 use Rattle.many_maps.specs.Given.TablesProbes.{probe_after}
@@ -18,8 +18,8 @@ use Rattle.many_maps.specs.Given.ResizeCopierClaims.{root_read, next_read, statu
 use Rattle.many_maps.specs.Given.ResizeCopierCounts.{refusing, counted}
 use Rattle.many_maps.specs.Given.ResizeCopierFurther.{further_read, grown, replacement_read, remade}
 use Rattle.many_maps.specs.Given.TablesDeclared.node.Node.{Node}
-use Rattle.many_maps.specs.Given.ResizeDeclared.outcome.Outcome.{Outcome}
-use Rattle.many_maps.specs.Given.ResizeDeclared.outcome.Outcome.TheVariants as outcome
+use Rattle.many_maps.specs.Given.ResizeDeclared.yielding.Yielding.{Yielding}
+use Rattle.many_maps.specs.Given.ResizeDeclared.yielding.Yielding.TheVariants as outcome
 use Rattle.many_maps.specs.Given.TablesDeclared.probe.Probe.{Probe}
 use Rattle.many_maps.specs.Given.TablesDeclared.status.TheConstants.Status.{PROMOTED, ABORTED}
 use Rattle.many_maps.specs.Given.TablesDeclared.table.Table.{Table}
@@ -54,7 +54,7 @@ module _ (Fits : Table → Type 0) where
   GoesOn p = RetiresNone p.stands × Fits p.target
 
   -- if it ends with a table, that is so of this one, too
-  abbrev pub Gives : {T : Type 0} → Outcome T Table → Type 0
+  abbrev pub Gives : {T : Type 0} → Yielding T Table → Type 0
   Gives (outcome.Done table) = Fits table
   Gives _ = Unit {0}
 
@@ -81,13 +81,13 @@ module _ (Fits : Table → Type 0) where
   on_place_done p fits = on_next_place (record p { done = (p.done + 1) % 2 ^ 64 }) fits
 
   module _ {K : Type 0} (V : Type 0) (hash : K → ℕ) (p : Copier) (here : RetiresNone p.stands) (fits : Fits p.target) where
-    abbrev EndsOn : Copier × Outcome (Node K V) Table → Type 0
+    abbrev EndsOn : Copier × Yielding (Node K V) Table → Type 0
     EndsOn end = GoesOn end.0 × Gives end.1
 
-    abbrev On : Then (Node K V) (Copier × Outcome (Node K V) Table) → Type 0
+    abbrev On : Then (Node K V) (Copier × Yielding (Node K V) Table) → Type 0
     On rest = Always EndsOn rest
 
-    on_if : (b : Bool) (x y : Then (Node K V) (Copier × Outcome (Node K V) Table)) → On x → On y → On (if b then x else y)
+    on_if : (b : Bool) (x y : Then (Node K V) (Copier × Yielding (Node K V) Table)) → On x → On y → On (if b then x else y)
     on_if b x y f g = always_if EndsOn b x y f g
 
     -- what each operation's answer leads to
@@ -166,7 +166,7 @@ module _ (Fits : Table → Type 0) where
       on_further (Taken value) = ((here, fits), tt)
       on_further (Roomed r) = ((here, fits), tt)
 
-    on_grown : (word code : ℕ) (end : NewTable × Progress Table) → EndsOn (grown p word code end)
+    on_grown : (word code : ℕ) (end : NewTable × Advance Table) → EndsOn (grown p word code end)
     on_grown word code (making, progress.Goes) = ((tt, fits), tt)
     on_grown word code (making, progress.Waits) = ((tt, fits), tt)
     on_grown word code (making, progress.Done table) = ((tt, fits), tt)
@@ -198,7 +198,7 @@ module _ (Fits : Table → Type 0) where
       on_replacement (Taken value) = ((here, fits), tt)
       on_replacement (Roomed r) = ((here, fits), tt)
 
-      on_remade : (end : NewTable × Progress Table) → EndsOn (remade p end)
+      on_remade : (end : NewTable × Advance Table) → EndsOn (remade p end)
       on_remade (making, progress.Goes) = ((tt, fits), tt)
       on_remade (making, progress.Waits) = ((tt, fits), tt)
       on_remade (making, progress.Done table) = ((tt, any table), tt)
@@ -231,6 +231,6 @@ module _ (Fits : Table → Type 0) where
     on_at at.Over none any = ((here, fits), fits)
     on_at (at.Refused fault) none any = ((here, fits), tt)
 
-    pub copier_goes_on : (stands : Copying) → PromotesNone stands → (Turns stands → (table : Table) → Fits table) → (m m2 : Mem (Node K V)) (end : Copier × Outcome (Node K V) Table)
+    pub copier_goes_on : (stands : Copying) → PromotesNone stands → (Turns stands → (table : Table) → Fits table) → (m m2 : Mem (Node K V)) (end : Copier × Yielding (Node K V) Table)
         → Steps Took value_at m (plan_at hash p stands) m2 end → GoesOn end.0 × Gives end.1
     copier_goes_on stands none any m m2 end s = always_steps EndsOn m m2 (plan_at hash p stands) end (on_at stands none any) s

@@ -11,7 +11,7 @@ use Rattle.many_maps.specs.Given.ResizeNewTable.{new_table_plan}
 use Rattle.many_maps.specs.Given.ReservesReserve.{made, summed, grown, copied, plan_at, reserve_plan}
 use Rattle.many_maps.specs.Given.ResizeSum.{sum_plan}
 use Rattle.many_maps.specs.Given.TablesDeclared.node.Node.{Node}
-use Rattle.many_maps.specs.Given.ResizeDeclared.outcome.Outcome.{Outcome}
+use Rattle.many_maps.specs.Given.ResizeDeclared.yielding.Yielding.{Yielding}
 use Rattle.many_maps.specs.Given.TablesDeclared.setting.Setting.{Setting}
 use Rattle.many_maps.specs.Given.TablesDeclared.table_words.TheConstants.{NEXT}
 use Rattle.many_maps.specs.Given.ResizeDeclared.copier.Copier.{Copier}
@@ -66,6 +66,6 @@ module _ {K V : Type 0} (same : K → K → Bool) (hash : K → ℕ) (w : World 
       reserve_spares at.Over g row = tt
       reserve_spares (at.Refused fault) g row = tt
 
-    pub reserve_counts_none : May Can Took value_at w.memory (reserve_plan hash p) → (m2 : Mem (Node K V)) (end : Reserve × Outcome (Node K V) Unit)
+    pub reserve_counts_none : May Can Took value_at w.memory (reserve_plan hash p) → (m2 : Mem (Node K V)) (end : Reserve × Yielding (Node K V) Unit)
         → Steps Took value_at w.memory (reserve_plan hash p) m2 end → shards_sum m2 setting.counter (suc setting.mask) ≡ shards_sum w.memory setting.counter (suc setting.mask)
     reserve_counts_none may m2 end steps = shards_spared same hash w setting c blocks map (reserve_plan hash p) (λ shard. reserve_spares shard p.stands f.point none) may m2 end steps

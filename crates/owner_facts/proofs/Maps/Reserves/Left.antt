@@ -14,8 +14,8 @@ use Rattle.many_maps.specs.Given.ResizeCopier.{plan_at}
 use Rattle.many_maps.specs.Given.ResizeCopierStates.{standing}
 use Rattle.many_maps.specs.Given.ResizeCopierPromotes.{promoted, retiring_table}
 use Rattle.many_maps.specs.Given.TablesDeclared.node.Node.{Node}
-use Rattle.many_maps.specs.Given.ResizeDeclared.outcome.Outcome.{Outcome}
-use Rattle.many_maps.specs.Given.ResizeDeclared.outcome.Outcome.TheVariants as outcome
+use Rattle.many_maps.specs.Given.ResizeDeclared.yielding.Yielding.{Yielding}
+use Rattle.many_maps.specs.Given.ResizeDeclared.yielding.Yielding.TheVariants as outcome
 use Rattle.many_maps.specs.Given.TablesDeclared.setting.Setting.{Setting}
 use Rattle.many_maps.specs.Given.TablesDeclared.table.Table.{Table}
 use Rattle.many_maps.specs.Given.ResizeDeclared.copier.Copier.{Copier}
@@ -86,14 +86,14 @@ module _ {K : Type 0} (setting : Setting) (c : Chart K) (blocks : Blocks) (t : �
   retired_all p (at.Refused fault) none is = is
 
   -- where a step of it leads
-  abbrev pub CopiesTo : {V : Type 0} → Copier × Outcome (Node K V) Table → Type 0
+  abbrev pub CopiesTo : {V : Type 0} → Copier × Yielding (Node K V) Table → Type 0
   CopiesTo (q, outcome.Goes) = RetiresFrom setting c blocks q q.stands t × IsNear setting c q
   CopiesTo (q, outcome.Waits) = RetiresFrom setting c blocks q q.stands t × IsNear setting c q
   CopiesTo (q, outcome.Gave value) = Unit {0}
   CopiesTo (q, outcome.Done table) = (table.turn ≡ c.first) × (t ≡ c.first)
   CopiesTo (q, outcome.Refused fault) = t ≡ c.first
 
-  pub copies_plainly : {V : Type 0} (end : Copier × Outcome (Node K V) Table) → RetiresNone end.0.stands → t ≡ c.first → IsNear setting c end.0
+  pub copies_plainly : {V : Type 0} (end : Copier × Yielding (Node K V) Table) → RetiresNone end.0.stands → t ≡ c.first → IsNear setting c end.0
       → ((table : Table) → end.1 ≡ outcome.Done table → table.turn ≡ c.first) → CopiesTo end
   copies_plainly (q, outcome.Goes) none is near root = (all_retired q q.stands none is, near)
   copies_plainly (q, outcome.Waits) none is near root = (all_retired q q.stands none is, near)
@@ -103,7 +103,7 @@ module _ {K : Type 0} (setting : Setting) (c : Chart K) (blocks : Blocks) (t : �
 
 module _ {K V : Type 0} (same : K → K → Bool) (hash : K → ℕ) (setting : Setting) (w w2 : World (Node K V)) (c c2 : Chart K) (blocks blocks2 : Blocks)
     (map : IsMapIn same hash setting w c blocks) (map2 : IsMapIn same hash setting w2 c2 blocks2) (lasts : Lasts same (spot_of hash) (is_incremental setting.mode) c c2)
-    (since : SameBlocks c blocks blocks2) (p : Copier) (setting_is : p.setting ≡ setting) (t : ℕ) (end : Copier × Outcome (Node K V) Table) where
+    (since : SameBlocks c blocks blocks2) (p : Copier) (setting_is : p.setting ≡ setting) (t : ℕ) (end : Copier × Yielding (Node K V) Table) where
   pub first_kept : w2.memory.roots ≡ w.memory.roots → c2.first ≡ c.first
   first_kept e = root_same same hash setting w w2 c c2 blocks blocks2 map map2 lasts since (ap (λ (r : _). slice_get r setting.root) e)
 
@@ -176,10 +176,10 @@ module _ {K V : Type 0} (same : K → K → Bool) (hash : K → ℕ) (setting : 
           | inl d ↦ first_done d.0 d.1.0 d.1.1 d.2 d.3
           | inr d ↦ (let first = first_kept (ap (λ (x : Mem (Node K V)). x.roots) d.2) in
               copies_plainly setting c2 blocks2 t end
-              (subst (λ (x : Copier × Outcome (Node K V) Table). RetiresNone x.0.stands) (sym d.3) (on_behind (λ (x : Table). x ≡ p.target) p refl).0)
+              (subst (λ (x : Copier × Yielding (Node K V) Table). RetiresNone x.0.stands) (sym d.3) (on_behind (λ (x : Table). x ≡ p.target) p refl).0)
               (from_here ∙ sym first)
-              (near_kept first end.0 (λ bits. subst (λ (x : Copier × Outcome (Node K V) Table). x.0.target ≡ p.target) (sym d.3) (on_behind (λ (x : Table). x ≡ p.target) p refl).1) near)
-              (λ table done. absurd (let goes = ap (λ (x : Copier × Outcome (Node K V) Table). x.1) d.3 in cc (goes, done))))
+              (near_kept first end.0 (λ bits. subst (λ (x : Copier × Yielding (Node K V) Table). x.0.target ≡ p.target) (sym d.3) (on_behind (λ (x : Table). x ≡ p.target) p refl).1) near)
+              (λ table done. absurd (let goes = ap (λ (x : Copier × Yielding (Node K V) Table). x.1) d.3 in cc (goes, done))))
         ]
       where
         from_here : t ≡ c.first

@@ -11,8 +11,8 @@ use Rattle.many_maps.specs.Given.ResizeCopierPromotes.{to, successor_read, also_
 use Rattle.many_maps.specs.Given.ResizeCopierStates.{standing}
 use Rattle.many_maps.specs.Given.TablesTablePlaces.{at_word}
 use Rattle.many_maps.specs.Given.TablesDeclared.node.Node.{Node}
-use Rattle.many_maps.specs.Given.ResizeDeclared.outcome.Outcome.{Outcome}
-use Rattle.many_maps.specs.Given.ResizeDeclared.outcome.Outcome.TheVariants as outcome
+use Rattle.many_maps.specs.Given.ResizeDeclared.yielding.Yielding.{Yielding}
+use Rattle.many_maps.specs.Given.ResizeDeclared.yielding.Yielding.TheVariants as outcome
 use Rattle.many_maps.specs.Given.TablesDeclared.setting.Setting.{Setting}
 use Rattle.many_maps.specs.Given.TablesDeclared.status.TheConstants.Status.{PROMOTED}
 use Rattle.many_maps.specs.Given.TablesDeclared.table.Table.{Table}
@@ -40,7 +40,7 @@ KnowsTables setting c blocks p stands = MakesBehind stands × (is_incremental se
 
 module _ {K V : Type 0} (same : K → K → Bool) (hash : K → ℕ) (setting : Setting) (w w2 : World (Node K V)) (c c2 : Chart K) (blocks blocks2 : Blocks)
     (map : IsMapIn same hash setting w c blocks) (map2 : IsMapIn same hash setting w2 c2 blocks2) (lasts : Lasts same (spot_of hash) (is_incremental setting.mode) c c2)
-    (since : SameBlocks c blocks blocks2) (p : Copier) (setting_is : p.setting ≡ setting) (t : ℕ) (end : Copier × Outcome (Node K V) Table)
+    (since : SameBlocks c blocks blocks2) (p : Copier) (setting_is : p.setting ≡ setting) (t : ℕ) (end : Copier × Yielding (Node K V) Table)
     (known : t < c.past → blocks.table_known t ≡ true) (from : RetiresFrom setting c blocks p p.stands t) (near : IsNear setting c p) where
   -- where it ends with a table, that is the root, in blocking mode, or was, in incremental mode
   abbrev pub EndsWith : Type 0
@@ -70,7 +70,7 @@ module _ {K V : Type 0} (same : K → K → Bool) (hash : K → ℕ) (setting : 
           → table.turn ≡ c2.first
       root true bits table done low high =
           let k = kept bits in
-          let same_table : table ≡ p.target = subst (λ (o : Outcome (Node K V) Table). Gives (λ (x : Table). x ≡ p.target) o) done k.1 in
+          let same_table : table ≡ p.target = subst (λ (o : Yielding (Node K V) Table). Gives (λ (x : Table). x ≡ p.target) o) done k.1 in
           let e = ap (λ (x : Table). x.turn) (same_table ∙ sym k.0.1) in
           omega (arith, low, high, e)
       root false bits table done is high = is

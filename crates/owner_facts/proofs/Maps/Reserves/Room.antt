@@ -7,16 +7,16 @@ use Rattle.many_maps.specs.Given.SeizeWordsOp.{Out, Found, Stored, Exchanged, Ma
 use Rattle.many_maps.specs.Given.SeizeWordsPlan.{Steps}
 use Rattle.many_maps.proofs.Given.SeizeRuleRows.Leaving.{steps_back}
 use Rattle.many_maps.specs.Given.SeizeWorld.{World}
-use Rattle.many_maps.specs.Given.SeizeDeclared.progress.Progress.{Progress}
-use Rattle.many_maps.specs.Given.SeizeDeclared.progress.Progress.TheVariants as progress
+use Rattle.many_maps.specs.Given.SeizeDeclared.advance.Advance.{Advance}
+use Rattle.many_maps.specs.Given.SeizeDeclared.advance.Advance.TheVariants as progress
 use Rattle.many_maps.specs.Given.ResizeCopier.{copier_plan}
 use Rattle.many_maps.specs.Given.TablesCounts.{count_in}
 use Rattle.many_maps.specs.Given.ResizeNewTable.{new_table_plan}
 use Rattle.many_maps.specs.Given.ReservesReserve.{standing, needed, refusing, summed, made, grown, copied, root_read, next_read, plan_at, reserve_plan}
 use Rattle.many_maps.specs.Given.ResizeSum.{sum_plan}
 use Rattle.many_maps.specs.Given.TablesDeclared.node.Node.{Node}
-use Rattle.many_maps.specs.Given.ResizeDeclared.outcome.Outcome.{Outcome}
-use Rattle.many_maps.specs.Given.ResizeDeclared.outcome.Outcome.TheVariants as outcome
+use Rattle.many_maps.specs.Given.ResizeDeclared.yielding.Yielding.{Yielding}
+use Rattle.many_maps.specs.Given.ResizeDeclared.yielding.Yielding.TheVariants as outcome
 use Rattle.many_maps.specs.Given.TablesDeclared.setting.Setting.{Setting}
 use Rattle.many_maps.specs.Given.TablesDeclared.table.Table.{Table}
 use Rattle.many_maps.specs.Given.ResizeDeclared.copier.Copier.{Copier}
@@ -43,28 +43,28 @@ abbrev BeginsAt : Reserving → Type 0
 BeginsAt (at.Sums table sum) = sum.stands ≡ sums.Adds 0 0
 BeginsAt _ = Unit {0}
 
-abbrev NotDone : {T : Type 0} → Outcome T Unit → Type 0
+abbrev NotDone : {T : Type 0} → Yielding T Unit → Type 0
 NotDone (outcome.Done end) = ⊥
 NotDone _ = Unit {0}
 
 -- where a step leads that is none of a counting
-abbrev Begins : {T : Type 0} → Reserve × Outcome T Unit → Type 0
+abbrev Begins : {T : Type 0} → Reserve × Yielding T Unit → Type 0
 Begins end = BeginsAt end.0.stands × NotDone end.1
 
 module _ (K V : Type 0) (p : Reserve) where
-  begins_made : (end : NewTable × Progress Table) → Begins (made {K = K} {V = V} p end)
+  begins_made : (end : NewTable × Advance Table) → Begins (made {K = K} {V = V} p end)
   begins_made (n, progress.Goes) = (tt, tt)
   begins_made (n, progress.Waits) = (tt, tt)
   begins_made (n, progress.Done table) = (refl, tt)
   begins_made (n, progress.Refused fault) = (tt, tt)
 
-  begins_grown : (table : Table) (end : NewTable × Progress Table) → Begins (grown {K = K} {V = V} p table end)
+  begins_grown : (table : Table) (end : NewTable × Advance Table) → Begins (grown {K = K} {V = V} p table end)
   begins_grown table (n, progress.Goes) = (tt, tt)
   begins_grown table (n, progress.Waits) = (tt, tt)
   begins_grown table (n, progress.Done next) = (tt, tt)
   begins_grown table (n, progress.Refused fault) = (tt, tt)
 
-  begins_copied : (end : Copier × Outcome (Node K V) Table) → Begins (copied p end)
+  begins_copied : (end : Copier × Yielding (Node K V) Table) → Begins (copied p end)
   begins_copied (copier, outcome.Goes) = (tt, tt)
   begins_copied (copier, outcome.Waits) = (tt, tt)
   begins_copied (copier, outcome.Gave value) = (tt, tt)
@@ -89,7 +89,7 @@ module _ (K V : Type 0) (p : Reserve) where
     on_next table need (Roomed r) = (self, tt)
 
 module _ {K V : Type 0} (same : K → K → Bool) (hash : K → ℕ) (setting : Setting) (w : World (Node K V)) (c : Chart K) (blocks : Blocks) (map : IsMapIn same hash setting w c blocks)
-    (t : ℕ) (p : Reserve) (f : ReserveFacts same hash w 0 setting c blocks p) (m2 : Mem (Node K V)) (end : Reserve × Outcome (Node K V) Unit) where
+    (t : ℕ) (p : Reserve) (f : ReserveFacts same hash w 0 setting c blocks p) (m2 : Mem (Node K V)) (end : Reserve × Yielding (Node K V) Unit) where
   abbrev said : Mem (Node K V) → ℕ
   said m = count_in (shards_sum m setting.counter (suc setting.mask) % 2 ^ 64)
 
@@ -97,7 +97,7 @@ module _ {K V : Type 0} (same : K → K → Bool) (hash : K → ℕ) (setting : 
   abbrev pub HasPlaces : ℕ → Type 0
   HasPlaces additional = (count : ℕ) × (needed additional count ≤ c.len c.first) × (count ≡ said m2) × (t ≡ c.first) × (c.first < c.past)
 
-  abbrev pub SumsTo : Reserve × Outcome (Node K V) Unit → Type 0
+  abbrev pub SumsTo : Reserve × Yielding (Node K V) Unit → Type 0
   SumsTo (q, outcome.Done over) = HasPlaces q.additional
   SumsTo (q, outcome.Goes) = SumsUp setting m2 q.stands
   SumsTo (q, outcome.Waits) = SumsUp setting m2 q.stands
@@ -118,7 +118,7 @@ module _ {K V : Type 0} (same : K → K → Bool) (hash : K → ℕ) (setting : 
   begun at.Over b = tt
   begun (at.Refused fault) b = tt
 
-  begins_sums : (e : Reserve × Outcome (Node K V) Unit) → Begins e → SumsTo e
+  begins_sums : (e : Reserve × Yielding (Node K V) Unit) → Begins e → SumsTo e
   begins_sums (q, outcome.Done over) b = absurd b.1
   begins_sums (q, outcome.Goes) b = begun q.stands b.0
   begins_sums (q, outcome.Waits) b = begun q.stands b.0
@@ -137,7 +137,7 @@ module _ {K V : Type 0} (same : K → K → Bool) (hash : K → ℕ) (setting : 
         let is : point.0.0 ≡ c.first = sym (ap (λ (x : Table). x.turn) entered.is) ∙ turn in
         (ap (λ (x : Table). x.len) entered.is ∙ ap c.len is, subst (λ (u : ℕ). u < c.past) is entered.made)
 
-    summed_on : m2 ≡ w.memory → (b : Sum × Progress ℕ) → SumTold setting b → Ahead setting w.memory sum point.1.0 sum.stands b → SumsTo (summed p table b)
+    summed_on : m2 ≡ w.memory → (b : Sum × Advance ℕ) → SumTold setting b → Ahead setting w.memory sum point.1.0 sum.stands b → SumsTo (summed p table b)
     summed_on is (next, progress.Goes) told ahead = subst (λ (m : Mem (Node K V)). count_ahead setting m next.stands ≡ said m) (sym is) (ahead ∙ had)
     summed_on is (next, progress.Waits) told ahead = absurd told
     summed_on is (next, progress.Refused fault) told ahead = absurd told

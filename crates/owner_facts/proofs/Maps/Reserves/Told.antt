@@ -9,8 +9,8 @@ use Rattle.many_maps.specs.Given.SeizeWordsPlan.{Steps}
 use Rattle.many_maps.proofs.Given.SeizeWordsOneOwner.Operations.{loaded, exchanged}
 use Rattle.many_maps.proofs.Given.SeizeRuleRows.Leaving.{steps_back}
 use Rattle.many_maps.specs.Given.SeizeWorld.{World}
-use Rattle.many_maps.specs.Given.SeizeDeclared.progress.Progress.{Progress}
-use Rattle.many_maps.specs.Given.SeizeDeclared.progress.Progress.TheVariants as progress
+use Rattle.many_maps.specs.Given.SeizeDeclared.advance.Advance.{Advance}
+use Rattle.many_maps.specs.Given.SeizeDeclared.advance.Advance.TheVariants as progress
 use Rattle.many_maps.specs.Given.TablesChunks.{is_incremental}
 use Rattle.many_maps.specs.Given.ResizeCopier.{copier_plan}
 use Rattle.many_maps.specs.Given.ResizeCopierStates.{copying_all, resting}
@@ -21,8 +21,8 @@ use Rattle.many_maps.specs.Given.TablesTablePlaces.{at_word}
 use Rattle.many_maps.specs.Given.ResizeDeclared.new_table.Making.{Making}
 use Rattle.many_maps.specs.Given.ResizeDeclared.new_table.Making.TheVariants as makes
 use Rattle.many_maps.specs.Given.TablesDeclared.node.Node.{Node}
-use Rattle.many_maps.specs.Given.ResizeDeclared.outcome.Outcome.{Outcome}
-use Rattle.many_maps.specs.Given.ResizeDeclared.outcome.Outcome.TheVariants as outcome
+use Rattle.many_maps.specs.Given.ResizeDeclared.yielding.Yielding.{Yielding}
+use Rattle.many_maps.specs.Given.ResizeDeclared.yielding.Yielding.TheVariants as outcome
 use Rattle.many_maps.specs.Given.TablesDeclared.setting.Setting.{Setting}
 use Rattle.many_maps.specs.Given.TablesDeclared.table.Table.{Table}
 use Rattle.many_maps.specs.Given.TablesDeclared.table_words.TheConstants.{NEXT}
@@ -57,7 +57,7 @@ module _ {K V : Type 0} (same : K → K → Bool) (hash : K → ℕ) (caller : �
     (map : IsMapIn same hash setting w c blocks) (map2 : IsMapIn same hash setting w2 c2 blocks2) (lasts : Lasts same (spot_of hash) (is_incremental setting.mode) c c2)
     (since : SameBlocks c blocks blocks2) (moved : Moved same hash setting.mode caller c c2) (p : Reserve) (setting_is : p.setting ≡ setting) (t : ℕ) where
   -- where a step of it leads
-  abbrev pub ReservesOnTo : Reserve × Outcome (Node K V) Unit → Type 0
+  abbrev pub ReservesOnTo : Reserve × Yielding (Node K V) Unit → Type 0
   ReservesOnTo (q, outcome.Goes) = ReservingAlone setting c2 blocks2 q.additional q.stands t
   ReservesOnTo (q, outcome.Waits) = ReservingAlone setting c2 blocks2 q.additional q.stands t
   ReservesOnTo (q, outcome.Gave value) = Unit {0}
@@ -101,7 +101,7 @@ module _ {K V : Type 0} (same : K → K → Bool) (hash : K → ℕ) (caller : �
       by false near = (is, near)
 
   -- the root is read
-  pub reads_on : t ≡ c.first → (m2 : Mem (Node K V)) (end : Reserve × Outcome (Node K V) Unit) → m2 ≡ w2.memory → Steps Took value_at w.memory (plan_at hash p at.Reads) m2 end → ReservesOnTo end
+  pub reads_on : t ≡ c.first → (m2 : Mem (Node K V)) (end : Reserve × Yielding (Node K V) Unit) → m2 ≡ w2.memory → Steps Took value_at w.memory (plan_at hash p at.Reads) m2 end → ReservesOnTo end
   reads_on from m2 end is s =
       let d = loaded w.memory (root_read p) (Root p.setting.root) m2 end s in
       let same_memory : w2.memory ≡ w.memory = sym is ∙ d.2 in
@@ -128,7 +128,7 @@ module _ {K V : Type 0} (same : K → K → Bool) (hash : K → ℕ) (caller : �
         let zero_first = map.map.rule.common.rootless none in
         omega (arith, least, none, zero_first)
 
-    unlinked_at : (stands : Making) (m2 : Mem (Node K V)) (end : NewTable × Progress Table) → Steps Took value_at w.memory (new.plan_at making stands) m2 end
+    unlinked_at : (stands : Making) (m2 : Mem (Node K V)) (end : NewTable × Advance Table) → Steps Took value_at w.memory (new.plan_at making stands) m2 end
         → ((table : Table) → end.1 ≢ progress.Done table) → m2.roots ≡ w.memory.roots
     unlinked_at (makes.Sums before reason sum) m2 end s other =
         plan_roots w.memory m2 end (new.plan_at making (makes.Sums before reason sum)) (no_root_as (new.counted making before reason) (sum_plan sum) (sum_no_root K V sum)) s
@@ -136,7 +136,7 @@ module _ {K V : Type 0} (same : K → K → Bool) (hash : K → ℕ) (caller : �
     unlinked_at (makes.Promotes table) m2 end s other = plan_roots w.memory m2 end (new.plan_at making (makes.Promotes table)) tt s
     unlinked_at (makes.Links table) m2 end s other =
         elim (exchanged w.memory (new.linked making table) making.link 0 table.link m2 end s) as (λ _. m2.roots ≡ w.memory.roots) [
-          | inl d ↦ absurd (other table (ap (λ (x : NewTable × Progress Table). x.1) d.3))
+          | inl d ↦ absurd (other table (ap (λ (x : NewTable × Advance Table). x.1) d.3))
           | inr d ↦ ap (λ (x : Mem (Node K V)). x.roots) d.2
         ]
     unlinked_at (makes.Drops table found) m2 end s other = plan_roots w.memory m2 end (new.plan_at making (makes.Drops table found)) tt s
@@ -148,7 +148,7 @@ module _ {K V : Type 0} (same : K → K → Bool) (hash : K → ℕ) (caller : �
         none_then same hash setting w w2 c c2 blocks blocks2 map map2 lasts since
         (ap (λ (r : List ℕ). slice_get r setting.root) e ∙ map.map.shows.root_there ∙ ap (λ (b : Bool). Some (cond b 0 (blocks.table c.first * 2048))) (eq-eqb c.past 0 none))
 
-    made_on : (b : NewTable × Progress Table) → (((table : Table) → b.1 ≢ progress.Done table) → w2.memory.roots ≡ w.memory.roots)
+    made_on : (b : NewTable × Advance Table) → (((table : Table) → b.1 ≢ progress.Done table) → w2.memory.roots ≡ w.memory.roots)
         → ReserveAfter w2 caller setting c2 blocks2 same hash (made p b) → ReservesOnTo (made p b)
     made_on (next, progress.Goes) kept told = (none_linked (kept (λ table e. absurd (cc e))), from ∙ sym first_none)
     made_on (next, progress.Waits) kept told = (none_linked (kept (λ table e. absurd (cc e))), from ∙ sym first_none)
@@ -164,7 +164,7 @@ module _ {K V : Type 0} (same : K → K → Bool) (hash : K → ℕ) (caller : �
 
   -- the root is counted
   module _ (table : Table) (turn : table.turn ≡ c.first) (from : t ≡ c.first) where
-    summed_on : c2.first ≡ c.first → (b : Sum × Progress ℕ) → ReservesOnTo (summed {T = Node K V} p table b)
+    summed_on : c2.first ≡ c.first → (b : Sum × Advance ℕ) → ReservesOnTo (summed {T = Node K V} p table b)
     summed_on first (sum, progress.Goes) = (turn ∙ sym first, from ∙ sym first)
     summed_on first (sum, progress.Waits) = (turn ∙ sym first, from ∙ sym first)
     summed_on first (sum, progress.Done count) = by (nat_lt (2 ^ 48) (needed p.additional count)) (nat_lt table.len (needed p.additional count))
@@ -177,13 +177,13 @@ module _ {K V : Type 0} (same : K → K → Bool) (hash : K → ℕ) (caller : �
     summed_on first (sum, progress.Refused fault) = from ∙ sym first
 
     -- and the table behind it is looked for, or made
-    grown_on : c2.first ≡ c.first → (b : NewTable × Progress Table) → ReserveAfter w2 caller setting c2 blocks2 same hash (grown p table b) → ReservesOnTo (grown p table b)
+    grown_on : c2.first ≡ c.first → (b : NewTable × Advance Table) → ReserveAfter w2 caller setting c2 blocks2 same hash (grown p table b) → ReservesOnTo (grown p table b)
     grown_on first (making, progress.Goes) told = (turn ∙ sym first, from ∙ sym first)
     grown_on first (making, progress.Waits) told = (turn ∙ sym first, from ∙ sym first)
     grown_on first (making, progress.Done next) told = copies_begin table next (from ∙ sym first) (turn ∙ sym first) told
     grown_on first (making, progress.Refused fault) told = from ∙ sym first
 
-    pub follows_on : (need u : ℕ) → IsTable c blocks table u → (m2 : Mem (Node K V)) (end : Reserve × Outcome (Node K V) Unit) → m2 ≡ w2.memory
+    pub follows_on : (need u : ℕ) → IsTable c blocks table u → (m2 : Mem (Node K V)) (end : Reserve × Yielding (Node K V) Unit) → m2 ≡ w2.memory
         → Steps Took value_at w.memory (plan_at hash p (at.Follows table need)) m2 end → ReserveAfter w2 caller setting c2 blocks2 same hash end → ReservesOnTo end
     follows_on need u entered m2 end is s told =
         let d = loaded w.memory (next_read p table need) (at_word table NEXT) m2 end s in
@@ -195,7 +195,7 @@ module _ {K V : Type 0} (same : K → K → Bool) (hash : K → ℕ) (caller : �
         (λ next behind told2. copies_begin table next (from ∙ sym first) (turn ∙ sym first) told2) end d.3 told
 
   -- the root is copied
-  pub copied_ends : (e : Copier × Outcome (Node K V) Table) → ReserveAfter w2 caller setting c2 blocks2 same hash (copied p e)
+  pub copied_ends : (e : Copier × Yielding (Node K V) Table) → ReserveAfter w2 caller setting c2 blocks2 same hash (copied p e)
       → (table : Table) → e.1 ≡ outcome.Done table → cond (is_incremental setting.mode) (table.turn ≤ c2.first) (table.turn ≡ c2.first)
   copied_ends (q, outcome.Goes) told table is = absurd (cc is)
   copied_ends (q, outcome.Waits) told table is = absurd (cc is)
@@ -207,19 +207,19 @@ module _ {K V : Type 0} (same : K → K → Bool) (hash : K → ℕ) (caller : �
       same_table = cc is
   copied_ends (q, outcome.Refused fault) told table is = absurd (cc is)
 
-  copied_on : (e : Copier × Outcome (Node K V) Table) → CopiesTo setting c2 blocks2 t e → ReservesOnTo (copied p e)
+  copied_on : (e : Copier × Yielding (Node K V) Table) → CopiesTo setting c2 blocks2 t e → ReservesOnTo (copied p e)
   copied_on (q, outcome.Goes) h = h
   copied_on (q, outcome.Waits) h = h
   copied_on (q, outcome.Gave value) h = tt
   copied_on (q, outcome.Done root) h = h
   copied_on (q, outcome.Refused fault) h = h
 
-  module _ (m2 : Mem (Node K V)) (is : m2 ≡ w2.memory) (end : Reserve × Outcome (Node K V) Unit) (told : ReserveAfter w2 caller setting c2 blocks2 same hash end)
+  module _ (m2 : Mem (Node K V)) (is : m2 ≡ w2.memory) (end : Reserve × Yielding (Node K V) Unit) (told : ReserveAfter w2 caller setting c2 blocks2 same hash end)
       (known : t < c.past → blocks.table_known t ≡ true) where
-    told_as : {A : Type 0} (f : A → Reserve × Outcome (Node K V) Unit) (a : A) → end ≡ f a → ReserveAfter w2 caller setting c2 blocks2 same hash (f a)
-    told_as f a e = subst (λ (x : Reserve × Outcome (Node K V) Unit). ReserveAfter w2 caller setting c2 blocks2 same hash x) e told
+    told_as : {A : Type 0} (f : A → Reserve × Yielding (Node K V) Unit) (a : A) → end ≡ f a → ReserveAfter w2 caller setting c2 blocks2 same hash (f a)
+    told_as f a e = subst (λ (x : Reserve × Yielding (Node K V) Unit). ReserveAfter w2 caller setting c2 blocks2 same hash x) e told
 
-    on_as : {A : Type 0} (f : A → Reserve × Outcome (Node K V) Unit) (a : A) → end ≡ f a → ReservesOnTo (f a) → ReservesOnTo end
+    on_as : {A : Type 0} (f : A → Reserve × Yielding (Node K V) Unit) (a : A) → end ≡ f a → ReservesOnTo (f a) → ReservesOnTo end
     on_as f a e h = subst ReservesOnTo (sym e) h
 
     -- each of its own steps

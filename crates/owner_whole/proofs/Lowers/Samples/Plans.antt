@@ -7,7 +7,7 @@ use Rattle.seize_words.specs.declared.at.At.TheVariants.{Root}
 use Rattle.seize_words.specs.OneMemory.Plan.{Plan, Do, Now, Steps}
 use Rattle.seize_words.proofs.OneMemory.OneOwner.Operations.{loaded, stored}
 use Rattle.seize.specs.World.{World, Row, Rests, Vacant, NoBlock}
-use Rattle.seize.specs.declared.progress.Progress.{Progress as Stepped}
+use Rattle.seize.specs.declared.advance.Advance.{Advance as Stepped}
 use Rattle.map_tables.specs.Trials.{first_trial, place_tried}
 use Rattle.map_tables.specs.declared.node.Node.{Node}
 use Rattle.map_tables.specs.declared.resize_mode.ResizeMode.TheVariants.{Incremental}

@@ -7,8 +7,8 @@ use Rattle.seize_words.specs.OneMemory.Plan.{Then, Do, Turn, Now, May, MaySee, S
 use Rattle.seize_words.specs.declared.at.At.{At}
 use Rattle.seize_words.specs.declared.fault.Fault.{Fault}
 use Rattle.seize_words.specs.declared.lent.Lent.{Lent}
-use Rattle.seize.specs.declared.progress.Progress.{Progress}
-use Rattle.seize.specs.declared.progress.Progress.TheVariants as progress
+use Rattle.seize.specs.declared.advance.Advance.{Advance}
+use Rattle.seize.specs.declared.advance.Advance.TheVariants as progress
 use Rattle.map_tables.specs.declared.node.Node.{Node}
 use Rattle.map_tables.specs.declared.resize_mode.ResizeMode.{ResizeMode}
 use Rattle.map_tables.specs.declared.setting.Setting.{Setting}
@@ -66,13 +66,13 @@ module _ {K V : Type 0} (same : K → K → Bool) (hash : K → ℕ) (keys : K �
   abbrev LooksHere : Lookup → Type 0
   LooksHere l = LooksIn same hash keys m c blocks begun l
 
-  abbrev TellsHere : Lookup × Progress (Option ℕ) → Type 0
+  abbrev TellsHere : Lookup × Advance (Option ℕ) → Type 0
   TellsHere = LookupTold same hash begun.mode begun.root keys begun.hash c blocks
 
   pub looks_may : (l : Lookup) → LooksHere l → May Can Took value_at m (lookup_plan keys l)
   looks_may l h = (lookups_tell V same hash h.lawful begun.mode begun.root keys begun.hash m c blocks l h.class h.map h.facts).0
 
-  pub looks_tell : (l : Lookup) → LooksHere l → (m2 : Mem (Node K V)) (end : Lookup × Progress (Option ℕ)) → Steps Took value_at m (lookup_plan keys l) m2 end → (m2 ≡ m) × TellsHere end
+  pub looks_tell : (l : Lookup) → LooksHere l → (m2 : Mem (Node K V)) (end : Lookup × Advance (Option ℕ)) → Steps Took value_at m (lookup_plan keys l) m2 end → (m2 ≡ m) × TellsHere end
   looks_tell l h m2 end s = (lookups_tell V same hash h.lawful begun.mode begun.root keys begun.hash m c blocks l h.class h.map h.facts).1 m2 end s
 
   on_here : (l : Lookup) → LooksHere l → (l2 : Lookup) → TellsHere (l2, progress.Goes) → LooksHere l2
@@ -87,7 +87,7 @@ module _ {K V : Type 0} (same : K → K → Bool) (hash : K → ℕ) (keys : K �
   stands_here code (at.Nexts table) f = (f.1, f.2)
   stands_here code (at.Over found) f = absurd f
 
-  pub below_here : (l : Lookup) → LooksHere l → (end : Lookup × Progress (Option ℕ)) → Steps Took value_at m (lookup_plan keys l) m end → end.1 ≡ progress.Goes → IsBelow (number_of_lookup c end.0) (number_of_lookup c l)
+  pub below_here : (l : Lookup) → LooksHere l → (end : Lookup × Advance (Option ℕ)) → Steps Took value_at m (lookup_plan keys l) m end → end.1 ≡ progress.Goes → IsBelow (number_of_lookup c end.0) (number_of_lookup c l)
   below_here l h end s =
       (looked_on same hash (setting_of begun.mode begun.root) m c blocks m c blocks (onward l h) l keys
       (subst (λ (code : ℕ). LookingStands (setting_of begun.mode begun.root) m c blocks code l.stands) (sym h.facts.hash_is) (stands_here begun.hash l.stands h.facts.point)) end s).1
@@ -101,7 +101,7 @@ module _ {K V : Type 0} (same : K → K → Bool) (hash : K → ℕ) (keys : K �
       two (at.Nexts table) = refl
       two (at.Over found) = refl
 
-  goes_here : (l l2 : Lookup) → LooksHere l → (told : Progress (Option ℕ)) → GoesOn told → (m2 : Mem (Node K V)) → m2 ≡ m → TellsHere (l2, told)
+  goes_here : (l l2 : Lookup) → LooksHere l → (told : Advance (Option ℕ)) → GoesOn told → (m2 : Mem (Node K V)) → m2 ≡ m → TellsHere (l2, told)
       → Steps Took value_at m (lookup_plan keys l) m2 (l2, told) → LooksHere l2 × IsBelow (number_of_lookup c l2) (number_of_lookup c l)
   goes_here l l2 h progress.Goes on m2 is tells s =
       (on_here l h l2 tells, below_here l h (l2, progress.Goes) (subst (λ (x : Mem (Node K V)). Steps Took value_at m (lookup_plan keys l) x (l2, progress.Goes)) is s) refl)
@@ -122,11 +122,11 @@ module _ {K V : Type 0} (same : K → K → Bool) (hash : K → ℕ) (keys : K �
   looks_end l h = from_here l h (number_of_lookup c l) refl (descents_end (number_of_lookup c l))
 
   -- it never waits, and is never refused
-  pub looks_on : (l l2 : Lookup) → LooksHere l → (told : Progress (Option ℕ)) → ((found : Option ℕ) → told ≢ progress.Done found)
+  pub looks_on : (l l2 : Lookup) → LooksHere l → (told : Advance (Option ℕ)) → ((found : Option ℕ) → told ≢ progress.Done found)
       → Steps Took value_at m (lookup_plan keys l) m (l2, told) → LooksHere l2 × GoesOn told
   looks_on l l2 h told more s = by_told told more (looks_tell l h m (l2, told) s).1
     where
-      by_told : (told : Progress (Option ℕ)) → ((found : Option ℕ) → told ≢ progress.Done found) → TellsHere (l2, told) → LooksHere l2 × GoesOn told
+      by_told : (told : Advance (Option ℕ)) → ((found : Option ℕ) → told ≢ progress.Done found) → TellsHere (l2, told) → LooksHere l2 × GoesOn told
       by_told progress.Goes more tells = (on_here l h l2 tells, tt)
       by_told progress.Waits more tells = absurd tells
       by_told (progress.Done found) more tells = absurd (more found refl)
@@ -160,7 +160,7 @@ module _ {K V : Type 0} (keys : K → Bool) (lent : Lent (Node K V)) (l : Lookup
   may_lent_at (at.Nexts table) may = lent_load lent (at_word table NEXT) (link_found l) may
   may_lent_at (at.Over found) may = may
 
-  pub steps_lent_at : (stands : Looking) (n : Lent (Node K V)) (end : Lookup × Progress (Option ℕ)) → Steps TookLent shown_lent lent (plan_at keys l stands) n end
+  pub steps_lent_at : (stands : Looking) (n : Lent (Node K V)) (end : Lookup × Advance (Option ℕ)) → Steps TookLent shown_lent lent (plan_at keys l stands) n end
       → (n ≡ lent) × Steps Took value_at lent.memory.now (plan_at keys l stands) lent.memory.now end
   steps_lent_at at.Roots n end s = load_lent lent (Root l.root) (link_found l) n end s
   steps_lent_at (at.Probes trial) n end s = load_lent lent (place_tried trial) (word_found keys l trial) n end s
@@ -172,18 +172,18 @@ module _ {K V : Type 0} (keys : K → Bool) (lent : Lent (Node K V)) (l : Lookup
     pub may_lent : May Can Took value_at m (lookup_plan keys l) → May CanLent TookLent shown_lent lent (lookup_plan keys l)
     may_lent may = may_lent_at l.stands (subst (λ (x : Mem (Node K V)). May Can Took value_at x (lookup_plan keys l)) (sym is) may)
 
-    pub steps_lent : (n : Lent (Node K V)) (end : Lookup × Progress (Option ℕ)) → Steps TookLent shown_lent lent (lookup_plan keys l) n end
+    pub steps_lent : (n : Lent (Node K V)) (end : Lookup × Advance (Option ℕ)) → Steps TookLent shown_lent lent (lookup_plan keys l) n end
         → (n.memory.now ≡ m) × Steps Took value_at m (lookup_plan keys l) m end
     steps_lent n end s =
         let k = steps_lent_at l.stands n end s in
         (ap (λ (x : Lent (Node K V)). x.memory.now) k.0 ∙ is, subst (λ (x : Mem (Node K V)). Steps Took value_at x (lookup_plan keys l) x end) is k.1)
 
 -- it has not ended
-abbrev goes_so : {A : Type 0} → Progress A → Type 0
+abbrev goes_so : {A : Type 0} → Advance A → Type 0
 goes_so (progress.Done a) = ⊥
 goes_so _ = Unit {0}
 
-pub not_done : {A : Type 0} (told : Progress A) → (told ≡ progress.Goes) ⊎ ((told ≡ progress.Waits) ⊎ ((fault : Fault) × (told ≡ progress.Refused fault))) → (a : A) → told ≢ progress.Done a
+pub not_done : {A : Type 0} (told : Advance A) → (told ≡ progress.Goes) ⊎ ((told ≡ progress.Waits) ⊎ ((fault : Fault) × (told ≡ progress.Refused fault))) → (a : A) → told ≢ progress.Done a
 not_done {A} told more a is = subst (goes_so {A = A}) is (by_more more)
   where
     by_more : (told ≡ progress.Goes) ⊎ ((told ≡ progress.Waits) ⊎ ((fault : Fault) × (told ≡ progress.Refused fault))) → goes_so told
@@ -194,7 +194,7 @@ not_done {A} told more a is = subst (goes_so {A = A}) is (by_more more)
 -- the least bound is lower after a step
 pub lower_asked : {K V Q : Type 0} (asks : Q → K → Bool) (n : ℕ) (m m0 : Mem (Node K V)) (l l0 : Lookup) (q q0 : Q) → m0 ≡ m → l0 ≡ l → q0 ≡ q → IsLeast (λ k. within (lookup_plan (asks q0)) k l0 m0) n
     → (k : ℕ) (m3 : Mem (Node K V)) (l2 l3 : Lookup) (q3 : Q) → m3 ≡ m → l3 ≡ l2 → q3 ≡ q → IsLeast (λ k. within (lookup_plan (asks q3)) k l3 m3) k
-    → (told : Progress (Option ℕ)) → GoesOn told → Steps Took value_at m (lookup_plan (asks q) l) m (l2, told) → k < n
+    → (told : Advance (Option ℕ)) → GoesOn told → Steps Took value_at m (lookup_plan (asks q) l) m (l2, told) → k < n
 lower_asked asks n m m0 l l0 q q0 em el eq least k m3 l2 l3 q3 em2 el2 eq2 least2 told on s =
     less (lookup_plan (asks q)) n l l0 m m0 el em (subst (λ x. IsLeast (λ j. within (lookup_plan (asks x)) j l0 m0) n) eq least)
     k l2 l3 m m3 el2 em2 (subst (λ x. IsLeast (λ j. within (lookup_plan (asks x)) j l3 m3) k) eq2 least2) told on s

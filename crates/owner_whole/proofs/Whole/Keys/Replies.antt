@@ -17,8 +17,8 @@ use Rattle.papaya_raw.specs.declared.machines.asking.Asking.{Asking}
 use Rattle.papaya_raw.specs.declared.machines.asking.Asking.TheVariants as asking
 use Rattle.papaya_raw.specs.declared.machines.asking.Gap.{Gap}
 use Rattle.papaya_raw.specs.declared.machines.asking.Gap.TheVariants as gaps
-use Rattle.papaya_raw.specs.declared.machines.asking.Reply.{Reply}
-use Rattle.papaya_raw.specs.declared.machines.asking.Reply.TheVariants as reply
+use Rattle.papaya_raw.specs.declared.machines.asking.MachineReply.{MachineReply}
+use Rattle.papaya_raw.specs.declared.machines.asking.MachineReply.TheVariants as reply
 use Rattle.papaya_raw.specs.declared.machines.asking.Takes.{Takes}
 use Rattle.papaya_raw.specs.declared.machines.asking.Takes.TheVariants as takes
 use Rattle.papaya_raw.specs.declared.machines.asking.Told.{Told}
@@ -76,7 +76,7 @@ module _ {K V Q : Type 0} (So : Calling → Type 0) (asks : (asks_at : Asking) �
       by true = tries word TOMBSTONE
       by false = asks (asking.GivesUp word)
 
-  absent_so : (kind : Takes) (c : KeyCall K V Q) (gap : Gap) (told : Reply V) → So c.stands → So (absent_told kind c gap told).0.stands
+  absent_so : (kind : Takes) (c : KeyCall K V Q) (gap : Gap) (told : MachineReply V) → So c.stands → So (absent_told kind c gap told).0.stands
   absent_so takes.Values c gap (reply.Insert value) h = gap_so gap (with_absent c value)
   absent_so takes.Changes c gap (reply.Insert value) h = gap_so gap (with_absent c value)
   absent_so takes.Changes c gap reply.Remove h = ending_so c (ends.Refused RemoveNothing) refl
@@ -90,7 +90,7 @@ module _ {K V Q : Type 0} (So : Calling → Type 0) (asks : (asks_at : Asking) �
   absent_so takes.Nothing c gap told h = h
   absent_so takes.Choices c gap told h = h
 
-  present_so : (kind : Takes) (c : KeyCall K V Q) (word : ℕ) (told : Reply V) → So c.stands → So (present_told kind c word told).0.stands
+  present_so : (kind : Takes) (c : KeyCall K V Q) (word : ℕ) (told : MachineReply V) → So c.stands → So (present_told kind c word told).0.stands
   present_so takes.Values c word (reply.Insert value) h = asks (asking.Fills word)
   present_so takes.Changes c word (reply.Insert value) h = asks (asking.Fills word)
   present_so takes.Changes c word reply.Remove h = burying_so (with_present c word tells.Removes) word
@@ -108,7 +108,7 @@ module _ {K V Q : Type 0} (So : Calling → Type 0) (asks : (asks_at : Asking) �
   present_so takes.Values c word reply.No h = h
   present_so takes.Nothing c word told h = h
 
-  pub replied_so : (p : KeyCall K V Q) (asks_at : Asking) → p.stands ≡ at.Asks asks_at → (told : Reply V) → So (replied p told).0.stands
+  pub replied_so : (p : KeyCall K V Q) (asks_at : Asking) → p.stands ≡ at.Asks asks_at → (told : MachineReply V) → So (replied p told).0.stands
   replied_so p asks_at here told = subst (λ (x : Calling). So (told_at x p told).0.stands) (sym here) (by asks_at)
     where
       stands : So p.stands
@@ -141,7 +141,7 @@ module _ {K V Q : Type 0} (same : K → K → Bool) (hash : K → ℕ) (asks : Q
   tables : TablesAlone (is_incremental setting.mode) c
   tables = subst (StandsAlone (is_incremental setting.mode) c) is a.lone.point
 
-  module _ (about : Option ℕ) (told : Reply V) (together2 : Together V same hash asks setting slot w c blocks sights (with_at a.calls 0 (Some (OnKey (told_about u about told))))) where
+  module _ (about : Option ℕ) (told : MachineReply V) (together2 : Together V same hash asks setting slot w c blocks sights (with_at a.calls 0 (Some (OnKey (told_about u about told))))) where
     abbrev after : CallOnKey K V Q
     after = told_about u about told
 

@@ -8,7 +8,7 @@ use Rattle.seize_words.specs.declared.at.At.TheVariants.{Word}
 use Rattle.seize_words.specs.declared.fault.Fault.{Fault}
 use Rattle.seize_words.specs.declared.fault.Fault.TheVariants.{Capacity, Memory}
 use Rattle.seize.specs.World.{World}
-use Rattle.seize.specs.declared.progress.Progress.TheVariants as progress
+use Rattle.seize.specs.declared.advance.Advance.TheVariants as progress
 use Rattle.map_tables.specs.Chunks.{is_incremental}
 use Rattle.map_tables.specs.Counts.{count_in}
 use Rattle.map_tables.specs.declared.node.Node.{Node}
@@ -19,7 +19,7 @@ use Rattle.map_measures.specs.Given.ResizeNewTable.{new_table_plan}
 use Rattle.map_measures.specs.Given.ResizeDeclared.copier.Copier.{Copier}
 use Rattle.map_measures.specs.Given.ResizeDeclared.copier.Copying.{Copying}
 use Rattle.map_measures.specs.Given.ResizeDeclared.copier.Copying.TheVariants as copies
-use Rattle.map_measures.specs.Given.ResizeDeclared.outcome.Outcome.{Outcome}
+use Rattle.map_measures.specs.Given.ResizeDeclared.yielding.Yielding.{Yielding}
 use Rattle.papaya_raw.specs.Given.ReservesReserve.{copied, grown, made, needed, plan_at, reserve_plan}
 use Rattle.papaya_raw.specs.Given.ReservesDeclared.reserve.Reserve.{Reserve}
 use Rattle.papaya_raw.specs.Given.ReservesDeclared.reserve.Reserving.{Reserving}
@@ -78,7 +78,7 @@ module _ {K V : Type 0} (same : K → K → Bool) (hash : K → ℕ) (setting : 
     (w w2 : World (Node K V)) (c c2 : Chart K) (blocks blocks2 : Blocks) (map : IsMapIn same hash setting w c blocks) (map2 : IsMapIn same hash setting w2 c2 blocks2)
     (lasts : Lasts same (spot_of hash) (is_incremental setting.mode) c c2) (blocks_same : SameBlocks c blocks blocks2) (p : Reserve) (facts : ReserveFacts same hash w 0 setting c blocks p)
     (may : May Can Took value_at w.memory (reserve_plan hash p)) (count : ℕ) (said : count_in (shards_sum w.memory setting.counter (suc setting.mask) % 2 ^ 64) ≡ count)
-    (sums : SumsUp setting w.memory p.stands) (end : Reserve × Outcome (Node K V) Unit) (s : Steps Took value_at w.memory (reserve_plan hash p) w2.memory end) where
+    (sums : SumsUp setting w.memory p.stands) (end : Reserve × Yielding (Node K V) Unit) (s : Steps Took value_at w.memory (reserve_plan hash p) w2.memory end) where
   abbrev FactsOf : Reserving → Type 0
   FactsOf stands = ReservingFacts same hash w 0 setting c blocks stands
 
@@ -141,7 +141,7 @@ row_bounds c p count m m2 (at.Copies copier) row = copying_room c p.additional c
 row_bounds c p count m m2 _ row = absurd row
 
 module _ {K V : Type 0} (hash : K → ℕ) (c : Chart K) (p : Reserve) (is_row : IsRowOfReserve p.stands) (count : ℕ) where
-  pub row_reserve_ends : (m m2 : Mem (Node K V)) (end : Reserve × Outcome (Node K V) Unit) → Steps Took value_at m (reserve_plan hash p) m2 end
+  pub row_reserve_ends : (m m2 : Mem (Node K V)) (end : Reserve × Yielding (Node K V) Unit) → Steps Took value_at m (reserve_plan hash p) m2 end
       → StandsInReserving (IsForRoom c p.additional count) (IsTheLast c) p.stands → ReservesAs (IsForRoom c p.additional count) (IsTheLast c) end
   row_reserve_ends m m2 end s so =
       reserve_as (IsForRoom c p.additional count) (IsTheLast c) (for_room c p.additional count Memory (memory_is_other c)) K V hash p so m m2 end (row_bounds c p count m m2 p.stands is_row) s

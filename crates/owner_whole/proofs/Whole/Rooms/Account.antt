@@ -20,8 +20,8 @@ use Rattle.map_measures.specs.Given.ResizeCopierStates as copiers
 use Rattle.map_measures.specs.Given.ResizeDeclared.copier.Copier.{Copier}
 use Rattle.map_measures.specs.Given.ResizeDeclared.copier.Copying.{Copying}
 use Rattle.map_measures.specs.Given.ResizeDeclared.copier.Copying.TheVariants as copies
-use Rattle.map_measures.specs.Given.ResizeDeclared.outcome.Outcome.{Outcome}
-use Rattle.map_measures.specs.Given.ResizeDeclared.outcome.Outcome.TheVariants as outcome
+use Rattle.map_measures.specs.Given.ResizeDeclared.yielding.Yielding.{Yielding}
+use Rattle.map_measures.specs.Given.ResizeDeclared.yielding.Yielding.TheVariants as outcome
 use Rattle.papaya_raw.specs.Given.ReservesReserve.{standing, copied, reserve_plan, plan_at}
 use Rattle.papaya_raw.specs.Given.ReservesDeclared.reserve.Reserve.{Reserve}
 use Rattle.papaya_raw.specs.Given.ReservesDeclared.reserve.Reserving.{Reserving}
@@ -42,7 +42,7 @@ use Rattle.owner_whole.proofs.Whole.Fresh.Rooms.{whole_blocking}
 use Rattle.owner_whole.proofs.Whole.Rows.Standing.{copier_row, target_here, target_over, late_now, late_over}
 
 -- what a reservation tells by a step of a retirement within it
-abbrev pub room_told_by : {T : Type 0} → Settled T → Outcome T Unit
+abbrev pub room_told_by : {T : Type 0} → Settled T → Yielding T Unit
 room_told_by settled.Goes = outcome.Goes
 room_told_by settled.Waits = outcome.Waits
 room_told_by (settled.Gave value) = outcome.Gave value
@@ -99,13 +99,13 @@ module _ {K V : Type 0} (hash : K → ℕ) (p : Reserve) (m m2 : Mem (Node K V))
     pub alone : (incremental : Bool) (c : Chart K) → ReservesAlone incremental c p.stands → ReservesAlone incremental c q.stands
     pub target : (first : ℕ) → RoomTargetIs first p.stands → RoomTargetIs first q.stands
 
-  pub data RoomAccount : Reserve × Outcome (Node K V) Unit → Type 0 where
-    RoomSettling : (x y : Settle) (o : Settled (Node K V)) (end : Reserve × Outcome (Node K V) Unit) → row_of_room p.stands ≡ Settles x → Steps Took value_at m (settle_plan deferred_word x) m2 (y, o)
+  pub data RoomAccount : Reserve × Yielding (Node K V) Unit → Type 0 where
+    RoomSettling : (x y : Settle) (o : Settled (Node K V)) (end : Reserve × Yielding (Node K V) Unit) → row_of_room p.stands ≡ Settles x → Steps Took value_at m (settle_plan deferred_word x) m2 (y, o)
         → is_going o ≡ true → end.1 ≡ room_told_by o → row_of_room end.0.stands ≡ Settles y → StillRoom end.0 → RoomAccount end
-    RoomOver : (end : Reserve × Outcome (Node K V) Unit) → end.1 ≡ outcome.Goes → (IsRowOfReserve end.0.stands → ⊥) → end.0 ≡ room_once_over p
+    RoomOver : (end : Reserve × Yielding (Node K V) Unit) → end.1 ≡ outcome.Goes → (IsRowOfReserve end.0.stands → ⊥) → end.0 ≡ room_once_over p
         → ((incremental : Bool) (c : Chart K) → ReservesAlone incremental c p.stands → ReservesAlone incremental c end.0.stands) → RoomAccount end
 
-  room_account_of : (q end : Reserve × Outcome (Node K V) Unit) → end ≡ q → RoomAccount q → RoomAccount end
+  room_account_of : (q end : Reserve × Yielding (Node K V) Unit) → end ≡ q → RoomAccount q → RoomAccount end
   room_account_of q end is a = subst RoomAccount (sym is) a
 
   retired_no_row : (c : Copier) (rest : ℕ) → IsRowOfCopier (retiring.table_retired c rest).stands → ⊥
@@ -165,16 +165,16 @@ module _ {K V : Type 0} (hash : K → ℕ) (p : Reserve) (m m2 : Mem (Node K V))
     copying_told x rest e y settled.Done st =
         RoomOver (copying (retiring.table_retired copy rest), outcome.Goes) refl (retired_no_row copy rest) (copying_past x rest e) (copying_over x rest e)
 
-    copying_at : (x : Copying) → copy.stands ≡ x → IsRowOfCopier x → (end : Reserve × Outcome (Node K V) Unit) → Steps Took value_at m (plan_as (copied p) (copier.plan_at hash copy x)) m2 end → RoomAccount end
-    copying_at x e row = at_retirement (λ z. copy.stands ≡ z → (end : Reserve × Outcome (Node K V) Unit) → Steps Took value_at m (plan_as (copied p) (copier.plan_at hash copy z)) m2 end → RoomAccount end)
+    copying_at : (x : Copying) → copy.stands ≡ x → IsRowOfCopier x → (end : Reserve × Yielding (Node K V) Unit) → Steps Took value_at m (plan_as (copied p) (copier.plan_at hash copy x)) m2 end → RoomAccount end
+    copying_at x e row = at_retirement (λ z. copy.stands ≡ z → (end : Reserve × Yielding (Node K V) Unit) → Steps Took value_at m (plan_as (copied p) (copier.plan_at hash copy z)) m2 end → RoomAccount end)
         (λ settle rest is_it end st.
         let one = steps_back (copied p) m m2 (plan_as (retiring.retired copy rest) (settle_plan deferred_word settle)) end st in
         let two = steps_back (retiring.retired copy rest) m m2 (settle_plan deferred_word settle) one.0 one.1 in
         room_account_of (copied p (retiring.retired copy rest two.0)) end (one.2 ∙ ap (copied p) two.2) (copying_told settle rest is_it two.0.0 two.0.1 two.1)) x row e
 
   -- what a step of a row is that a reservation stands at
-  pub room_account : IsRowOfReserve p.stands → (end : Reserve × Outcome (Node K V) Unit) → Steps Took value_at m (reserve_plan hash p) m2 end → RoomAccount end
-  room_account row = at_room_row (λ x. p.stands ≡ x → (end : Reserve × Outcome (Node K V) Unit) → Steps Took value_at m (plan_at hash p x) m2 end → RoomAccount end)
+  pub room_account : IsRowOfReserve p.stands → (end : Reserve × Yielding (Node K V) Unit) → Steps Took value_at m (reserve_plan hash p) m2 end → RoomAccount end
+  room_account row = at_room_row (λ x. p.stands ≡ x → (end : Reserve × Yielding (Node K V) Unit) → Steps Took value_at m (plan_at hash p x) m2 end → RoomAccount end)
       (λ copy at_row is end st. copying_at copy is copy.stands refl at_row end st) p.stands row refl
 
 module _ {K V : Type 0} (same : K → K → Bool) (hash : K → ℕ) (setting : Setting) (w : World (Node K V)) (caller : ℕ) (c : Chart K) (seen : Blocks) (blocking : is_incremental setting.mode ≡ false) where

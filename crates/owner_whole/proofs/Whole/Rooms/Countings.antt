@@ -3,9 +3,9 @@ use Rattle.std.specs.Prelude.{◌≡◌, ◌≢◌, ℕ, Bool, Some, None}
 use Rattle.std.proofs.Common.{inl, inr, refl, ap, ◌∙◌}
 use Rattle.std.proofs.lemmas.Bool.{cases_eq}
 use Rattle.seize.specs.World.{World, Rests, with_at}
-use Rattle.seize.specs.declared.progress.Progress.{Progress}
+use Rattle.seize.specs.declared.advance.Advance.{Advance}
 use Rattle.seize_words.specs.declared.fault.Fault.{Fault}
-use Rattle.seize.specs.declared.progress.Progress.TheVariants as progress
+use Rattle.seize.specs.declared.advance.Advance.TheVariants as progress
 use Rattle.map_tables.specs.declared.node.Node.{Node}
 use Rattle.map_tables.specs.declared.setting.Setting.{Setting}
 use Rattle.map_measures.specs.Given.ResizeSum.{summing}
@@ -47,7 +47,7 @@ module _ {K V Q : Type 0} (same : K → K → Bool) (hash : K → ℕ) (asks : Q
     rests : w.row 0 ≡ Rests
     rests = (a.together.stand 0 (Counting sum) a.has).0
 
-    module _ (sum2 : Sum) (end : Progress ℕ) (together2 : Together V same hash asks setting slot w c blocks sights (with_at a.calls 0 (next_of_counting sum2 end))) where
+    module _ (sum2 : Sum) (end : Advance ℕ) (together2 : Together V same hash asks setting slot w c blocks sights (with_at a.calls 0 (next_of_counting sum2 end))) where
       still : next_of_counting {K = K} {V = V} {Q = Q} sum2 end ≡ Some (Counting sum2) → IsAlone {Q = Q} same hash asks setting slot w c blocks sights (Counting sum2)
       still goes =
           let has2 : with_at a.calls 0 (next_of_counting sum2 end) 0 ≡ Some (Counting sum2) = at_same a.calls 0 (next_of_counting sum2 end) 0 refl ∙ goes in
@@ -78,13 +78,13 @@ module _ {K V Q : Type 0} (same : K → K → Bool) (hash : K → ℕ) (asks : Q
         alone = a.lone;
       }
 
-      leads : (x : Progress ℕ) → end ≡ x → x ≢ progress.Waits → ((fault : Fault) → x ≢ progress.Refused fault) → CountLeads {V = V} {Q = Q} same hash asks setting slot w c blocks sights sum2 x
+      leads : (x : Advance ℕ) → end ≡ x → x ≢ progress.Waits → ((fault : Fault) → x ≢ progress.Refused fault) → CountLeads {V = V} {Q = Q} same hash asks setting slot w c blocks sights sum2 x
       leads progress.Goes is waits refused = still (ap (next_of_counting sum2) is)
       leads progress.Waits is waits refused = absurd (waits refl)
       leads (progress.Done count) is waits refused = ended (ap (next_of_counting sum2) is)
       leads (progress.Refused fault) is waits refused = absurd (refused fault refl)
 
-  comes_to : (w : World (Node K V)) (sum : Sum) (facts : SumFacts (in_slot setting (slot 0)) sum) (sum2 : Sum) (end : Progress ℕ) → end ≢ progress.Waits → ((fault : Fault) → end ≢ progress.Refused fault)
+  comes_to : (w : World (Node K V)) (sum : Sum) (facts : SumFacts (in_slot setting (slot 0)) sum) (sum2 : Sum) (end : Advance ℕ) → end ≢ progress.Waits → ((fault : Fault) → end ≢ progress.Refused fault)
       → Ahead (in_slot setting (slot 0)) w.memory sum facts.0 sum.stands (sum2, end) → ComesTo setting w.memory sum (sum2, end)
   comes_to w sum facts sum2 progress.Goes waits refused ahead = ahead
   comes_to w sum facts sum2 progress.Waits waits refused ahead = waits refl

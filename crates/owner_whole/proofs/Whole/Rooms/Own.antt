@@ -9,8 +9,8 @@ use Rattle.seize.specs.World.{World, Row, Rests, IsInside, with_at}
 use Rattle.map_tables.specs.Chunks.{is_incremental}
 use Rattle.map_tables.specs.declared.node.Node.{Node}
 use Rattle.map_tables.specs.declared.setting.Setting.{Setting}
-use Rattle.map_measures.specs.Given.ResizeDeclared.outcome.Outcome.{Outcome}
-use Rattle.map_measures.specs.Given.ResizeDeclared.outcome.Outcome.TheVariants as outcome
+use Rattle.map_measures.specs.Given.ResizeDeclared.yielding.Yielding.{Yielding}
+use Rattle.map_measures.specs.Given.ResizeDeclared.yielding.Yielding.TheVariants as outcome
 use Rattle.papaya_raw.specs.Given.ReservesReserve.{reserve_plan}
 use Rattle.papaya_raw.specs.Given.ReservesDeclared.reserve.Reserve.{Reserve}
 use Rattle.papaya_raw.specs.Given.ReservesDeclared.reserve.Reserving.{Reserving}
@@ -96,7 +96,7 @@ module _ {K V Q : Type 0} (same : K → K → Bool) (hash : K → ℕ) (asks : Q
       pub own_may : May Can Took value_at w.memory (reserve_plan hash r.reserve)
       own_may = (reserves_keep_the_map V same hash lawful here initial w 0 c seen r.reserve map knows_here.2 none).0
 
-      module _ (m2 : Mem (Node K V)) (p2 : Reserve) (end : Outcome (Node K V) Unit) (steps : Steps Took value_at w.memory (reserve_plan hash r.reserve) m2 (p2, end)) where
+      module _ (m2 : Mem (Node K V)) (p2 : Reserve) (end : Yielding (Node K V) Unit) (steps : Steps Took value_at w.memory (reserve_plan hash r.reserve) m2 (p2, end)) where
         pub went : ReserveWent same hash 0 here w c seen m2 r.reserve.stands (p2, end)
         went = went_reserve same hash 0 here lawful.lawful lawful.fits initial w c seen map r.reserve knows_here.2 none m2 (p2, end) steps
 
@@ -237,7 +237,7 @@ module _ {K V Q : Type 0} (same : K → K → Bool) (hash : K → ℕ) (asks : Q
               (still_on same hash setting.mode keys 0 c0 c went.c2 went.moved stepped.remembers together2.ground.moments Unchanged Unchanged (inl (refl, went.told.1)));
         }
           where
-            by : (x : Outcome (Node K V) Unit) → end ≡ x → ReserveAfter went.w2 0 here went.c2 went.blocks2 same hash (p2, x) → LeadsReserve (is_incremental setting.mode) 0 went.c2 (p2, x)
+            by : (x : Yielding (Node K V) Unit) → end ≡ x → ReserveAfter went.w2 0 here went.c2 went.blocks2 same hash (p2, x) → LeadsReserve (is_incremental setting.mode) 0 went.c2 (p2, x)
                 → RoomLeads same hash asks setting slot w went.w2 went.c2 stepped.blocks2 stepped.sights2 after x
             by outcome.Goes is facts alone = still_alone facts alone (ap (next_for_room after) is)
             by outcome.Waits is facts alone = alone

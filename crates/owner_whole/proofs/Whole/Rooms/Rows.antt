@@ -14,8 +14,8 @@ use Rattle.map_tables.specs.Chunks.{is_incremental}
 use Rattle.map_tables.specs.Nodes.{deferred_word}
 use Rattle.map_tables.specs.declared.node.Node.{Node}
 use Rattle.map_tables.specs.declared.setting.Setting.{Setting}
-use Rattle.map_measures.specs.Given.ResizeDeclared.outcome.Outcome.{Outcome}
-use Rattle.map_measures.specs.Given.ResizeDeclared.outcome.Outcome.TheVariants as outcome
+use Rattle.map_measures.specs.Given.ResizeDeclared.yielding.Yielding.{Yielding}
+use Rattle.map_measures.specs.Given.ResizeDeclared.yielding.Yielding.TheVariants as outcome
 use Rattle.papaya_raw.specs.Given.ReservesReserve.{reserve_plan}
 use Rattle.papaya_raw.specs.Given.ReservesDeclared.reserve.Reserve.{Reserve}
 use Rattle.map_measures.specs.Given.RuleChart.{Chart}
@@ -113,14 +113,14 @@ module _ {K V Q : Type 0} (same : K → K → Bool) (hash : K → ℕ) (asks : Q
           }
 
   leads_on : May Can Took value_at now.v.memory (reserve_plan hash r.reserve)
-      × ((m2 : Mem (Node K V)) (p2 : Reserve) (end : Outcome (Node K V) Unit) → Steps Took value_at now.v.memory (reserve_plan hash r.reserve) m2 (p2, end)
+      × ((m2 : Mem (Node K V)) (p2 : Reserve) (end : Yielding (Node K V) Unit) → Steps Took value_at now.v.memory (reserve_plan hash r.reserve) m2 (p2, end)
       → RoomRowsTogether V same hash asks setting slot now.v c blocks sights a.calls 0 r m2 p2 end)
   leads_on = room_rows_stand_together same hash asks setting slot lawful now.v c blocks sights a.calls now.together 0 r a.has is_row
 
   pub row_may : May Can Took value_at w.memory (reserve_plan hash r.reserve)
   row_may = subst (λ (m : Mem (Node K V)). May Can Took value_at m (reserve_plan hash r.reserve)) now.memory leads_on.0
 
-  module _ (m2 : Mem (Node K V)) (p2 : Reserve) (end : Outcome (Node K V) Unit) (steps : Steps Took value_at w.memory (reserve_plan hash r.reserve) m2 (p2, end)) where
+  module _ (m2 : Mem (Node K V)) (p2 : Reserve) (end : Yielding (Node K V) Unit) (steps : Steps Took value_at w.memory (reserve_plan hash r.reserve) m2 (p2, end)) where
     pub steps_now : Steps Took value_at now.v.memory (reserve_plan hash r.reserve) m2 (p2, end)
     steps_now = subst (λ (m : Mem (Node K V)). Steps Took value_at m (reserve_plan hash r.reserve) m2 (p2, end)) (sym now.memory) steps
 
@@ -184,10 +184,10 @@ module _ {K V Q : Type 0} (same : K → K → Bool) (hash : K → ℕ) (asks : Q
     over_of_root none past (inl (rests, knows)) = over_first past knows.facts
     over_of_root none past (inr (row, at_row, knows)) = absurd (none at_row)
 
-    abbrev LeadsSo : Outcome (Node K V) Unit → Type 0
+    abbrev LeadsSo : Yielding (Node K V) Unit → Type 0
     LeadsSo x = RoomLeads {Q = Q} same hash asks setting slot w led.w2 c blocks sights after x
 
-    as_told : (x : Outcome (Node K V) Unit) → end ≡ x → LeadsSo x → LeadsSo end
+    as_told : (x : Yielding (Node K V) Unit) → end ≡ x → LeadsSo x → LeadsSo end
     as_told x is h = subst LeadsSo (sym is) h
 
     settling_leads : (x y : Settle) (o : Settled (Node K V)) → now.v.row 0 ≡ Settles x → Steps Took value_at now.v.memory (settle_plan deferred_word x) m2 (y, o) → is_going o ≡ true → end ≡ room_told_by o
@@ -198,13 +198,13 @@ module _ {K V Q : Type 0} (same : K → K → Bool) (hash : K → ℕ) (asks : Q
         as_told (outcome.Gave value) is (still_alone s (ap (next_for_room after) is), now.reclaims led.w2 value (led.gives value is))
     settling_leads x y settled.Done row st going is s = absurd (cc going)
 
-    pub by_account : (x : Reserve × Outcome (Node K V) Unit) → x ≡ (p2, end) → RoomAccount hash r.reserve now.v.memory m2 x → LeadsSo end
+    pub by_account : (x : Reserve × Yielding (Node K V) Unit) → x ≡ (p2, end) → RoomAccount hash r.reserve now.v.memory m2 x → LeadsSo end
     by_account e is (RoomSettling x y o _ row st going tells row2 s) =
-        settling_leads x y o (now.row_is ∙ row) st going (sym (ap (λ (z : Reserve × Outcome (Node K V) Unit). z.1) is) ∙ tells)
-        (subst IsStill (ap (λ (z : Reserve × Outcome (Node K V) Unit). z.0) is) s)
+        settling_leads x y o (now.row_is ∙ row) st going (sym (ap (λ (z : Reserve × Yielding (Node K V) Unit). z.1) is) ∙ tells)
+        (subst IsStill (ap (λ (z : Reserve × Yielding (Node K V) Unit). z.0) is) s)
     by_account e is (RoomOver _ tells none past alone) =
-        let same_call = ap (λ (z : Reserve × Outcome (Node K V) Unit). z.0) is in
-        let goes = sym (ap (λ (z : Reserve × Outcome (Node K V) Unit). z.1) is) ∙ tells in
+        let same_call = ap (λ (z : Reserve × Yielding (Node K V) Unit). z.0) is in
+        let goes = sym (ap (λ (z : Reserve × Yielding (Node K V) Unit). z.1) is) ∙ tells in
         as_told outcome.Goes goes
         (goes_on (record { idle = a.lone.idle; point = subst (λ (q : Reserve). ReservesAlone (is_incremental setting.mode) c q.stands) same_call (alone (is_incremental setting.mode) c a.lone.point) })
         (over_of_root (subst (λ (q : Reserve). IsRowOfReserve q.stands → ⊥) same_call none) (sym same_call ∙ past)) (ap (next_for_room after) goes))
@@ -225,7 +225,7 @@ module _ {K V Q : Type 0} (same : K → K → Bool) (hash : K → ℕ) (asks : Q
     ]
 
     -- and keeps to the root
-    abbrev RootSo : Reserve × Outcome (Node K V) Unit → Type 0
+    abbrev RootSo : Reserve × Yielding (Node K V) Unit → Type 0
     RootSo = KeepsToRoot setting led.w2.memory c
 
     told_so : (q : Reserve) → LooksAtRoot c q.stands → SumsUp setting led.w2.memory q.stands → (o : Settled (Node K V)) → RootSo (q, room_told_by o)
@@ -234,14 +234,14 @@ module _ {K V Q : Type 0} (same : K → K → Bool) (hash : K → ℕ) (asks : Q
     told_so q root sums (settled.Gave value) = (root, sums)
     told_so q root sums settled.Done = (root, sums)
 
-    pub root_by : LooksAtRoot c r.reserve.stands → (x : Reserve × Outcome (Node K V) Unit) → x ≡ (p2, end) → RoomAccount hash r.reserve now.v.memory m2 x → RootSo (p2, end)
+    pub root_by : LooksAtRoot c r.reserve.stands → (x : Reserve × Yielding (Node K V) Unit) → x ≡ (p2, end) → RoomAccount hash r.reserve now.v.memory m2 x → RootSo (p2, end)
     root_by root e is (RoomSettling x y o _ row st going tells row2 s) =
         subst RootSo is
-        (subst (λ (t : Outcome (Node K V) Unit). RootSo (e.0, t)) (sym tells)
+        (subst (λ (t : Yielding (Node K V) Unit). RootSo (e.0, t)) (sym tells)
         (told_so e.0 (still_looks c r.reserve.stands e.0.stands is_row s.is_row s.target root) (row_sums setting led.w2.memory e.0.stands s.is_row) o))
     root_by root e is (RoomOver _ tells none past alone) =
         subst RootSo is
-        (subst (λ (t : Outcome (Node K V) Unit). RootSo (e.0, t)) (sym tells)
+        (subst (λ (t : Yielding (Node K V) Unit). RootSo (e.0, t)) (sym tells)
         (subst (λ (q : Reserve). LooksAtRoot c q.stands × SumsUp setting led.w2.memory q.stands) (sym past)
         (over_looks c r.reserve.stands is_row root, over_sums setting led.w2.memory r.reserve.stands is_row)))
 
@@ -264,7 +264,7 @@ module _ {K V Q : Type 0} (same : K → K → Bool) (hash : K → ℕ) (asks : Q
     abbrev Lower : Reserve → Type 0
     Lower q = IsBelow (room_numbers c seen q m2) (room_numbers c seen r.reserve w.memory)
 
-    lower_account : (x : Reserve × Outcome (Node K V) Unit) → x ≡ (p2, end) → HasMore end → RoomAccount hash r.reserve now.v.memory m2 x → Lower x.0
+    lower_account : (x : Reserve × Yielding (Node K V) Unit) → x ≡ (p2, end) → HasMore end → RoomAccount hash r.reserve now.v.memory m2 x → Lower x.0
     lower_account e is more (RoomSettling x y o _ row st going tells row2 s) =
         let less = settling_lowers setting.batch_size now.v now.together.ground.came 0 now.rows x (now.row_is ∙ row) m2 y o st going in
         let was : row_left (Settles x) now.v.memory ≡ row_left (row_of_room r.reserve.stands) w.memory = ap (row_left (Settles x)) now.memory ∙ ap (λ (z : Row). row_left z w.memory) (sym row) in
@@ -272,9 +272,9 @@ module _ {K V Q : Type 0} (same : K → K → Bool) (hash : K → ℕ) (asks : Q
         subst (λ (xs : List ℕ). IsBelow (xs ++ (row_left (row_of_room e.0.stands) m2 ∷ [])) (room_numbers c seen r.reserve w.memory)) (sym (s.number c seen))
         (lower_last (number_of_reserve c seen r.reserve) (row_left (row_of_room e.0.stands) m2) (row_left (row_of_room r.reserve.stands) w.memory) (omega (arith, less, was, then)))
     lower_account e is more (RoomOver _ tells none past alone) =
-        let goes : (p2, end) ≡ (e.0, outcome.Goes) = sym is ∙ ap (λ (x : Outcome (Node K V) Unit). (e.0, x)) tells in
+        let goes : (p2, end) ≡ (e.0, outcome.Goes) = sym is ∙ ap (λ (x : Yielding (Node K V) Unit). (e.0, x)) tells in
         elim (reserve_rows_fall {K = K} {V = V} hash r.reserve is_row w.memory m2 (e.0, outcome.Goes)
-        (subst (λ (x : Reserve × Outcome (Node K V) Unit). Steps Took value_at w.memory (reserve_plan hash r.reserve) m2 x) goes steps) tt c seen)
+        (subst (λ (x : Reserve × Yielding (Node K V) Unit). Steps Took value_at w.memory (reserve_plan hash r.reserve) m2 x) goes steps) tt c seen)
         as (λ _. Lower e.0) [
           | inl same_row ↦ absurd (none same_row.0)
           | inr fallen ↦ lower_more (number_of_reserve c seen e.0) (number_of_reserve c seen r.reserve) _ _ fallen.1

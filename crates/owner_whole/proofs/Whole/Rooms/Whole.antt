@@ -7,8 +7,8 @@ use Rattle.seize_words.specs.OneMemory.Plan.{May, Steps}
 use Rattle.seize.specs.World.{World, with_at}
 use Rattle.map_tables.specs.declared.node.Node.{Node}
 use Rattle.map_tables.specs.declared.setting.Setting.{Setting}
-use Rattle.map_measures.specs.Given.ResizeDeclared.outcome.Outcome.{Outcome}
-use Rattle.map_measures.specs.Given.ResizeDeclared.outcome.Outcome.TheVariants as outcome
+use Rattle.map_measures.specs.Given.ResizeDeclared.yielding.Yielding.{Yielding}
+use Rattle.map_measures.specs.Given.ResizeDeclared.yielding.Yielding.TheVariants as outcome
 use Rattle.papaya_raw.specs.Given.ReservesReserve.{reserving, reserve_plan}
 use Rattle.papaya_raw.specs.Given.ReservesDeclared.reserve.Reserve.{Reserve}
 use Rattle.papaya_raw.specs.Given.ReservesDeclared.reserve.Reserving.{Reserving}
@@ -91,7 +91,7 @@ module _ {K V Q : Type 0} (same : K → K → Bool) (hash : K → ℕ) (asks : Q
 
   pub rooms_go_on_alone : RoomsGoOnAlone V same hash asks setting slot
   rooms_go_on_alone lawful initial w c blocks sights r a = elim (room_decided r.reserve.stands) as (λ _. May Can Took value_at w.memory (reserve_plan hash r.reserve)
-      × ((m2 : Mem (Node K V)) (p2 : Reserve) (end : Outcome (Node K V) Unit) → Steps Took value_at w.memory (reserve_plan hash r.reserve) m2 (p2, end)
+      × ((m2 : Mem (Node K V)) (p2 : Reserve) (end : Yielding (Node K V) Unit) → Steps Took value_at w.memory (reserve_plan hash r.reserve) m2 (p2, end)
       → RoomStepLeads {Q = Q} same hash asks setting slot w c blocks r m2 p2 end)) [
         | inl is_row ↦ (rows.row_may same hash asks setting slot lawful w c blocks sights r a is_row, λ m2 p2 end st. rows.row_leads same hash asks setting slot lawful w c blocks sights r a is_row m2 p2 end st)
         | inr none ↦ (own.own_may same hash asks setting slot lawful w c blocks sights r a none initial, λ m2 p2 end st. own.own_leads same hash asks setting slot lawful w c blocks sights r a none initial m2 p2 end st)
@@ -117,7 +117,7 @@ module _ {K V Q : Type 0} (same : K → K → Bool) (hash : K → ℕ) (asks : Q
 
     module _ (w : World (Node K V)) (c : Chart K) (blocks : Blocks) (sights : ℕ → Sight) (r : CallForRoom) (a : Alone w c blocks sights r) (on : OnBelow w c blocks sights r)
         (m2 : Mem (Node K V)) (p2 : Reserve) where
-      own_ends : (none : IsRowOfReserve r.reserve.stands → ⊥) (end : Outcome (Node K V) Unit) → HasMore end → Steps Took value_at w.memory (reserve_plan hash r.reserve) m2 (p2, end) → Ends p2 m2
+      own_ends : (none : IsRowOfReserve r.reserve.stands → ⊥) (end : Yielding (Node K V) Unit) → HasMore end → Steps Took value_at w.memory (reserve_plan hash r.reserve) m2 (p2, end) → Ends p2 m2
       own_ends none outcome.Goes more st =
           let went = own.went same hash asks setting slot lawful w c blocks sights r a none initial m2 p2 outcome.Goes st in
           let seen_then = own.seen2 same hash asks setting slot lawful w c blocks sights r a none initial m2 p2 outcome.Goes st in
@@ -133,7 +133,7 @@ module _ {K V Q : Type 0} (same : K → K → Bool) (hash : K → ℕ) (asks : Q
       own_ends none (outcome.Done x) more st = absurd more
       own_ends none (outcome.Refused fault) more st = absurd more
 
-      row_ends : (is_row : IsRowOfReserve r.reserve.stands) (end : Outcome (Node K V) Unit) → HasMore end → Steps Took value_at w.memory (reserve_plan hash r.reserve) m2 (p2, end) → Ends p2 m2
+      row_ends : (is_row : IsRowOfReserve r.reserve.stands) (end : Yielding (Node K V) Unit) → HasMore end → Steps Took value_at w.memory (reserve_plan hash r.reserve) m2 (p2, end) → Ends p2 m2
       row_ends is_row end more st =
           let l = rows.row_leads same hash asks setting slot lawful w c blocks sights r a is_row m2 p2 end st in
           let lower = rows.row_lower same hash asks setting slot lawful w c blocks sights r a is_row m2 p2 end st more in
@@ -141,14 +141,14 @@ module _ {K V Q : Type 0} (same : K → K → Bool) (hash : K → ℕ) (asks : Q
           (on l.w2 c blocks sights (room_so r p2) (still l.w2 end more l.leads)
           (subst (λ (x : Mem (Node K V)). IsBelow (room_numbers c (seen_by blocks (sights (slot 0))) p2 x) (numbers w c blocks sights r)) (sym l.memory) lower))
         where
-          still : (w2 : World (Node K V)) (x : Outcome (Node K V) Unit) → HasMore x → RoomLeads {Q = Q} same hash asks setting slot w w2 c blocks sights (room_so r p2) x → Alone w2 c blocks sights (room_so r p2)
+          still : (w2 : World (Node K V)) (x : Yielding (Node K V) Unit) → HasMore x → RoomLeads {Q = Q} same hash asks setting slot w w2 c blocks sights (room_so r p2) x → Alone w2 c blocks sights (room_so r p2)
           still w2 outcome.Goes more l = l
           still w2 outcome.Waits more l = absurd l
           still w2 (outcome.Gave value) more l = l.0
           still w2 (outcome.Done x) more l = absurd more
           still w2 (outcome.Refused fault) more l = absurd more
 
-      step_ends : (end : Outcome (Node K V) Unit) → HasMore end → Steps Took value_at w.memory (reserve_plan hash r.reserve) m2 (p2, end) → Ends p2 m2
+      step_ends : (end : Yielding (Node K V) Unit) → HasMore end → Steps Took value_at w.memory (reserve_plan hash r.reserve) m2 (p2, end) → Ends p2 m2
       step_ends end more st = elim (room_decided r.reserve.stands) as (λ _. Ends p2 m2) [
         | inl is_row ↦ row_ends is_row end more st
         | inr none ↦ own_ends none end more st

@@ -3,8 +3,8 @@ use Rattle.std.specs.Prelude.{◌==◌, if◌then◌else◌}
 use Rattle.std.proofs.Common.{◌≡◌, ◌≢◌, ℕ, Bool, true, false, refl, ap, sym, subst, ◌∙◌}
 use Rattle.seize_words.specs.OneMemory.Mem.{Mem, Took, value_at}
 use Rattle.seize_words.specs.OneMemory.Plan.{Steps, plan_as}
-use Rattle.seize.specs.declared.progress.Progress.{Progress}
-use Rattle.seize.specs.declared.progress.Progress.TheVariants as progress
+use Rattle.seize.specs.declared.advance.Advance.{Advance}
+use Rattle.seize.specs.declared.advance.Advance.TheVariants as progress
 use Rattle.seize.specs.declared.rows.defer.Defer.{Defer}
 use Rattle.seize.specs.declared.rows.settle.Settle.{Settle}
 use Rattle.seize.specs.declared.rows.settle.Settled.{Settled}
@@ -70,7 +70,7 @@ module _ {K V Q : Type 0} (same : K → K → Bool) (hash : K → ℕ) (asks : Q
   pub data Account : KeyCall K V Q × Called (Node K V) → Type 0 where
     Settling : (x y : Settle) (o : Settled (Node K V)) (end : KeyCall K V Q × Called (Node K V)) → row_of slot p.stands ≡ Settles x → Steps Took value_at m (settle_plan deferred_word x) m2 (y, o)
         → is_going o ≡ true → end.1 ≡ told_by o → row_of slot end.0.stands ≡ Settles y → Still end.0 → Account end
-    Deferring : (x y : Defer) (o : Progress Unit) (end : KeyCall K V Q × Called (Node K V)) → row_of slot p.stands ≡ Defers slot x → Steps Took value_at m (defer_plan x) m2 (y, o)
+    Deferring : (x y : Defer) (o : Advance Unit) (end : KeyCall K V Q × Called (Node K V)) → row_of slot p.stands ≡ Defers slot x → Steps Took value_at m (defer_plan x) m2 (y, o)
         → o ≢ progress.Done tt → (o ≡ progress.Goes → end.1 ≡ called.Goes) → row_of slot end.0.stands ≡ Defers slot y → Still end.0 → Account end
     Over : (end : KeyCall K V Q × Called (Node K V)) → end.1 ≡ called.Goes → (IsRowOfCall end.0.stands → ⊥) → end.0 ≡ once_over p
         → ((incremental : Bool) (c : Chart K) → StandsAlone incremental c p.stands → StandsAlone incremental c end.0.stands) → Account end
@@ -111,7 +111,7 @@ module _ {K V Q : Type 0} (same : K → K → Bool) (hash : K → ℕ) (asks : Q
         (still_disposes (disposes.Settles x) (disposes.Settles y) e tt (λ c blocks. refl))
     settles x e y settled.Done st = Ends answer (points.told_answer p answer) refl (λ h. h) (ap counted_at (sym is), refl) (λ incremental c h. subst (StandsAlone incremental c) is h)
 
-    defers : (x : Defer) → d.stands ≡ disposes.Defers x → (y : Defer) (o : Progress Unit) → Steps Took value_at m (defer_plan x) m2 (y, o)
+    defers : (x : Defer) → d.stands ≡ disposes.Defers x → (y : Defer) (o : Advance Unit) → Steps Took value_at m (defer_plan x) m2 (y, o)
         → Account (disposed p answer (dispose.deferred d (y, o)))
     defers x e y progress.Goes st =
         Deferring x y progress.Goes (disposing (disposes.Defers y), called.Goes) (disposing_row (disposes.Defers x) e) st (λ z. cc z) (λ z. refl) refl

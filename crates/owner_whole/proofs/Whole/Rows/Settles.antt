@@ -7,7 +7,7 @@ use Rattle.seize_words.specs.declared.at.At.TheVariants.{Slot}
 use Rattle.seize_words.proofs.OneMemory.Plans.{ends_if}
 use Rattle.seize_words.proofs.OneMemory.OneOwner.Operations.{loaded}
 use Rattle.seize.specs.declared.states.TheConstants.{LAST_SLOT, BATCH, HELD}
-use Rattle.seize.specs.declared.progress.Progress.{Progress}
+use Rattle.seize.specs.declared.advance.Advance.{Advance}
 use Rattle.seize.specs.declared.rows.defer.Defer.{Defer}
 use Rattle.seize.specs.declared.rows.settle.Settle.{Settle}
 use Rattle.seize.specs.declared.rows.settle.Settling.{Settling}
@@ -68,6 +68,6 @@ module _ {K V : Type 0} (size : ℕ) (w : World (Node K V)) (came : CameAbout si
           ]
 
     -- one that defers goes on with less to do, or ends
-    pub deferring_lowers : (s : ℕ) (c : Defer) → w.row i ≡ Defers s c → (m2 : Mem (Node K V)) (end : Defer × Progress Unit) → Steps Took value_at w.memory (defer_plan c) m2 end
+    pub deferring_lowers : (s : ℕ) (c : Defer) → w.row i ≡ Defers s c → (m2 : Mem (Node K V)) (end : Defer × Advance Unit) → Steps Took value_at w.memory (defer_plan c) m2 end
         → Lower (defer_to_go w.memory c) m2 end
     deferring_lowers s c is m2 end st = defer_ends deferred_word (LAST_SLOT + 1) w reached.good i s c is m2 end st

@@ -4,8 +4,8 @@ use Rattle.std.proofs.Common.{true, inl, inr, refl, ap, sym, subst, ◌∙◌}
 use Rattle.std.proofs.lemmas.Bool.{cases_eq}
 use Rattle.seize_words.specs.OneMemory.Mem.{Mem, Can, Took, value_at}
 use Rattle.seize_words.specs.OneMemory.Plan.{May, Steps}
-use Rattle.seize.specs.declared.progress.Progress.{Progress}
-use Rattle.seize.specs.declared.progress.Progress.TheVariants as deferred
+use Rattle.seize.specs.declared.advance.Advance.{Advance}
+use Rattle.seize.specs.declared.advance.Advance.TheVariants as deferred
 use Rattle.seize.specs.declared.rows.defer.Defer.{Defer}
 use Rattle.seize.specs.declared.rows.settle.Settle.{Settle}
 use Rattle.seize.specs.declared.rows.settle.Settled.{Settled}
@@ -169,7 +169,7 @@ module _ {K V Q : Type 0} (same : K → K → Bool) (hash : K → ℕ) (asks : Q
     settling_leads x y settled.Done row st going is s = absurd (cc going)
 
     -- a deferral goes on
-    deferring_leads : (x y : Defer) (o : Progress Unit) → now.v.row 0 ≡ Defers (slot 0) x → Steps Took value_at now.v.memory (defer_plan x) m2 (y, o) → o ≢ deferred.Done tt
+    deferring_leads : (x y : Defer) (o : Advance Unit) → now.v.row 0 ≡ Defers (slot 0) x → Steps Took value_at now.v.memory (defer_plan x) m2 (y, o) → o ≢ deferred.Done tt
         → (o ≡ deferred.Goes → progress ≡ called.Goes) → Still same hash asks (slot 0) u.call now.v.memory m2 p2 → LeadsSo progress
     deferring_leads x y o row st more goes s = elim (deferring_lowers setting.batch_size now.v now.together.ground.came 0 now.rows (slot 0) x row m2 (y, o) st) as (λ _. LeadsSo progress) [
       | inl on ↦ as_told called.Goes (goes on.0) (still_alone s (ap (next_of after) (goes on.0)))

@@ -3,8 +3,8 @@ use Rattle.std.specs.Prelude.{◌==◌, if◌then◌else◌}
 use Rattle.std.proofs.Common.{◌≡◌, ◌≢◌, ℕ, Bool, true, false, refl, ap, sym, subst, ◌∙◌}
 use Rattle.seize_words.specs.OneMemory.Mem.{Mem, Took, value_at}
 use Rattle.seize_words.specs.OneMemory.Plan.{Steps, plan_as}
-use Rattle.seize.specs.declared.progress.Progress.{Progress}
-use Rattle.seize.specs.declared.progress.Progress.TheVariants as progress
+use Rattle.seize.specs.declared.advance.Advance.{Advance}
+use Rattle.seize.specs.declared.advance.Advance.TheVariants as progress
 use Rattle.seize.specs.declared.rows.defer.Defer.{Defer}
 use Rattle.seize.specs.declared.rows.settle.Settle.{Settle}
 use Rattle.seize.specs.declared.rows.settle.Settled.{Settled}
@@ -88,7 +88,7 @@ module _ {K V : Type 0} (hash : K → ℕ) (slot : ℕ) (p : Sweep) (m m2 : Mem 
   pub data SweepAccount : Sweep × Swept (Node K V) → Type 0 where
     SweepSettling : (x y : Settle) (o : Settled (Node K V)) (end : Sweep × Swept (Node K V)) → row_of_sweep slot p.stands ≡ Settles x → Steps Took value_at m (settle_plan deferred_word x) m2 (y, o)
         → is_going o ≡ true → end.1 ≡ sweep_told_by o → row_of_sweep slot end.0.stands ≡ Settles y → StillSweep end.0 → SweepAccount end
-    SweepDeferring : (x y : Defer) (o : Progress Unit) (end : Sweep × Swept (Node K V)) → row_of_sweep slot p.stands ≡ Defers slot x → Steps Took value_at m (defer_plan x) m2 (y, o)
+    SweepDeferring : (x y : Defer) (o : Advance Unit) (end : Sweep × Swept (Node K V)) → row_of_sweep slot p.stands ≡ Defers slot x → Steps Took value_at m (defer_plan x) m2 (y, o)
         → o ≢ progress.Done tt → (o ≡ progress.Goes → end.1 ≡ swept.Goes) → row_of_sweep slot end.0.stands ≡ Defers slot y → StillSweep end.0 → SweepAccount end
     TableOver : (end : Sweep × Swept (Node K V)) → end.1 ≡ swept.Goes → TableRetired end.0 → SweepAccount end
     PairOver : (end : Sweep × Swept (Node K V)) → (d : Dispose) → p.stands ≡ at.Disposes d → end ≡ telling (further p) → SweepAccount end
@@ -130,7 +130,7 @@ module _ {K V : Type 0} (hash : K → ℕ) (slot : ℕ) (p : Sweep) (m m2 : Mem 
         (still_disposes (disposes.Settles x) (disposes.Settles y) e tt (λ c blocks. refl))
     settles x e y settled.Done st = PairOver (telling (further p)) d is refl
 
-    defers : (x : Defer) → d.stands ≡ disposes.Defers x → (y : Defer) (o : Progress Unit) → Steps Took value_at m (defer_plan x) m2 (y, o) → SweepAccount (disposed p (dispose.deferred d (y, o)))
+    defers : (x : Defer) → d.stands ≡ disposes.Defers x → (y : Defer) (o : Advance Unit) → Steps Took value_at m (defer_plan x) m2 (y, o) → SweepAccount (disposed p (dispose.deferred d (y, o)))
     defers x e y progress.Goes st =
         SweepDeferring x y progress.Goes (disposing (disposes.Defers y), swept.Goes) (disposing_row (disposes.Defers x) e) st (λ z. cc z) (λ z. refl) refl
         (still_disposes (disposes.Defers x) (disposes.Defers y) e tt (λ c blocks. refl))

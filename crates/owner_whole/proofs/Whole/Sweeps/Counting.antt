@@ -24,8 +24,8 @@ use Rattle.map_measures.specs.Given.ResizeDeclared.copier.Copier.{Copier}
 use Rattle.map_measures.specs.Given.ResizeDeclared.dispose.Dispose.{Dispose}
 use Rattle.map_measures.specs.Given.ResizeDeclared.dispose.Disposing.{Disposing}
 use Rattle.map_measures.specs.Given.ResizeDeclared.dispose.Disposing.TheVariants as disposes
-use Rattle.map_measures.specs.Given.ResizeDeclared.outcome.Outcome.{Outcome}
-use Rattle.map_measures.specs.Given.ResizeDeclared.outcome.Outcome.TheVariants as outcome
+use Rattle.map_measures.specs.Given.ResizeDeclared.yielding.Yielding.{Yielding}
+use Rattle.map_measures.specs.Given.ResizeDeclared.yielding.Yielding.TheVariants as outcome
 use Rattle.papaya_raw.specs.Given.SweepsSweep.{disposed, copied, plan_at, sweep_plan}
 use Rattle.papaya_raw.specs.Given.SweepsSweepPoints.{removes, further, tableless, beginning, entering, telling, going, at_pair, seen, next_at, reply_at}
 use Rattle.papaya_raw.specs.Given.ReservesDeclared.sweep.Purpose.{Purpose}
@@ -95,7 +95,7 @@ tableless_none p = by (removes p.purpose)
     by true = refl
     by false = refl
 
-copied_none : {K V : Type 0} (p : Sweep) (x : Copier × Outcome (Node K V) Table) → uncounted (copied p x).0.stands ≡ 0
+copied_none : {K V : Type 0} (p : Sweep) (x : Copier × Yielding (Node K V) Table) → uncounted (copied p x).0.stands ≡ 0
 copied_none p (next, outcome.Goes) = refl
 copied_none p (next, outcome.Waits) = refl
 copied_none p (next, outcome.Gave value) = refl

@@ -4,8 +4,8 @@ use Rattle.std.proofs.Common.{inl, inr, refl, ap, sym, subst, ◌∙◌}
 use Rattle.std.proofs.lemmas.Bool.{cases_eq}
 use Rattle.seize_words.specs.OneMemory.Mem.{Mem, Can, Took, value_at}
 use Rattle.seize_words.specs.OneMemory.Plan.{May, Steps}
-use Rattle.seize.specs.declared.progress.Progress.{Progress}
-use Rattle.seize.specs.declared.progress.Progress.TheVariants as deferred
+use Rattle.seize.specs.declared.advance.Advance.{Advance}
+use Rattle.seize.specs.declared.advance.Advance.TheVariants as deferred
 use Rattle.seize.specs.declared.rows.defer.Defer.{Defer}
 use Rattle.seize.specs.declared.rows.settle.Settle.{Settle}
 use Rattle.seize.specs.declared.rows.settle.Settled.{Settled}
@@ -216,7 +216,7 @@ module _ {K V Q : Type 0} (same : K → K → Bool) (hash : K → ℕ) (asks : Q
         as_told (swept.Gave value) is (still_alone s (ap (next_over_all after) is), now.reclaims led.w2 value (led.gives value is))
     settling_leads x y settled.Done row st going is s = absurd (cc going)
 
-    deferring_leads : (x y : Defer) (e : Progress Unit) → now.v.row 0 ≡ Defers (slot 0) x → Steps Took value_at now.v.memory (defer_plan x) m2 (y, e) → e ≢ deferred.Done tt
+    deferring_leads : (x y : Defer) (e : Advance Unit) → now.v.row 0 ≡ Defers (slot 0) x → Steps Took value_at now.v.memory (defer_plan x) m2 (y, e) → e ≢ deferred.Done tt
         → (e ≡ deferred.Goes → end ≡ swept.Goes) → IsStill p2 → LeadsSo end
     deferring_leads x y e row st more goes s = elim (deferring_lowers setting.batch_size now.v now.together.ground.came 0 now.rows (slot 0) x row m2 (y, e) st) as (λ _. LeadsSo end) [
       | inl on ↦ as_told swept.Goes (goes on.0) (still_alone s (ap (next_over_all after) (goes on.0)))

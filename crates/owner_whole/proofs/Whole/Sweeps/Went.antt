@@ -12,8 +12,8 @@ use Rattle.map_tables.specs.declared.setting.Setting.{Setting}
 use Rattle.map_tables.specs.declared.table.Table.{Table}
 use Rattle.map_measures.specs.Given.ResizeCopier.{copier_plan}
 use Rattle.map_measures.specs.Given.ResizeDeclared.copier.Copier.{Copier}
-use Rattle.map_measures.specs.Given.ResizeDeclared.outcome.Outcome.{Outcome}
-use Rattle.map_measures.specs.Given.ResizeDeclared.outcome.Outcome.TheVariants as outcome
+use Rattle.map_measures.specs.Given.ResizeDeclared.yielding.Yielding.{Yielding}
+use Rattle.map_measures.specs.Given.ResizeDeclared.yielding.Yielding.TheVariants as outcome
 use Rattle.papaya_raw.specs.Given.SweepsSweep.{copied, plan_at, sweep_plan}
 use Rattle.papaya_raw.specs.Given.SweepsSweepPoints.{entering, told}
 use Rattle.papaya_raw.specs.Given.ReservesDeclared.sweep.Sweep.{Sweep}
@@ -167,15 +167,15 @@ module _ {K V : Type 0} (same : K → K → Bool) (hash : K → ℕ) (lawful : A
     before : IsBefore p.stands
     before = subst IsBefore (sym is) tt
 
-    its : (x : Copier × Outcome (Node K V) Table) × Steps Took value_at w.memory (copier_plan hash copier) m2 x × ((p2, end) ≡ copied p x)
+    its : (x : Copier × Yielding (Node K V) Table) × Steps Took value_at w.memory (copier_plan hash copier) m2 x × ((p2, end) ≡ copied p x)
     its = steps_back (copied p) w.memory m2 (copier_plan hash copier) (p2, end) (subst (λ (x : Sweeping). Steps Took value_at w.memory (plan_at hash p x) m2 (p2, end)) is steps)
 
     module _ (w2 : World (Node K V)) (c2 : Chart K) (blocks2 : Blocks) where
-      abbrev Told : Copier × Outcome (Node K V) Table → Type 0
+      abbrev Told : Copier × Yielding (Node K V) Table → Type 0
       Told x = StageTold same hash setting w2 c2 blocks2 p (copied p x)
 
       -- what it tells, by the mode of the map
-      abbrev ToldIn : Copier × Outcome (Node K V) Table → Bool → Type 0
+      abbrev ToldIn : Copier × Yielding (Node K V) Table → Bool → Type 0
       ToldIn x mode =
           cond mode (CopierTold w2 0 setting c2 blocks2 same hash x × (x.0.whole ≡ true) × EndsAtRoot w2 0 setting c2 blocks2 same hash x)
           (CopierToldBlocking w2 0 setting c2 blocks2 same hash x)
@@ -193,14 +193,14 @@ module _ {K V : Type 0} (same : K → K → Bool) (hash : K → ℕ) (lawful : A
       done_root true next table told blocking = absurd (cc blocking)
       done_root false next table told blocking = ap (λ (x : Table). x.turn) told.0.is
 
-      copied_stage : (x : Copier × Outcome (Node K V) Table) → WholeTold w2 0 setting c2 blocks2 same hash x → CopierLeads b 0 c2 x → Told x
+      copied_stage : (x : Copier × Yielding (Node K V) Table) → WholeTold w2 0 setting c2 blocks2 same hash x → CopierLeads b 0 c2 x → Told x
       copied_stage (next, outcome.Goes) told leads = record { whole = goes_whole b next told; alone = leads.1; table = tt; none = λ once at_place. absurd (at_place before); ready = λ e. absurd (cc e) }
       copied_stage (next, outcome.Waits) told leads = absurd leads
       copied_stage (next, outcome.Gave value) told leads = absurd leads
       copied_stage (next, outcome.Done table) told leads = enters same hash setting w2 c2 blocks2 p f.setting_is leads.tables table (done_root b next table told) before
       copied_stage (next, outcome.Refused fault) told leads = record { whole = tt; alone = leads.tables; table = tt; none = λ once at_place. absurd (at_place before); ready = λ e. absurd (cc e) }
 
-      copied_idle : (x : Copier × Outcome (Node K V) Table) → CopierLeads b 0 c2 x → OthersIdle 0 c2
+      copied_idle : (x : Copier × Yielding (Node K V) Table) → CopierLeads b 0 c2 x → OthersIdle 0 c2
       copied_idle (next, outcome.Goes) leads = leads.0
       copied_idle (next, outcome.Waits) leads = absurd leads
       copied_idle (next, outcome.Gave value) leads = absurd leads
@@ -220,7 +220,7 @@ module _ {K V : Type 0} (same : K → K → Bool) (hash : K → ℕ) (lawful : A
       told_none at.Over e = cc e
       told_none (at.Refused fault) e = cc e
 
-      copied_goes : (x : Copier × Outcome (Node K V) Table) → CopierLeads b 0 c2 x → (copied p x).1 ≢ swept.Waits
+      copied_goes : (x : Copier × Yielding (Node K V) Table) → CopierLeads b 0 c2 x → (copied p x).1 ≢ swept.Waits
       copied_goes (next, outcome.Goes) leads e = cc e
       copied_goes (next, outcome.Waits) leads e = leads
       copied_goes (next, outcome.Gave value) leads e = leads

@@ -7,7 +7,7 @@ ghost use Rattle.papaya_raw.specs.declared.machines.call.Calling.TheVariants as 
 
 use crate::machines::answer::{Called, End};
 use crate::machines::call::{Calling, KeyCall};
-use map_sweeps::named_sweeps::{Copier, Outcome};
+use map_sweeps::named_sweeps::{Copier, Yielding};
 use map_tables::named::Memory;
 use map_tables::{Equivalent, Hashes, Node, Table};
 use std::hash::Hash;
@@ -54,29 +54,29 @@ impl<K: Drop, V: Drop, Q> KeyCall<K, V, Q> {
     fn after_help(
         &mut self,
         goal: Table,
-        progress: Outcome<Node<K, V>, Table>,
+        progress: Yielding<Node<K, V>, Table>,
     ) -> Called<Node<K, V>>
         ensures { (begun : KeyCall K V Q) (copier : Copier) → self.old ≡ standing begun (at.Helps copier goal) → (self.new, result) ≡ helped begun goal (copier, progress) }
     {
         match progress {
-            Outcome::Goes => Called::Goes,
-            Outcome::Waits => Called::Waits,
-            Outcome::Gave(value) => Called::Gave(value),
-            Outcome::Done(_) => self.enter(goal),
-            Outcome::Refused(fault) => self.end(End::Refused(fault)),
+            Yielding::Goes => Called::Goes,
+            Yielding::Waits => Called::Waits,
+            Yielding::Gave(value) => Called::Gave(value),
+            Yielding::Done(_) => self.enter(goal),
+            Yielding::Refused(fault) => self.end(End::Refused(fault)),
         }
     }
 
     /// Goes on after a step of the copying.
-    fn copied(&mut self, progress: Outcome<Node<K, V>, Table>) -> Called<Node<K, V>>
+    fn copied(&mut self, progress: Yielding<Node<K, V>, Table>) -> Called<Node<K, V>>
         ensures { (begun : KeyCall K V Q) (copier : Copier) → self.old ≡ standing begun (at.Copies copier) → (self.new, result) ≡ copied begun (copier, progress) }
     {
         match progress {
-            Outcome::Goes => Called::Goes,
-            Outcome::Waits => Called::Waits,
-            Outcome::Gave(value) => Called::Gave(value),
-            Outcome::Done(table) => self.enter(table),
-            Outcome::Refused(fault) => self.end(End::Refused(fault)),
+            Yielding::Goes => Called::Goes,
+            Yielding::Waits => Called::Waits,
+            Yielding::Gave(value) => Called::Gave(value),
+            Yielding::Done(table) => self.enter(table),
+            Yielding::Refused(fault) => self.end(End::Refused(fault)),
         }
     }
 }

@@ -10,7 +10,7 @@ use crate::machines::asking::Gap;
 use crate::machines::call::{Calling, KeyCall};
 use map_sweeps::named_sweeps::{Copier, NewTable};
 use map_tables::lengths::FIRST_LEN;
-use map_tables::named::{At, Link, Machine, Memory, Progress};
+use map_tables::named::{Advance, At, Link, Memory, StepMachine};
 use map_tables::table_words::NEXT;
 use map_tables::{Equivalent, Node, Table};
 use std::hash::Hash;
@@ -125,26 +125,26 @@ impl<K: Eq + Hash + Drop, V: Drop, Q: Equivalent<K>> KeyCall<K, V, Q> {
 
 impl<K: Drop, V: Drop, Q> KeyCall<K, V, Q> {
     /// Goes on after a step of the making of the first table.
-    fn first_made(&mut self, progress: Progress<Table>) -> Called<Node<K, V>>
+    fn first_made(&mut self, progress: Advance<Table>) -> Called<Node<K, V>>
         ensures { (begun : KeyCall K V Q) (making : NewTable) → self.old ≡ standing begun (at.Firsts making) → (self.new, result) ≡ first_made begun (making, progress) }
     {
         match progress {
-            Progress::Goes => Called::Goes,
-            Progress::Waits => Called::Waits,
-            Progress::Done(table) => self.enter(table),
-            Progress::Refused(fault) => self.end(End::Refused(fault)),
+            Advance::Goes => Called::Goes,
+            Advance::Waits => Called::Waits,
+            Advance::Done(table) => self.enter(table),
+            Advance::Refused(fault) => self.end(End::Refused(fault)),
         }
     }
 
     /// Goes on after a step of the making of the next table.
-    fn next_made(&mut self, progress: Progress<Table>) -> Called<Node<K, V>>
+    fn next_made(&mut self, progress: Advance<Table>) -> Called<Node<K, V>>
         ensures { (begun : KeyCall K V Q) (making : NewTable) → self.old ≡ standing begun (at.Allocs making) → (self.new, result) ≡ next_made begun (making, progress) }
     {
         match progress {
-            Progress::Goes => Called::Goes,
-            Progress::Waits => Called::Waits,
-            Progress::Done(table) => self.go_on(table),
-            Progress::Refused(fault) => self.end(End::Refused(fault)),
+            Advance::Goes => Called::Goes,
+            Advance::Waits => Called::Waits,
+            Advance::Done(table) => self.go_on(table),
+            Advance::Refused(fault) => self.end(End::Refused(fault)),
         }
     }
 }

@@ -8,7 +8,7 @@ ghost use Rattle.papaya_raw.specs.declared.machines.call.Calling.TheVariants as 
 use crate::machines::answer::{Called, End, KeyAnswer};
 use crate::machines::call::{Calling, KeyCall};
 use map_sweeps::named_sweeps::{Dispose, Lookup};
-use map_tables::named::{Fault, Link, Machine, Memory, Progress, Settled};
+use map_tables::named::{Advance, Fault, Link, Memory, Settled, StepMachine};
 use map_tables::{Equivalent, Node, h2};
 use std::hash::Hash;
 
@@ -100,15 +100,15 @@ impl<K: Eq + Hash, V, Q: Equivalent<K>> KeyCall<K, V, Q> {
     }
 
     /// Goes on after a step of the lookup.
-    fn looked(&mut self, progress: Progress<Option<u64>>) -> Called<Node<K, V>>
+    fn looked(&mut self, progress: Advance<Option<u64>>) -> Called<Node<K, V>>
         ensures { (begun : KeyCall K V Q) (lookup : Lookup) → self.old ≡ standing begun (at.Looks lookup) → (self.new, result) ≡ looked begun (lookup, progress) }
     {
         match progress {
-            Progress::Goes => Called::Goes,
-            Progress::Waits => Called::Waits,
-            Progress::Done(Some(found)) => self.tell(KeyAnswer::Found(found)),
-            Progress::Done(None) => self.tell(KeyAnswer::Absent),
-            Progress::Refused(fault) => self.finish(End::Refused(fault)),
+            Advance::Goes => Called::Goes,
+            Advance::Waits => Called::Waits,
+            Advance::Done(Some(found)) => self.tell(KeyAnswer::Found(found)),
+            Advance::Done(None) => self.tell(KeyAnswer::Absent),
+            Advance::Refused(fault) => self.finish(End::Refused(fault)),
         }
     }
 }

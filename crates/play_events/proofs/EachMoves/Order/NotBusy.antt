@@ -12,7 +12,7 @@ use Rattle.play_stepping.specs.Given.CallersTogether.{CallOnKey, Counting, ForRo
 use Rattle.run_kept.specs.Given.EffectsKnown.{Known}
 use Rattle.run_kept.specs.Given.FinishesMachines.{machine_of}
 use Rattle.play_stepping.specs.Given.NamedMachines.{RefusedForRoom}
-use Rattle.play_stepping.specs.Given.ExecutorDeclared.kind.Kind.{Kind}
+use Rattle.play_stepping.specs.Given.ExecutorDeclared.kind.CallKind.{CallKind}
 use Rattle.run_kept.specs.Given.ScenesHeld.{Held}
 use Rattle.run_kept.specs.Given.ScenesScene.{Scene}
 use Rattle.run_kept.specs.Given.ScenesStepping.{StepLeads, has_ended}
@@ -32,7 +32,7 @@ module _ {K V : Type 0} where
   ]
 
   -- so the outcome ends the call where its step has ended it
-  pub ends_so : (known : Known) (kind : Kind) (value : Option V) (said : Progress (Node K V)) → NotBusy said → has_ended said ≡ true → ends_call (outcome_of known kind value said) ≡ true
+  pub ends_so : (known : Known) (kind : CallKind) (value : Option V) (said : Progress (Node K V)) → NotBusy said → has_ended said ≡ true → ends_call (outcome_of known kind value said) ≡ true
   ends_so known kind value (progress.Done answer) never e = refl
   ends_so known kind value (progress.Refused Busy) never e = absurd (never refl)
   ends_so known kind value (progress.Refused fault) never e = refl

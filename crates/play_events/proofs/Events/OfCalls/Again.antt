@@ -22,7 +22,7 @@ use Rattle.run_legal.specs.Over.{GoesOnBy, IsSaidSo}
 use Rattle.run_legal.proofs.Again.{again_events_end}
 use Rattle.play_stepping.specs.Given.NamedMachines.{IsAsFar}
 use Rattle.play_stepping.specs.Given.NamedSeen.{Seen, far_of, is_named, seen, seen_of}
-use Rattle.play_stepping.specs.Given.ExecutorDeclared.caller.Caller.{Caller}
+use Rattle.play_stepping.specs.Given.ExecutorDeclared.caller.NamedCaller.{NamedCaller}
 use Rattle.play_stepping.specs.Given.ExecutorDeclared.caller.Stands.{Stands as HowFar}
 use Rattle.play_stepping.specs.Given.ExecutorDeclared.caller.Stands.TheVariants as far
 use Rattle.play_stepping.specs.Given.SchedulerPlayed.{IsPlayed, entry_of}
@@ -41,14 +41,14 @@ use Rattle.play_stepping.specs.Given.ExecutorIsThere.{held_by}
 
 -- Who has a name that one caller has at most is as far as that caller.
 
-module _ {K V : Type 0} (own : List ℕ) (d : Caller V) where
+module _ {K V : Type 0} (own : List ℕ) (d : NamedCaller V) where
   abbrev IsFar : CallThere K V → Type 0
   IsFar x = is_same x.caller own ≡ true → far_of x.stands ≡ d.stands
 
-  heads : (x : CallThere K V) (xs : List (CallThere K V)) (y : Caller V) (ys : List (Caller V)) → map seen (x ∷ xs) ≡ map seen_of (y ∷ ys) → (seen x ≡ seen_of y) × (map seen xs ≡ map seen_of ys)
+  heads : (x : CallThere K V) (xs : List (CallThere K V)) (y : NamedCaller V) (ys : List (NamedCaller V)) → map seen (x ∷ xs) ≡ map seen_of (y ∷ ys) → (seen x ≡ seen_of y) × (map seen xs ≡ map seen_of ys)
   heads x xs y ys alike = (cc alike, cc alike)
 
-  none_far : (xs : List (CallThere K V)) (ys : List (Caller V)) → map seen xs ≡ map seen_of ys → length (filter (is_named own) ys) ≤ 0 → AllByRecursion IsFar xs
+  none_far : (xs : List (CallThere K V)) (ys : List (NamedCaller V)) → map seen xs ≡ map seen_of ys → length (filter (is_named own) ys) ≤ 0 → AllByRecursion IsFar xs
   none_far [] ys alike none = tt
   none_far (x ∷ xs) [] alike none = absurd (cc alike)
   none_far (x ∷ xs) (y ∷ ys) alike none = by (is_named own y) refl none (none_far xs ys (heads x xs y ys alike).1)
@@ -61,7 +61,7 @@ module _ {K V : Type 0} (own : List ℕ) (d : Caller V) where
       by true is few rest = absurd (omega (arith, few))
       by false is few rest = (λ its. absurd (let named = ap (λ (z : Seen). is_same z.name own) first in cc (its, named, is)), rest few)
 
-  all_far : (xs : List (CallThere K V)) (ys : List (Caller V)) → map seen xs ≡ map seen_of ys → length (filter (is_named own) ys) ≤ 1 → find (is_named own) ys ≡ Some d → AllByRecursion IsFar xs
+  all_far : (xs : List (CallThere K V)) (ys : List (NamedCaller V)) → map seen xs ≡ map seen_of ys → length (filter (is_named own) ys) ≤ 1 → find (is_named own) ys ≡ Some d → AllByRecursion IsFar xs
   all_far [] ys alike once found = tt
   all_far (x ∷ xs) [] alike once found = absurd (cc alike)
   all_far (x ∷ xs) (y ∷ ys) alike once found = by (is_named own y) refl once found (all_far xs ys (heads x xs y ys alike).1)
@@ -73,7 +73,7 @@ module _ {K V : Type 0} (own : List ℕ) (d : Caller V) where
           → (length (filter (is_named own) ys) ≤ 1 → find (is_named own) ys ≡ Some d → AllByRecursion IsFar xs) → AllByRecursion IsFar (x ∷ xs)
       by true is few there rest =
           let it : y ≡ d = cc there in
-          (λ its. ap (λ (z : Seen). z.far) both.0 ∙ ap (λ (z : Caller V). z.stands) it, none_far xs ys both.1 (omega (arith, few)))
+          (λ its. ap (λ (z : Seen). z.far) both.0 ∙ ap (λ (z : NamedCaller V). z.stands) it, none_far xs ys both.1 (omega (arith, few)))
       by false is few there rest = (λ its. absurd (let named = ap (λ (z : Seen). is_same z.name own) both.0 in cc (its, named, is)), rest few there)
 
 module _ {K V S : Type 0} (same : K → K → Bool) (hash : K → ℕ) (terms : Terms) (log : List (Entry K V)) (old : Scheduler K V S) (runs : Runs same hash terms log old) (own : List ℕ) (place : ℕ)

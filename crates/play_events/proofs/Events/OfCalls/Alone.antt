@@ -23,7 +23,7 @@ use Rattle.play_lists.proofs.Given.RowsLists.{all_alike, one_of}
 use Rattle.play_lists.proofs.Given.RowsThere.{is_inside, on_its_slot}
 use Rattle.play_stepping.specs.Given.SchedulerPlayed.{IsPlayed, IsUnderWay}
 use Rattle.play_stepping.specs.Given.NamedSeen.{Seen, is_named, seen, seen_of}
-use Rattle.play_stepping.specs.Given.ExecutorDeclared.caller.Caller.{Caller}
+use Rattle.play_stepping.specs.Given.ExecutorDeclared.caller.NamedCaller.{NamedCaller}
 use Rattle.play_stepping.specs.Given.SchedulerDeclared.scheduler.Scheduler.{Scheduler}
 use Rattle.play_events.proofs.Events.OfCalls.InRows.{insides_follow_in_rows}
 use Rattle.play_stepping.specs.Given.ExecutorIsThere.{IsUsedAs}
@@ -38,16 +38,16 @@ none_is None never = refl
 none_is (Some x) never = absurd (never x refl)
 
 module _ {V : Type 0} (n j : ℕ) where
-  abbrev its_number : Caller V → Bool
+  abbrev its_number : NamedCaller V → Bool
   its_number d = d.number == j
 
   -- one of this number is there, where one of this map and number is
-  any_number : (calls : List (Caller V)) → list_any (λ (d : Caller V). (d.map == n) && (d.number == j)) calls ≡ true → list_any its_number calls ≡ true
+  any_number : (calls : List (NamedCaller V)) → list_any (λ (d : NamedCaller V). (d.map == n) && (d.number == j)) calls ≡ true → list_any its_number calls ≡ true
   any_number [] any = absurd (cc any)
   any_number (d ∷ calls) any = by (d.map == n) (d.number == j) any (any_number calls)
     where
-      by : (a b : Bool) → ((a && b) || list_any (λ (x : Caller V). (x.map == n) && (x.number == j)) calls) ≡ true
-          → (list_any (λ (x : Caller V). (x.map == n) && (x.number == j)) calls ≡ true → list_any its_number calls ≡ true) → (b || list_any its_number calls) ≡ true
+      by : (a b : Bool) → ((a && b) || list_any (λ (x : NamedCaller V). (x.map == n) && (x.number == j)) calls) ≡ true
+          → (list_any (λ (x : NamedCaller V). (x.map == n) && (x.number == j)) calls ≡ true → list_any its_number calls ≡ true) → (b || list_any its_number calls) ≡ true
       by a true is later = refl
       by true false is later = later is
       by false false is later = later is
@@ -61,31 +61,31 @@ both_each P Q [] a b = tt
 both_each P Q (x ∷ xs) a b = ((a.0, b.0), both_each P Q xs a.1 b.1)
 
 module _ {K V S : Type 0} (same : K → K → Bool) (hash : K → ℕ) (terms : Terms) (log : List (Entry K V)) (p : Scheduler K V S) (stands : IsPlayed same hash terms log p) where
-  abbrev calls : List (Caller V)
+  abbrev calls : List (NamedCaller V)
   calls = p.calls
 
   -- who has a row under way is a caller
-  pub row_of_caller : (j : ℕ) → stands.scene.world.row j ≢ Rests → list_any (λ (d : Caller V). d.number == j) calls ≡ true
-  row_of_caller j goes = by (list_any (λ (d : Caller V). d.number == j) calls) refl
+  pub row_of_caller : (j : ℕ) → stands.scene.world.row j ≢ Rests → list_any (λ (d : NamedCaller V). d.number == j) calls ≡ true
+  row_of_caller j goes = by (list_any (λ (d : NamedCaller V). d.number == j) calls) refl
     where
-      by : (q : Bool) → list_any (λ (d : Caller V). d.number == j) calls ≡ q → list_any (λ (d : Caller V). d.number == j) calls ≡ true
+      by : (q : Bool) → list_any (λ (d : NamedCaller V). d.number == j) calls ≡ q → list_any (λ (d : NamedCaller V). d.number == j) calls ≡ true
       by true is = is
       by false is = absurd (goes (row_rests same hash p.logged.executor stands.scene stands.shown.is_at j
           (stands.rests j (λ n. none_is (stands.scene.calls n j) (λ u here. (let any = any_number n j calls (stands.calls.only n j u here) in cc (any, is)))))))
 
   module _ (event : Event K V) (own : List ℕ) (speaks : speaker event ≡ Some own) (alone : ComesAlone event log) where
     -- each caller has the name of whom the event speaks
-    each_own : AllByRecursion (λ (d : Caller V). is_named own d ≡ true) calls
+    each_own : AllByRecursion (λ (d : NamedCaller V). is_named own d ≡ true) calls
     each_own =
         all_each (is_named own) calls
         (sym (all_alike seen seen_of (moment log).calls calls stands.calls.listed (λ (z : Seen). is_same z.name own))
         ∙ subst (λ (who : Option (List ℕ)). list_all (is_by who) (moment log).calls ≡ true) speaks (both (moment log).is_alone _ alone).1)
 
     -- so it is that one whose row is under way, if any is
-    its : (j : ℕ) → stands.scene.world.row j ≢ Rests → (d : Caller V) × (IsUnderWay stands.name stands.scene p.there d × (is_named own d ≡ true)) × ((d.number == j) ≡ true)
+    its : (j : ℕ) → stands.scene.world.row j ≢ Rests → (d : NamedCaller V) × (IsUnderWay stands.name stands.scene p.there d × (is_named own d ≡ true)) × ((d.number == j) ≡ true)
     its j goes =
-        one_of (λ (d : Caller V). IsUnderWay stands.name stands.scene p.there d × (is_named own d ≡ true)) (λ (d : Caller V). d.number == j) calls (row_of_caller j goes)
-        (both_each (IsUnderWay stands.name stands.scene p.there) (λ (d : Caller V). is_named own d ≡ true) calls stands.calls.each each_own)
+        one_of (λ (d : NamedCaller V). IsUnderWay stands.name stands.scene p.there d × (is_named own d ≡ true)) (λ (d : NamedCaller V). d.number == j) calls (row_of_caller j goes)
+        (both_each (IsUnderWay stands.name stands.scene p.there) (λ (d : NamedCaller V). is_named own d ≡ true) calls stands.calls.each each_own)
 
     pub only_its_row : (map i : ℕ) (u : UnderWay K V K) → stands.scene.calls map i ≡ Some u → stands.name i ≡ own → (j : ℕ) → stands.scene.world.row j ≢ Rests → j ≡ i
     only_its_row map i u here name_is j goes =
@@ -101,7 +101,7 @@ module _ {K V S : Type 0} (same : K → K → Bool) (hash : K → ℕ) (terms : 
         let any = some_named calls (row_of_caller j goes) each_own in
         cc (any, free)
       where
-        some_named : (ds : List (Caller V)) → list_any (λ (d : Caller V). d.number == j) ds ≡ true → AllByRecursion (λ (d : Caller V). is_named own d ≡ true) ds → list_any (is_named own) ds ≡ true
+        some_named : (ds : List (NamedCaller V)) → list_any (λ (d : NamedCaller V). d.number == j) ds ≡ true → AllByRecursion (λ (d : NamedCaller V). is_named own d ≡ true) ds → list_any (is_named own) ds ≡ true
         some_named [] any all = absurd (cc any)
         some_named (d ∷ ds) any all = ap (λ (q : Bool). q || list_any (is_named own) ds) all.0
 

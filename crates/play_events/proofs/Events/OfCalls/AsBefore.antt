@@ -16,7 +16,7 @@ use Rattle.run_kept.specs.Given.ReclaimsLeft.{LeftAmong}
 use Rattle.play_lists.specs.Given.LoggedShown.{IsShown}
 use Rattle.play_lists.specs.Given.LoggedDeclared.logged.Logged.{Logged}
 use Rattle.play_stepping.specs.Given.SchedulerPlayed.{IsPlayed}
-use Rattle.play_stepping.specs.Given.ExecutorDeclared.caller.Caller.{Caller}
+use Rattle.play_stepping.specs.Given.ExecutorDeclared.caller.NamedCaller.{NamedCaller}
 use Rattle.play_stepping.specs.Given.SchedulerDeclared.scheduler.Scheduler.{Scheduler}
 use Rattle.play_events.proofs.Folded.Steps.{idle_in_order}
 use Rattle.play_events.proofs.Events.OfCalls.Worth.{SaidIn, have_values_then}
@@ -51,10 +51,10 @@ module _ {K V S : Type 0} (same : K → K → Bool) (hash : K → ℕ) (terms : 
     hands = idle_in_order log e nothing;
     runs = record {
       stands = stands_in same hash terms (moment (e ∷ log)) new plays runs.stands.name runs.stands.scene shown
-          (subst (λ (cs : List (Caller V)). AreNamed runs.stands.name cs) (sym calls_are) (its_named same hash terms (moment log) old runs.stands));
+          (subst (λ (cs : List (NamedCaller V)). AreNamed runs.stands.name cs) (sym calls_are) (its_named same hash terms (moment log) old runs.stands));
       shows = subst (λ (l : Logged K V S). ShowsRun same runs.stands.name terms (e ∷ log) (known l.notes) runs.stands.scene) (sym logged_is) run;
       come = events_bring_things K V terms log e runs.come legal.life.finds;
-      values = subst (λ (cs : List (Caller V)). HaveValues (moment (e ∷ log)) runs.stands.scene cs) (sym calls_are)
+      values = subst (λ (cs : List (NamedCaller V)). HaveValues (moment (e ∷ log)) runs.stands.scene cs) (sym calls_are)
           (have_values_then (moment log) (moment (e ∷ log)) said runs.stands.scene runs.stands.scene refl old.calls runs.values);
       taken = subst (SlotsTaken runs.stands.scene.world.memory) (sym no_slot) runs.taken;
       size = ap (λ (l : Logged K V S). l.executor.batch_size) logged_is ∙ runs.size;

@@ -38,7 +38,7 @@ use Rattle.play_lists.specs.Given.LoggedShown.{IsCounted, IsShown}
 use Rattle.play_lists.proofs.Given.RowsFacts.{row_rests}
 use Rattle.play_stepping.specs.Given.SchedulerPlayed.{HasBegun, IsPlayed, IsUnderWay}
 use Rattle.play_stepping.specs.Given.NamedSeen.{Seen, is_named}
-use Rattle.play_stepping.specs.Given.ExecutorDeclared.caller.Caller.{Caller}
+use Rattle.play_stepping.specs.Given.ExecutorDeclared.caller.NamedCaller.{NamedCaller}
 use Rattle.play_stepping.specs.Given.SchedulerDeclared.scheduler.Scheduler.{Scheduler}
 use Rattle.play_stepping.proofs.Given.SchedulerBegins as beginning
 use Rattle.play_stepping.proofs.Given.NamedCalled.{begins_so, begun_call, is_begun_for, is_called, its_machine}
@@ -171,7 +171,7 @@ module _ {K V S : Type 0} (same : K → K → Bool) (hash : K → ℕ) (terms : 
   named_here = subst (AreNamed names) (sym led.items)
       (ap names led.numbered ∙ name_here ∙ sym (ap (λ (x : Seen). x.name) led.is), others old.calls runs.stands.calls.each)
     where
-      others : (ds : List (Caller V)) → AllByRecursion (IsUnderWay runs.stands.name runs.stands.scene old.there) ds → AreNamed names ds
+      others : (ds : List (NamedCaller V)) → AllByRecursion (IsUnderWay runs.stands.name runs.stands.scene old.there) ds → AreNamed names ds
       others [] all = tt
       others (d ∷ ds) all = (name_there d.number (d.map, all.0.0, all.0.1) ∙ all.0.2, others ds all.1)
 
@@ -204,7 +204,7 @@ module _ {K V S : Type 0} (same : K → K → Bool) (hash : K → ℕ) (terms : 
   pub olds_worth : HaveValues then_m then_at old.calls
   olds_worth = by old.calls led.free runs.stands.calls.each runs.values
     where
-      one : (d : Caller V) → is_named own d ≡ false → IsUnderWay runs.stands.name runs.stands.scene old.there d → IsWorth m runs.stands.scene d → IsWorth then_m then_at d
+      one : (d : NamedCaller V) → is_named own d ≡ false → IsUnderWay runs.stands.name runs.stands.scene old.there d → IsWorth m runs.stands.scene d → IsWorth then_m then_at d
       one d other way worth x here c is =
           worth x
           (elim (which runs.stands.scene.calls led.number i (Some u) d.map d.number x here) as (λ _. runs.stands.scene.calls d.map d.number ≡ Some x) [
@@ -213,7 +213,7 @@ module _ {K V S : Type 0} (same : K → K → Bool) (hash : K → ℕ) (terms : 
           ]) c
           (sym (ap (λ (q : Bool). cond q (Some (fresh_call own guard call led.number m.events)) (call_of d.name m)) (apart_back d.name own other)) ∙ is)
 
-      by : (ds : List (Caller V)) → list_any (is_named own) ds ≡ false → AllByRecursion (IsUnderWay runs.stands.name runs.stands.scene old.there) ds → HaveValues m runs.stands.scene ds → HaveValues then_m then_at ds
+      by : (ds : List (NamedCaller V)) → list_any (is_named own) ds ≡ false → AllByRecursion (IsUnderWay runs.stands.name runs.stands.scene old.there) ds → HaveValues m runs.stands.scene ds → HaveValues then_m then_at ds
       by [] free ways all = tt
       by (d ∷ ds) free ways all = both (is_named own d) refl free (by ds)
         where

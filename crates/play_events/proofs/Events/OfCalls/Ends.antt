@@ -43,8 +43,8 @@ use Rattle.run_kept.proofs.Given.RemainsSlots.{buckets_grow}
 use Rattle.play_lists.specs.Given.LoggedShown.{IsShown}
 use Rattle.play_stepping.specs.Given.SchedulerPlayed.{IsPlayed, entry_of}
 use Rattle.play_stepping.specs.Given.NamedSeen.{kind_of}
-use Rattle.play_stepping.specs.Given.ExecutorDeclared.caller.Caller.{Caller}
-use Rattle.play_stepping.specs.Given.ExecutorDeclared.kind.Kind.{Kind}
+use Rattle.play_stepping.specs.Given.ExecutorDeclared.caller.NamedCaller.{NamedCaller}
+use Rattle.play_stepping.specs.Given.ExecutorDeclared.kind.CallKind.{CallKind}
 use Rattle.play_stepping.specs.Given.SchedulerDeclared.played.Played.{Played}
 use Rattle.play_stepping.specs.Given.SchedulerDeclared.scheduler.Scheduler.{Scheduler}
 use Rattle.play_stepping.specs.EventSteps.Stepping.{ComesAs, IsStepped, outcome_of}
@@ -89,8 +89,8 @@ module _ {K V S : Type 0} (same : K → K → Bool) (hash : K → ℕ) (name : �
   pub outcome_so : played.outcome ≡ outcome_of by (kind_of c.call) value step.said
   outcome_so =
       step.outcome_is ∙ ap (λ (k : Known). outcome_of k step.caller.kind value step.said) noted
-      ∙ ap (λ (k : Kind). outcome_of by k value step.said)
-      (ap (λ (x : Caller V). x.kind) (caller_is same hash name terms log event beginning map i c place n mid played.effects.items p new come its) ∙ come.kind)
+      ∙ ap (λ (k : CallKind). outcome_of by k value step.said)
+      (ap (λ (x : NamedCaller V). x.kind) (caller_is same hash name terms log event beginning map i c place n mid played.effects.items p new come its) ∙ come.kind)
 
   as_said : (P : Outcome V → Type 0) → P (outcome_of by (kind_of c.call) value step.said) → P played.outcome
   as_said P so = subst P (sym outcome_so) so
@@ -104,7 +104,7 @@ module _ {K V S : Type 0} (same : K → K → Bool) (hash : K → ℕ) (name : �
 
   keeps : KeepsValue c.call c.replies (machine_of come.under) value
   keeps =
-      subst (λ (d : Caller V). KeepsValue c.call c.replies (machine_of come.under) d.value)
+      subst (λ (d : NamedCaller V). KeepsValue c.call c.replies (machine_of come.under) d.value)
       (sym (caller_is same hash name terms log event beginning map i c place n mid played.effects.items p new come its)) come.worth
 
   -- so it is where it comes to what a call does that goes on by itself

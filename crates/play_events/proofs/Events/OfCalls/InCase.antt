@@ -26,7 +26,7 @@ use Rattle.play_stepping.proofs.Given.MomentsAfter.{effects_after}
 use Rattle.run_legal.proofs.CallChanges.{reads_shards}
 use Rattle.play_stepping.proofs.Given.GrowsLimits.Cases.{room_shards, steps_in_case}
 use Rattle.play_stepping.specs.Given.NamedSeen.{Seen, seen}
-use Rattle.play_stepping.specs.Given.ExecutorDeclared.kind.Kind.{Kind}
+use Rattle.play_stepping.specs.Given.ExecutorDeclared.kind.CallKind.{CallKind}
 use Rattle.play_lists.proofs.Given.RowsLists.{both_some, found_alike}
 use Rattle.play_stepping.specs.Given.SchedulerPlayed.{entry_of}
 use Rattle.play_stepping.specs.Given.SchedulerDeclared.played.Played.{Played}
@@ -40,7 +40,7 @@ use Rattle.play_stepping.specs.Given.ExecutorIsThere.{held_by}
 use Rattle.run_schedules.specs.Schedules.Transition.{past}
 
 -- what is told as a refusal was said as one
-refused_said : {K V : Type 0} (by : Known) (kind : Kind) (value : Option V) (said : Progress (Node K V)) (fault : Fault) → outcome_of by kind value said ≡ Refused fault → said ≡ progress.Refused fault
+refused_said : {K V : Type 0} (by : Known) (kind : CallKind) (value : Option V) (said : Progress (Node K V)) (fault : Fault) → outcome_of by kind value said ≡ Refused fault → said ≡ progress.Refused fault
 refused_said by kind value (progress.Refused other) fault is = (let same : other ≡ fault = cc is in ap (λ (f : Fault). progress.Refused f) same)
 refused_said by kind value progress.Goes fault is = absurd (cc is)
 refused_said by kind value progress.Waits fault is = absurd (cc is)

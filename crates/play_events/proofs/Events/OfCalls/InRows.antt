@@ -10,8 +10,8 @@ use Rattle.play_stepping.specs.Given.SeizeDeclared.rows.settle.Settle.{Settle}
 use Rattle.play_stepping.specs.Given.SeizeDeclared.rows.settle.Settled.{Settled}
 use Rattle.play_stepping.specs.Given.SeizeDeclared.rows.settle.Settled.TheVariants as settled
 use Rattle.play_stepping.specs.Given.SeizeDeclared.rows.defer.Defer.{Defer}
-use Rattle.play_stepping.specs.Given.SeizeDeclared.progress.Progress.{Progress}
-use Rattle.play_stepping.specs.Given.SeizeDeclared.progress.Progress.TheVariants as progress
+use Rattle.play_stepping.specs.Given.SeizeDeclared.advance.Advance.{Advance}
+use Rattle.play_stepping.specs.Given.SeizeDeclared.advance.Advance.TheVariants as progress
 use Rattle.seize_acts.specs.Given.SeizeAloneAlone.{TakesSteps}
 use Rattle.play_lists.specs.Given.TablesNodes.{deferred_word}
 use Rattle.play_lists.specs.Given.TablesDeclared.node.Node.{Node}
@@ -65,13 +65,13 @@ module _ {T : Type 0} (defers : T → Option ℕ) (i t : ℕ) where
   settles_share w c m (d, settled.Waits) = subst IsShared (sym (at_same w.row i (Settles d) i refl)) tt
   settles_share w c m (d, settled.Gave value) = subst IsShared (sym (at_same w.row i (Settles d) i refl)) tt
 
-  defers_back : (w : World T) (s : ℕ) (m : Mem T) (end : Defer × Progress Unit) → IsInside ((defers_on w i s m end).uses t) → IsInside (w.uses t)
+  defers_back : (w : World T) (s : ℕ) (m : Mem T) (end : Defer × Advance Unit) → IsInside ((defers_on w i s m end).uses t) → IsInside (w.uses t)
   defers_back w s m (d, progress.Done u) h = back_use w.uses s (one_less (w.uses s)) (less_inside (w.uses s)) h
   defers_back w s m (d, progress.Goes) h = h
   defers_back w s m (d, progress.Waits) h = h
   defers_back w s m (d, progress.Refused fault) h = h
 
-  defers_share : (w : World T) (s : ℕ) (m : Mem T) (end : Defer × Progress Unit) → IsShared ((defers_on w i s m end).row i)
+  defers_share : (w : World T) (s : ℕ) (m : Mem T) (end : Defer × Advance Unit) → IsShared ((defers_on w i s m end).row i)
   defers_share w s m (d, progress.Done u) = subst IsShared (sym (at_same w.row i Rests i refl)) tt
   defers_share w s m (d, progress.Goes) = subst IsShared (sym (at_same w.row i (Defers s d) i refl)) tt
   defers_share w s m (d, progress.Waits) = subst IsShared (sym (at_same w.row i (Defers s d) i refl)) tt

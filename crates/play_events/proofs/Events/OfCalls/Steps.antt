@@ -48,7 +48,7 @@ use Rattle.play_lists.specs.Given.LoggedShown.{IsShown}
 use Rattle.play_lists.proofs.Given.RowsLists.{both_some, found_alike, set_get, set_count}
 use Rattle.play_stepping.specs.Given.NamedSeen.{Seen, kind_of, seen, is_named}
 use Rattle.play_stepping.specs.Given.NamedTelling.{goes_on}
-use Rattle.play_stepping.specs.Given.ExecutorDeclared.caller.Caller.{Caller}
+use Rattle.play_stepping.specs.Given.ExecutorDeclared.caller.NamedCaller.{NamedCaller}
 use Rattle.play_stepping.specs.Given.SchedulerDeclared.scheduler.Scheduler.{Scheduler}
 use Rattle.play_stepping.proofs.Given.SchedulerRanOn.{there_stays}
 use Rattle.play_stepping.specs.EventSteps.Stepping.{GoneFor, IsStepOf, IsStepped, WalkedFor, caller_then, far_then, outcome_of}
@@ -56,7 +56,7 @@ use Rattle.play_stepping.proofs.Given.QuietAfterEffects.{calls_seen}
 use Rattle.play_stepping.proofs.EventSteps.OneStep.{caller_as, going_not_ended, goes_next, value_then}
 use Rattle.run_kept.specs.Values.Values.{KeepsValue, kept_after}
 use Rattle.run_kept.proofs.Values.Values.{values_go_on}
-use Rattle.play_stepping.specs.Given.ExecutorDeclared.kind.Kind.{Kind}
+use Rattle.play_stepping.specs.Given.ExecutorDeclared.kind.CallKind.{CallKind}
 use Rattle.play_events.specs.Events.OfCalls.{HaveValues, IsWorth, HaveShards}
 use Rattle.play_events.proofs.Events.OfCalls.Worth.{AreWorth, SaidIn, all_gone, all_once, all_set, effects_say, is_worth_then, said_same}
 use Rattle.run_kept.proofs.Given.RemainsSlots.{buckets_grow}
@@ -79,20 +79,20 @@ pub the : {X : Type 0} (a b : X) → Some a ≡ Some b → a ≡ b
 the a b is = cc is
 
 -- who stands at a place has its name
-named_at : {V : Type 0} (name : ℕ → List ℕ) (calls : List (Caller V)) (k : ℕ) (x : Caller V) → slice_get calls k ≡ Some x → AreNamed name calls → name x.number ≡ x.name
+named_at : {V : Type 0} (name : ℕ → List ℕ) (calls : List (NamedCaller V)) (k : ℕ) (x : NamedCaller V) → slice_get calls k ≡ Some x → AreNamed name calls → name x.number ≡ x.name
 named_at {V} name [] k x there all = absurd (cc there)
-named_at {V} name (d ∷ calls) zero x there all = subst (λ (y : Caller V). name y.number ≡ y.name) (the d x there) all.0
+named_at {V} name (d ∷ calls) zero x there all = subst (λ (y : NamedCaller V). name y.number ≡ y.name) (the d x there) all.0
 named_at {V} name (d ∷ calls) (suc k) x there all = named_at name calls k x there all.1
 
 -- what a caller keeps after a step
-value_as : {K V : Type 0} (by : Known) (d : Caller V) (said : Progress (Node K V)) → (caller_then by d said).value ≡ kept_after d.kind said d.value
+value_as : {K V : Type 0} (by : Known) (d : NamedCaller V) (said : Progress (Node K V)) → (caller_then by d said).value ≡ kept_after d.kind said d.value
 value_as by d (progress.Unstored node) = refl
 value_as by d _ = refl
 
 module _ {K V S : Type 0} (same : K → K → Bool) (hash : K → ℕ) where
   -- What a step at a place was, whether its caller was told of it or not.
   pub record IsStep (place : ℕ) (before after : List Effect) (old new : Scheduler K V S) : Type 0 where
-    pub caller : Caller V
+    pub caller : NamedCaller V
     pub at : slice_get old.calls place ≡ Some caller
     pub said : Progress (Node K V)
     pub leads : (name : ℕ → List ℕ) (m : Moment K V) (s : Scene K V) → IsShown same hash name m old.logged s
@@ -110,7 +110,7 @@ module _ {K V S : Type 0} (same : K → K → Bool) (hash : K → ℕ) (name : �
   -- After so many steps, which did this: whose call it is stands at its place, callers have their names, and the event is in its midst in the scene in which the moment shows the executor. The guard
   -- of the call is on the slot of its caller, callers keep their values, and what was handed over was so in order.
   pub record HasCome (steps : ℕ) (did : List Effect) (p : Scheduler K V S) : Type 0 where
-    pub caller : Caller V
+    pub caller : NamedCaller V
     pub at : slice_get p.calls place ≡ Some caller
     pub number : caller.number ≡ i
     pub on_map : caller.map ≡ map
@@ -143,8 +143,8 @@ module _ {K V S : Type 0} (same : K → K → Bool) (hash : K → ℕ) (name : �
 
     pub leads_at : CallGoesOn same hash name come.now come.scene i map step.said mid after p.logged new.logged
     leads_at =
-        subst (λ (k : ℕ). CallGoesOn same hash name come.now come.scene i k step.said mid after p.logged new.logged) (ap (λ (x : Caller V). x.map) caller_is ∙ come.on_map)
-        (subst (λ (k : ℕ). CallGoesOn same hash name come.now come.scene k step.caller.map step.said mid after p.logged new.logged) (ap (λ (x : Caller V). x.number) caller_is ∙ come.number)
+        subst (λ (k : ℕ). CallGoesOn same hash name come.now come.scene i k step.said mid after p.logged new.logged) (ap (λ (x : NamedCaller V). x.map) caller_is ∙ come.on_map)
+        (subst (λ (k : ℕ). CallGoesOn same hash name come.now come.scene k step.caller.map step.said mid after p.logged new.logged) (ap (λ (x : NamedCaller V). x.number) caller_is ∙ come.number)
         (step.leads name come.now come.scene come.shown))
 
     abbrev pub leads : StepLeads same (λ map. hash) i step.said come.scene (held_by p.logged.executor) (held_by new.logged.executor)
@@ -236,19 +236,19 @@ module _ {K V S : Type 0} (same : K → K → Bool) (hash : K → ℕ) (name : �
     worth_now =
         subst (λ (call : Call K V). KeepsValue call there_now.0.replies (machine_of come.under) step.caller.value) (sym there_now.2)
         (subst (λ (l : List (Option ℕ × Reply V)). KeepsValue c.call l (machine_of come.under) step.caller.value) (sym there_now.3)
-        (subst (λ (d : Caller V). KeepsValue c.call c.replies (machine_of come.under) d.value) (sym caller_is) come.worth))
+        (subst (λ (d : NamedCaller V). KeepsValue c.call c.replies (machine_of come.under) d.value) (sym caller_is) come.worth))
 
     -- others keep their values
     pub others_then : AreWorth (name i) beginning then_scene p.calls
     others_then = by p.calls come.named come.others
       where
-        there : (d : Caller V) → name d.number ≡ d.name → is_named (name i) d ≡ false → (u : UnderWay K V K) → then_scene.calls d.map d.number ≡ Some u → come.scene.calls d.map d.number ≡ Some u
+        there : (d : NamedCaller V) → name d.number ≡ d.name → is_named (name i) d ≡ false → (u : UnderWay K V K) → then_scene.calls d.map d.number ≡ Some u → come.scene.calls d.map d.number ≡ Some u
         there d named other u is = elim (which come.scene.calls map i (leads map come.under its_here).4.next d.map d.number u is) as (λ _. come.scene.calls d.map d.number ≡ Some u) [
           | inl own ↦ absurd (let yes = ap (λ (x : List ℕ). is_same x (name i)) (sym named ∙ ap name own.1) ∙ is_same_refl (name i) in cc (other, yes))
           | inr had ↦ had.1
         ]
 
-        by : (ds : List (Caller V)) → AreNamed name ds → AreWorth (name i) beginning come.scene ds → AreWorth (name i) beginning then_scene ds
+        by : (ds : List (NamedCaller V)) → AreNamed name ds → AreWorth (name i) beginning come.scene ds → AreWorth (name i) beginning then_scene ds
         by [] named all = tt
         by (d ∷ ds) named all =
             (λ other. is_worth_then beginning beginning (said_same beginning.calls) come.scene then_scene d (λ u is. there d named.0 other u is) (all.0 other), by ds named.1 all.1)
@@ -275,7 +275,7 @@ module _ {K V S : Type 0} (same : K → K → Bool) (hash : K → ℕ) (name : �
         step.said leads mid beginning come.midst.worked come.hands
 
     -- where it goes on it has come one step further, if callers have their names then
-    module _ (none : ShowsNone step.said) (on : has_ended step.said ≡ false) (then_caller : Caller V) (there : slice_get new.calls place ≡ Some then_caller)
+    module _ (none : ShowsNone step.said) (on : has_ended step.said ≡ false) (then_caller : NamedCaller V) (there : slice_get new.calls place ≡ Some then_caller)
         (number : then_caller.number ≡ step.caller.number) (on_map : then_caller.map ≡ step.caller.map) (kind : then_caller.kind ≡ step.caller.kind) (named : AreNamed name new.calls)
         (value : then_caller.value ≡ kept_after step.caller.kind step.said step.caller.value) (once : length (filter (is_named (name i)) new.calls) ≤ 1) (others : AreWorth (name i) beginning then_scene new.calls) where
       next : (x : UnderWay K V K) × ((leads map come.under its_here).4.next ≡ Some x)
@@ -284,16 +284,16 @@ module _ {K V S : Type 0} (same : K → K → Bool) (hash : K → ℕ) (name : �
       worth_on : KeepsValue c.call c.replies (machine_of next.0) then_caller.value
       worth_on =
           subst (λ (v : Option V). KeepsValue c.call c.replies (machine_of next.0) v)
-          (sym (value ∙ ap (λ (k : Kind). kept_after k step.said step.caller.value) (ap (λ (x : Caller V). x.kind) caller_is ∙ come.kind)))
+          (sym (value ∙ ap (λ (k : CallKind). kept_after k step.said step.caller.value) (ap (λ (x : NamedCaller V). x.kind) caller_is ∙ come.kind)))
           (worth_then next.0 next.1)
 
       pub come_on : HasCome (n + 1) after new
       come_on = subst (λ (fs : List Effect). HasCome (n + 1) fs new) (sym follows) (record {
         caller = then_caller;
         at = there;
-        number = number ∙ ap (λ (x : Caller V). x.number) caller_is ∙ come.number;
-        on_map = on_map ∙ ap (λ (x : Caller V). x.map) caller_is ∙ come.on_map;
-        kind = kind ∙ ap (λ (x : Caller V). x.kind) caller_is ∙ come.kind;
+        number = number ∙ ap (λ (x : NamedCaller V). x.number) caller_is ∙ come.number;
+        on_map = on_map ∙ ap (λ (x : NamedCaller V). x.map) caller_is ∙ come.on_map;
+        kind = kind ∙ ap (λ (x : NamedCaller V). x.kind) caller_is ∙ come.kind;
         named = named;
         size = size_then;
         shards = shards_then;
@@ -318,7 +318,7 @@ module _ {K V S : Type 0} (same : K → K → Bool) (hash : K → ℕ) (name : �
 
   -- one of which its caller was told
   module _ (n : ℕ) (mid after : List Effect) (p new : Scheduler K V S) (outcome : Outcome V) (come : HasCome n mid p) (step : IsStepped same hash place outcome mid after p new) where
-    abbrev calls : List (Caller V)
+    abbrev calls : List (NamedCaller V)
     calls = p.calls
 
     -- callers have their names still, whether it has ended or not
@@ -328,7 +328,7 @@ module _ {K V S : Type 0} (same : K → K → Bool) (hash : K → ℕ) (name : �
         (by (has_ended step.said))
       where
         its : name (caller_then (known new.logged.notes) step.caller step.said).number ≡ (caller_then (known new.logged.notes) step.caller step.said).name
-        its = subst (λ (x : Caller V). name x.number ≡ x.name) (sym (caller_as (known new.logged.notes) step.caller step.said)) (named_at name calls place step.caller step.at come.named)
+        its = subst (λ (x : NamedCaller V). name x.number ≡ x.name) (sym (caller_as (known new.logged.notes) step.caller step.said)) (named_at name calls place step.caller step.at come.named)
 
         by : (q : Bool) → AreNamed name (if q then remove calls place else slice_set calls place (caller_then (known new.logged.notes) step.caller step.said))
         by true = named_left name calls place come.named
@@ -338,13 +338,13 @@ module _ {K V S : Type 0} (same : K → K → Bool) (hash : K → ℕ) (name : �
     its_named : is_named (name i) step.caller ≡ true
     its_named =
         ap (λ (x : List ℕ). is_same x (name i))
-        (sym (named_at name calls place step.caller step.at come.named) ∙ ap name (ap (λ (x : Caller V). x.number) (caller_is n mid after p new come (as_told same hash step)) ∙ come.number))
+        (sym (named_at name calls place step.caller step.at come.named) ∙ ap name (ap (λ (x : NamedCaller V). x.number) (caller_is n mid after p new come (as_told same hash step)) ∙ come.number))
         ∙ is_same_refl (name i)
 
     abbrev then_at : Scene K V
     then_at = then_scene n mid after p new come (as_told same hash step)
 
-    abbrev set_caller : Caller V
+    abbrev set_caller : NamedCaller V
     set_caller = caller_then (known new.logged.notes) step.caller step.said
 
     set_named : is_named (name i) set_caller ≡ true
@@ -352,7 +352,7 @@ module _ {K V S : Type 0} (same : K → K → Bool) (hash : K → ℕ) (name : �
 
     others_set : AreWorth (name i) beginning then_at (slice_set calls place set_caller)
     others_set =
-        all_set (λ (d : Caller V). is_named (name i) d ≡ false → IsWorth beginning then_at d) calls place set_caller (λ other. absurd (let no = set_named in cc (other, no)))
+        all_set (λ (d : NamedCaller V). is_named (name i) d ≡ false → IsWorth beginning then_at d) calls place set_caller (λ other. absurd (let no = set_named in cc (other, no)))
         (others_then n mid after p new come (as_told same hash step))
 
     once_set : length (filter (is_named (name i)) (slice_set calls place set_caller)) ≤ 1
@@ -365,16 +365,16 @@ module _ {K V S : Type 0} (same : K → K → Bool) (hash : K → ℕ) (name : �
       where
         map_so : set_caller.map ≡ map
         map_so =
-            ap (λ (x : Caller V). x.map) (caller_as (known new.logged.notes) step.caller step.said) ∙ ap (λ (x : Caller V). x.map) (caller_is n mid after p new come (as_told same hash step)) ∙ come.on_map
+            ap (λ (x : NamedCaller V). x.map) (caller_as (known new.logged.notes) step.caller step.said) ∙ ap (λ (x : NamedCaller V). x.map) (caller_is n mid after p new come (as_told same hash step)) ∙ come.on_map
 
         number_so : set_caller.number ≡ i
         number_so =
-            ap (λ (x : Caller V). x.number) (caller_as (known new.logged.notes) step.caller step.said) ∙ ap (λ (x : Caller V). x.number) (caller_is n mid after p new come (as_told same hash step)) ∙ come.number
+            ap (λ (x : NamedCaller V). x.number) (caller_as (known new.logged.notes) step.caller step.said) ∙ ap (λ (x : NamedCaller V). x.number) (caller_is n mid after p new come (as_told same hash step)) ∙ come.number
 
         value_so : set_caller.value ≡ kept_after (kind_of c.call) step.said step.caller.value
         value_so =
             value_as (known new.logged.notes) step.caller step.said
-            ∙ ap (λ (k : Kind). kept_after k step.said step.caller.value) (ap (λ (x : Caller V). x.kind) (caller_is n mid after p new come (as_told same hash step)) ∙ come.kind)
+            ∙ ap (λ (k : CallKind). kept_after k step.said step.caller.value) (ap (λ (x : NamedCaller V). x.kind) (caller_is n mid after p new come (as_told same hash step)) ∙ come.kind)
 
         own : IsWorth beginning then_at set_caller
         own u here d is =
@@ -398,13 +398,13 @@ module _ {K V S : Type 0} (same : K → K → Bool) (hash : K → ℕ) (name : �
       not_ended : has_ended step.said ≡ false
       not_ended = going_not_ended (known new.logged.notes) step.caller.kind step.caller.value step.said said_on
 
-      abbrev then_caller : Caller V
+      abbrev then_caller : NamedCaller V
       then_caller = record step.caller { stands = far_then (known new.logged.notes) step.said; value = value_then (known new.logged.notes) step.caller.kind step.caller.value step.said }
 
       set_so : new.calls ≡ slice_set calls place then_caller
       set_so =
           step.calls ∙ ap (λ (q : Bool). if q then remove calls place else slice_set calls place (caller_then (known new.logged.notes) step.caller step.said)) not_ended
-          ∙ ap (λ (x : Caller V). slice_set calls place x) (caller_as (known new.logged.notes) step.caller step.said)
+          ∙ ap (λ (x : NamedCaller V). slice_set calls place x) (caller_as (known new.logged.notes) step.caller step.said)
 
       set_now : new.calls ≡ slice_set calls place set_caller
       set_now = step.calls ∙ ap (λ (q : Bool). if q then remove calls place else slice_set calls place set_caller) not_ended
@@ -412,9 +412,9 @@ module _ {K V S : Type 0} (same : K → K → Bool) (hash : K → ℕ) (name : �
       further : HasCome (n + 1) after new
       further =
           come_on n mid after p new come (as_told same hash step) (shows_none (known new.logged.notes) step.caller.kind step.caller.value step.said said_on) not_ended then_caller
-          (ap (λ (l : List (Caller V)). slice_get l place) set_so ∙ set_get calls place step.caller then_caller step.at) refl refl refl named_then
-          (ap (λ (x : Caller V). x.value) (sym (caller_as (known new.logged.notes) step.caller step.said)) ∙ value_as (known new.logged.notes) step.caller step.said)
-          (subst (λ (l : List (Caller V)). length (filter (is_named (name i)) l) ≤ 1) (sym set_now) once_set) (subst (AreWorth (name i) beginning then_at) (sym set_now) others_set)
+          (ap (λ (l : List (NamedCaller V)). slice_get l place) set_so ∙ set_get calls place step.caller then_caller step.at) refl refl refl named_then
+          (ap (λ (x : NamedCaller V). x.value) (sym (caller_as (known new.logged.notes) step.caller step.said)) ∙ value_as (known new.logged.notes) step.caller step.said)
+          (subst (λ (l : List (NamedCaller V)). length (filter (is_named (name i)) l) ≤ 1) (sym set_now) once_set) (subst (AreWorth (name i) beginning then_at) (sym set_now) others_set)
 
   -- one of a walk that was asked for its next pair, which just goes on
   walked_further : (n : ℕ) (mid after : List Effect) (p new : Scheduler K V S) → HasCome n mid p → IsStepOf same hash place progress.Goes mid after p new → HasCome (n + 1) after new

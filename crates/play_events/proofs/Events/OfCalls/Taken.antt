@@ -35,7 +35,7 @@ use Rattle.play_stepping.proofs.Given.SchedulerHeldTold.{its_guard}
 use Rattle.play_stepping.proofs.Given.SchedulerHere.{Here, here_at}
 use Rattle.play_stepping.specs.EventSteps.Stepping.{ComesAs, ComesBy, ComesInCase, StepsCome}
 use Rattle.play_stepping.proofs.EventSteps.RightSteps.{not_busy as never_busy}
-use Rattle.play_stepping.specs.Given.ExecutorDeclared.caller.Caller.{Caller}
+use Rattle.play_stepping.specs.Given.ExecutorDeclared.caller.NamedCaller.{NamedCaller}
 use Rattle.play_lists.proofs.Given.RowsLists.{all_so, found_has}
 use Rattle.play_events.proofs.Events.OfCalls.Worth.{TellsNone}
 use Rattle.play_events.specs.Events.OfCalls.{IsWorth, Runs, RunsOn}
@@ -117,8 +117,8 @@ module _ {K V S : Type 0} (same : K → K → Bool) (hash : K → ℕ) (terms : 
     slot = slot_is;
     c_is = c_is;
     once = subst (λ (x : List ℕ). length (filter (is_named x) old.calls) ≤ 1) (sym name_is) (runs.stands.calls.once own);
-    worth = found_has (λ (d : Caller V). IsWorth m runs.stands.scene d) (is_named own) old.calls here.caller here.found runs.values u under c (ap (λ (x : List ℕ). call_of x m) here.named ∙ here.call_is);
-    others = all_so (λ (d : Caller V). IsWorth m runs.stands.scene d) (λ (d : Caller V). is_named (name i) d ≡ false → IsWorth m runs.stands.scene d) (λ d worth other. worth) old.calls runs.values;
+    worth = found_has (λ (d : NamedCaller V). IsWorth m runs.stands.scene d) (is_named own) old.calls here.caller here.found runs.values u under c (ap (λ (x : List ℕ). call_of x m) here.named ∙ here.call_is);
+    others = all_so (λ (d : NamedCaller V). IsWorth m runs.stands.scene d) (λ (d : NamedCaller V). is_named (name i) d ≡ false → IsWorth m runs.stands.scene d) (λ d worth other. worth) old.calls runs.values;
     midst = call_events_begin_so K V same (λ map. hash) name terms log m (refl, refl) refl refl refl refl refl runs.shows.tableless (known old.logged.notes) runs.stands.scene (held_by old.logged.executor) runs.stands.shown.is_at.held runs.shows.calls
         runs.shows.reading runs.shows.sections runs.shows.follows event map i (of_call ∙ ap Some (sym name_is)) u under c c_is
         (λ alone j goes. only_its_row same hash terms log old runs.stands event own speaks alone map i u under name_is j goes);

@@ -5,7 +5,7 @@ use Rattle.std.proofs.Common.{refl, ap, sym, subst, ◌∙◌, inl, inr}
 use Rattle.std.specs.List.{AllByRecursion}
 use Rattle.run_schedules.specs.Runs.Same.{is_same}
 use Rattle.play_stepping.specs.Given.RawMachine.{machine_replied}
-use Rattle.play_stepping.specs.Given.RawDeclared.machines.asking.Reply.{Reply as MachineReply}
+use Rattle.play_stepping.specs.Given.RawDeclared.machines.asking.MachineReply.{MachineReply}
 use Rattle.run_schedules.specs.declared.call.Call.TheVariants.{On}
 use Rattle.run_schedules.specs.declared.call.OneKey.{OneKey}
 use Rattle.run_schedules.specs.declared.call.OneKey.TheVariants.{Compute, RemoveIf}
@@ -41,10 +41,10 @@ use Rattle.play_lists.specs.Given.LoggedShown.{IsCounted}
 use Rattle.play_stepping.specs.Given.NamedMachines.{IsAsFar}
 use Rattle.play_stepping.specs.Given.SchedulerPlayed.{HasReplied, HasStopped, IsPlayed}
 use Rattle.play_stepping.specs.Given.NamedSeen.{Seen, asks, fits, is_named, is_ready as is_ready_there, kind_of, kind_on, takes}
-use Rattle.play_stepping.specs.Given.ExecutorDeclared.caller.Caller.{Caller}
+use Rattle.play_stepping.specs.Given.ExecutorDeclared.caller.NamedCaller.{NamedCaller}
 use Rattle.play_stepping.specs.Given.ExecutorDeclared.caller.Stands.{Stands as HowFar}
 use Rattle.play_stepping.specs.Given.ExecutorDeclared.caller.Stands.TheVariants as far
-use Rattle.play_stepping.specs.Given.ExecutorDeclared.kind.Kind.{Kind}
+use Rattle.play_stepping.specs.Given.ExecutorDeclared.kind.CallKind.{CallKind}
 use Rattle.play_stepping.specs.Given.SchedulerDeclared.scheduler.Scheduler.{Scheduler}
 use Rattle.play_stepping.proofs.Given.SchedulerHere.{Here, here_at, read_here}
 use Rattle.play_stepping.proofs.Given.SchedulerReplied.{asks_what, far_asks}
@@ -139,7 +139,7 @@ module _ {K V S : Type 0} (same : K → K → Bool) (hash : K → ℕ) (terms : 
     abbrev here : Here same hash terms m old runs.stands own has.place
     here = here_at same hash terms m old runs.stands own has.place has.placed
 
-    abbrev d : Caller V
+    abbrev d : NamedCaller V
     d = here.caller
 
     abbrev u : UnderWay K V K
@@ -149,7 +149,7 @@ module _ {K V S : Type 0} (same : K → K → Bool) (hash : K → ℕ) (terms : 
     name_is = here.way.2 ∙ here.named
 
     takes_it : takes d reply ≡ true
-    takes_it = ap (λ (x : Caller V). takes x reply) (sym (read_here same hash terms m old runs.stands own has.place here has.asked has.reads)) ∙ has.taken
+    takes_it = ap (λ (x : NamedCaller V). takes x reply) (sym (read_here same hash terms m old runs.stands own has.place here has.asked has.reads)) ∙ has.taken
 
     parts : (asks d.stands ≡ true) × (fits d.kind reply ≡ true)
     parts = both (asks d.stands) (fits d.kind reply) takes_it
@@ -163,7 +163,7 @@ module _ {K V S : Type 0} (same : K → K → Bool) (hash : K → ℕ) (terms : 
     leads : RepliesThere same hash d.number (as_told reply) has.result s old.logged.executor new.logged.executor
     leads =
         subst (λ (t : MachineReply V). RepliesThere same hash d.number t has.result s old.logged.executor new.logged.executor) has.is_told
-        (subst (λ (x : Caller V). RepliesThere same hash x.number has.as_it has.result s old.logged.executor new.logged.executor)
+        (subst (λ (x : NamedCaller V). RepliesThere same hash x.number has.as_it has.result s old.logged.executor new.logged.executor)
         (read_here same hash terms m old runs.stands own has.place here has.whose has.reads_whose) (has.leads s runs.stands.shown.is_at))
 
     abbrev t : Scene K V
@@ -173,12 +173,12 @@ module _ {K V S : Type 0} (same : K → K → Bool) (hash : K → ℕ) (terms : 
     takes_ok = sym (leads.1 d.map u here.way.1).4 ∙ plain_ok has.result has.plain
 
     taken : (one : OneKey K V) → here.call.call ≡ On one → IsTaken one reply
-    taken one is = taken_by one reply (sym (ap (λ (k : Kind). fits k reply) (sym (ap (λ (z : Seen). z.kind) here.as_seen) ∙ ap kind_of is)) ∙ parts.1)
+    taken one is = taken_by one reply (sym (ap (λ (k : CallKind). fits k reply) (sym (ap (λ (z : Seen). z.kind) here.as_seen) ∙ ap kind_of is)) ∙ parts.1)
 
     abbrev e : List ℕ → Entry K V
     e x = quiet (Replied x reply) Goes
 
-    abbrev told_caller : Caller V
+    abbrev told_caller : NamedCaller V
     told_caller = record d { stands = far.Goes; value = has.value }
 
     call_then : call_of own (moment (e own ∷ log)) ≡ Some (record here.call { stands = IsTold; replies = (question.0, reply) ∷ here.call.replies })
@@ -196,12 +196,12 @@ module _ {K V S : Type 0} (same : K → K → Bool) (hash : K → ℕ) (terms : 
               (subst (λ (v : Option V). KeepsValue here.call.call ((question.0, reply) ∷ here.call.replies) (machine_replied (machine_of u) (as_told reply)).0 v) (sym has.value_is)
               (values_taken K V same (λ map. hash) name m (known old.logged.notes) s (held_by old.logged.executor) runs.stands.shown.is_at.held runs.stands.shown.shows d.map d.number u here.way.1 (leads.1 d.map u here.way.1).0
               (leads.1 d.map u here.way.1).2 here.call (ap (λ (l : List ℕ). call_of l m) name_is ∙ here.call_is) question.0 asking reply takes_ok d.value
-              (found_has (λ (z : Caller V). IsWorth m s z) (is_named own) old.calls d here.found runs.values u here.way.1 here.call (ap (λ (l : List ℕ). call_of l m) here.named ∙ here.call_is))))))
+              (found_has (λ (z : NamedCaller V). IsWorth m s z) (is_named own) old.calls d here.found runs.values u here.way.1 here.call (ap (λ (l : List ℕ). call_of l m) here.named ∙ here.call_is))))))
           | inr apart ↦ absurd (apart.0 refl refl)
         ]
 
     -- and others theirs
-    other_worth : (z : Caller V) → is_named own z ≡ false → (name z.number ≡ z.name) × IsWorth m s z → IsWorth (moment (e own ∷ log)) t z
+    other_worth : (z : NamedCaller V) → is_named own z ≡ false → (name z.number ≡ z.name) × IsWorth m s z → IsWorth (moment (e own ∷ log)) t z
     other_worth z other (named, worth) x there c is =
         worth x
         (elim (which s.calls d.map d.number (Some (leads.1 d.map u here.way.1).1) z.map z.number x there) as (λ _. s.calls z.map z.number ≡ Some x) [
@@ -213,10 +213,10 @@ module _ {K V S : Type 0} (same : K → K → Bool) (hash : K → ℕ) (terms : 
     values_told =
         subst (HaveValues (moment (e own ∷ log)) t) (sym (has.calls d here.at))
         (subst (λ (n : ℕ). HaveValues (moment (e own ∷ log)) t (slice_set old.calls n told_caller)) (sym here.first)
-        (set_all (λ (z : Caller V). (name z.number ≡ z.name) × IsWorth m s z) (IsWorth (moment (e own ∷ log)) t) (is_named own) told_caller own_worth other_worth old.calls
+        (set_all (λ (z : NamedCaller V). (name z.number ≡ z.name) × IsWorth m s z) (IsWorth (moment (e own ∷ log)) t) (is_named own) told_caller own_worth other_worth old.calls
         (both_all old.calls (its_named same hash terms m old runs.stands) runs.values) (runs.stands.calls.once own)))
       where
-        both_all : (ds : List (Caller V)) → AreNamed name ds → HaveValues m s ds → AllByRecursion (λ (z : Caller V). (name z.number ≡ z.name) × IsWorth m s z) ds
+        both_all : (ds : List (NamedCaller V)) → AreNamed name ds → HaveValues m s ds → AllByRecursion (λ (z : NamedCaller V). (name z.number ≡ z.name) × IsWorth m s z) ds
         both_all [] named all = tt
         both_all (z ∷ ds) named all = ((named.0, all.0), both_all ds named.1 all.1)
 
@@ -238,7 +238,7 @@ module _ {K V S : Type 0} (same : K → K → Bool) (hash : K → ℕ) (terms : 
     abbrev there : Here same hash terms m old runs.stands own has.place
     there = here_at same hash terms m old runs.stands own has.place placed.0
 
-    abbrev its : Caller V
+    abbrev its : NamedCaller V
     its = there.caller
 
     named_so : name its.number ≡ own
@@ -248,7 +248,7 @@ module _ {K V S : Type 0} (same : K → K → Bool) (hash : K → ℕ) (terms : 
     far_is = shows_is its.stands (sym (ap is_ready_there there.at) ∙ placed.1)
 
     led : StopsThere same hash its.number has.stopped s old.logged.executor new.logged.executor
-    led = subst (λ (x : Caller V). StopsThere same hash x.number has.stopped s old.logged.executor new.logged.executor)
+    led = subst (λ (x : NamedCaller V). StopsThere same hash x.number has.stopped s old.logged.executor new.logged.executor)
         (read_here same hash terms m old runs.stands own has.place there has.whose has.reads) (has.leads s runs.stands.shown.is_at)
 
     is_stopped : has.stopped ≡ true
@@ -277,12 +277,12 @@ module _ {K V S : Type 0} (same : K → K → Bool) (hash : K → ℕ) (terms : 
 
     values_stopped : HaveValues (moment (f own ∷ log)) after new.calls
     values_stopped =
-        subst (λ (cs : List (Caller V)). HaveValues (moment (f own ∷ log)) after cs) (sym has.calls)
+        subst (λ (cs : List (NamedCaller V)). HaveValues (moment (f own ∷ log)) after cs) (sym has.calls)
         (all_left (IsWorth (moment (f own ∷ log)) after) old.calls has.place
         (all_so (IsWorth m s) (IsWorth (moment (f own ∷ log)) after)
         (λ z worth. is_worth_then m (moment (f own ∷ log)) (event_says (f own) m tt) s after z (λ x is. there_still z x is) worth) old.calls runs.values))
       where
-        there_still : (z : Caller V) (x : UnderWay K V K) → after.calls z.map z.number ≡ Some x → s.calls z.map z.number ≡ Some x
+        there_still : (z : NamedCaller V) (x : UnderWay K V K) → after.calls z.map z.number ≡ Some x → s.calls z.map z.number ≡ Some x
         there_still z x is = elim (which s.calls its.map its.number None z.map z.number x is) as (λ _. s.calls z.map z.number ≡ Some x) [
           | inl at ↦ absurd (let none = at.2 in cc none)
           | inr apart ↦ apart.1

@@ -53,10 +53,10 @@ use Rattle.play_lists.specs.Given.LoggedShown.{IsCounted, IsShown}
 use Rattle.play_stepping.specs.Given.NamedMachines.{IsAsFar}
 use Rattle.play_stepping.specs.Given.NamedSeen.{Seen, is_named, is_ready as is_ready_there, kind_of, ready_place}
 use Rattle.play_stepping.specs.Given.NamedTelling.{answer_of, number_by}
-use Rattle.play_stepping.specs.Given.ExecutorDeclared.caller.Caller.{Caller}
+use Rattle.play_stepping.specs.Given.ExecutorDeclared.caller.NamedCaller.{NamedCaller}
 use Rattle.play_stepping.specs.Given.ExecutorDeclared.caller.Stands.{Stands as HowFar}
 use Rattle.play_stepping.specs.Given.ExecutorDeclared.caller.Stands.TheVariants as far
-use Rattle.play_stepping.specs.Given.ExecutorDeclared.kind.Kind.TheVariants as kind
+use Rattle.play_stepping.specs.Given.ExecutorDeclared.kind.CallKind.TheVariants as kind
 use Rattle.play_stepping.specs.Given.SchedulerPlayed.{IsPlayed, entry_of}
 use Rattle.play_stepping.specs.Given.SchedulerDeclared.played.Played.{Played}
 use Rattle.play_stepping.specs.Given.SchedulerDeclared.scheduler.Scheduler.{Scheduler}
@@ -139,7 +139,7 @@ module _ {K V S : Type 0} (same : K → K → Bool) (hash : K → ℕ) (terms : 
   abbrev here : Here same hash terms m old runs.stands own place
   here = here_at same hash terms m old runs.stands own place parts.0
 
-  abbrev d : Caller V
+  abbrev d : NamedCaller V
   d = here.caller
 
   abbrev i : ℕ
@@ -191,7 +191,7 @@ module _ {K V S : Type 0} (same : K → K → Bool) (hash : K → ℕ) (terms : 
   caller_is = the walked.caller d (sym walked.at ∙ here.at)
 
   asked_so : AsksThere same hash i walked.ready s old.logged.executor walked.asked.executor
-  asked_so = subst (λ (x : Caller V). AsksThere same hash x.number walked.ready s old.logged.executor walked.asked.executor) caller_is (walked.leads s runs.stands.shown.is_at)
+  asked_so = subst (λ (x : NamedCaller V). AsksThere same hash x.number walked.ready s old.logged.executor walked.asked.executor) caller_is (walked.leads s runs.stands.shown.is_at)
 
   is_ready : walked.ready ≡ true
   is_ready = (asked_so.1 map u under).2 ∙ asked_ready d.kind (machine_of u) as_ready
@@ -219,7 +219,7 @@ module _ {K V S : Type 0} (same : K → K → Bool) (hash : K → ℕ) (terms : 
   -- what is counted speaks of no calls
   counted : IsCounted m walked.asked then_at
   counted =
-      let goes = subst (λ (x : Caller V). WalkGoesOn same hash name m s x.number walked.ready old.logged walked.asked) caller_is (walked.goes name m s runs.stands.shown) in
+      let goes = subst (λ (x : NamedCaller V). WalkGoesOn same hash name m s x.number walked.ready old.logged walked.asked) caller_is (walked.goes name m s runs.stands.shown) in
       let it = ((goes map u under).1 is_ready).2.counted in record {
         numbered = it.numbered;
         remains = record {
@@ -243,7 +243,7 @@ module _ {K V S : Type 0} (same : K → K → Bool) (hash : K → ℕ) (terms : 
   }
 
   -- others keep their values
-  others_next : (ds : List (Caller V)) → AreNamed name ds → HaveValues m s ds → AllByRecursion (λ (x : Caller V). is_named (name i) x ≡ false → IsWorth m then_at x) ds
+  others_next : (ds : List (NamedCaller V)) → AreNamed name ds → HaveValues m s ds → AllByRecursion (λ (x : NamedCaller V). is_named (name i) x ≡ false → IsWorth m then_at x) ds
   others_next [] named all = tt
   others_next (x ∷ ds) named all = (
     λ other v there. all.0 v

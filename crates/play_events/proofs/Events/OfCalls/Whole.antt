@@ -33,7 +33,7 @@ use Rattle.run_legal.proofs.CallBegins.{whole_calls_begin}
 use Rattle.play_lists.specs.Given.LoggedShown.{IsShown}
 use Rattle.play_stepping.specs.Given.SchedulerPlayed.{HasBegun, IsPlayed, StandsFor, entry_of}
 use Rattle.play_stepping.specs.Given.NamedSeen.{Seen, is_named}
-use Rattle.play_stepping.specs.Given.ExecutorDeclared.caller.Caller.{Caller}
+use Rattle.play_stepping.specs.Given.ExecutorDeclared.caller.NamedCaller.{NamedCaller}
 use Rattle.play_stepping.specs.Given.SchedulerDeclared.played.Played.{Played}
 use Rattle.play_stepping.specs.Given.SchedulerDeclared.scheduler.Scheduler.{Scheduler}
 use Rattle.play_stepping.proofs.Given.SchedulerHeldTold.{its_guard}
@@ -125,10 +125,10 @@ module _ {K V S : Type 0} (same : K → K → Bool) (hash : K → ℕ) (terms : 
       let yes = ap (is_same led.caller.name) name_is ∙ ap (λ (x : List ℕ). is_same x nameless) (ap (λ (z : Seen). z.name) led.is) in
       let no : is_named (names i) led.caller ≡ true = yes in cc (other, no))
 
-  olds : AllByRecursion (λ (d : Caller V). is_named (names i) d ≡ false → IsWorth m1 (begun.then_at same hash terms log old runs nameless guard on call mid led) d) old.calls
+  olds : AllByRecursion (λ (d : NamedCaller V). is_named (names i) d ≡ false → IsWorth m1 (begun.then_at same hash terms log old runs nameless guard on call mid led) d) old.calls
   olds =
-      all_so (λ (d : Caller V). IsWorth m1 (begun.then_at same hash terms log old runs nameless guard on call mid led) d)
-      (λ (d : Caller V). is_named (names i) d ≡ false → IsWorth m1 (begun.then_at same hash terms log old runs nameless guard on call mid led) d) (λ d worth other. worth) old.calls
+      all_so (λ (d : NamedCaller V). IsWorth m1 (begun.then_at same hash terms log old runs nameless guard on call mid led) d)
+      (λ (d : NamedCaller V). is_named (names i) d ≡ false → IsWorth m1 (begun.then_at same hash terms log old runs nameless guard on call mid led) d) (λ d worth other. worth) old.calls
       (subst (λ (v : Moment K V). HaveValues v (begun.then_at same hash terms log old runs nameless guard on call mid led) old.calls) (sym m1_is)
       (begun.olds_worth same hash terms log old runs nameless guard on call mid led))
 
@@ -138,7 +138,7 @@ module _ {K V S : Type 0} (same : K → K → Bool) (hash : K → ℕ) (terms : 
   pub start : Come
   start = record {
     caller = led.caller;
-    at = ap (λ (l : List (Caller V)). slice_get l 0) led.items;
+    at = ap (λ (l : List (NamedCaller V)). slice_get l 0) led.items;
     number = led.numbered;
     on_map = ap (λ (z : Seen). z.map) led.is;
     kind = ap (λ (z : Seen). z.kind) led.is;
@@ -156,7 +156,7 @@ module _ {K V S : Type 0} (same : K → K → Bool) (hash : K → ℕ) (terms : 
     c_is = c_is;
     once = subst (λ (x : List ℕ). length (filter (is_named x) mid.calls) ≤ 1) (sym name_is) (mid_stands.calls.once nameless);
     worth = begun.own_worth same hash terms log old runs nameless guard on call mid led led.caller.value;
-    others = subst (λ (l : List (Caller V)). AllByRecursion (λ (d : Caller V). is_named (names i) d ≡ false → IsWorth m1 (begun.then_at same hash terms log old runs nameless guard on call mid led) d) l)
+    others = subst (λ (l : List (NamedCaller V)). AllByRecursion (λ (d : NamedCaller V). is_named (names i) d ≡ false → IsWorth m1 (begun.then_at same hash terms log old runs nameless guard on call mid led) d) l)
         (sym led.items) (own_named, olds);
     midst = subst (λ (k : Known). InCallEvent same names terms log event m1 map i c 0 [] m1 k (begun.then_at same hash terms log old runs nameless guard on call mid led)
         (begun.u same hash terms log old runs nameless guard on call mid led)) (sym (begun.notes_here same hash terms log old runs nameless guard on call mid led)) whole.1;

@@ -19,7 +19,7 @@ use Rattle.run_legal.specs.CallRuns.{ShowsAsTold, TellsEnd}
 use Rattle.run_legal.specs.CallSwept.{TellsOf}
 use Rattle.play_stepping.specs.Given.NamedSeen.{kind_of}
 use Rattle.play_stepping.specs.Given.NamedTelling.{goes_on}
-use Rattle.play_stepping.specs.Given.ExecutorDeclared.kind.Kind.{Kind}
+use Rattle.play_stepping.specs.Given.ExecutorDeclared.kind.CallKind.{CallKind}
 use Rattle.play_stepping.specs.EventSteps.Stepping.{ComesAs, outcome_of}
 use Rattle.play_stepping.proofs.EventSteps.OneStep.{ends_as}
 
@@ -29,7 +29,7 @@ not_busy (outcome.Refused Busy) never = absurd (never refl)
 not_busy (outcome.Refused fault) never = refl
 not_busy _ never = refl
 
-module _ {K V : Type 0} (by : Known) (its : Kind) (value : Option V) where
+module _ {K V : Type 0} (by : Known) (its : CallKind) (value : Option V) where
   -- one that goes on by itself shows no pair
   pub shows_none : (said : Progress (Node K V)) → goes_on (outcome_of by its value said) ≡ true → ShowsNone said
   shows_none (progress.Pair word) on = absurd (cc on)

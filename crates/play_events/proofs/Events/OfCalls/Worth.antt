@@ -22,7 +22,7 @@ use Rattle.play_stepping.specs.Given.CallersTogether.{UnderWay}
 use Rattle.run_kept.specs.Given.FinishesMachines.{machine_of}
 use Rattle.run_kept.proofs.Given.FollowsCalling.{apart_back, is_same_is}
 use Rattle.play_stepping.specs.Given.NamedSeen.{is_named}
-use Rattle.play_stepping.specs.Given.ExecutorDeclared.caller.Caller.{Caller}
+use Rattle.play_stepping.specs.Given.ExecutorDeclared.caller.NamedCaller.{NamedCaller}
 use Rattle.play_lists.proofs.Given.RowsLists.{all_but, both_some, found_alike, unseen}
 use Rattle.play_stepping.proofs.Given.SchedulerRights.{quiet}
 use Rattle.run_kept.specs.Values.Values.{KeepsValue}
@@ -102,7 +102,7 @@ pub record Said (K V : Type 0) : Type 0 where
   pub replies : List (Option ℕ × Reply V)
 
 -- each caller of another name keeps its value
-abbrev pub AreWorth : {K V : Type 0} → List ℕ → Moment K V → Scene K V → List (Caller V) → Type 0
+abbrev pub AreWorth : {K V : Type 0} → List ℕ → Moment K V → Scene K V → List (NamedCaller V) → Type 0
 AreWorth own m s calls = AllByRecursion (λ d. is_named own d ≡ false → IsWorth m s d) calls
 
 module _ {K V : Type 0} where
@@ -294,7 +294,7 @@ module _ {K V : Type 0} where
       subst (λ (xs : List (CallThere K V)). SaidIn xs (after (quiet event (Refused Busy)) m).calls) (busy_begins_none event m) (event_says (quiet event (Refused Busy)) m (busy_tells_none event))
 
   -- a caller keeps its value where its machine and what is said of calls are as they were,
-  pub is_worth_then : (m v : Moment K V) → SaidIn m.calls v.calls → (s t : Scene K V) (d : Caller V) → ((u : UnderWay K V K) → t.calls d.map d.number ≡ Some u → s.calls d.map d.number ≡ Some u)
+  pub is_worth_then : (m v : Moment K V) → SaidIn m.calls v.calls → (s t : Scene K V) (d : NamedCaller V) → ((u : UnderWay K V K) → t.calls d.map d.number ≡ Some u → s.calls d.map d.number ≡ Some u)
       → IsWorth m s d → IsWorth v t d
   is_worth_then m v said s t d there worth u here c is =
       let was = said d.name c is in
@@ -302,7 +302,7 @@ module _ {K V : Type 0} where
       (subst (λ (x : Call K V). KeepsValue x was.0.replies (machine_of u) d.value) was.2 (worth u (there u here) was.0 was.1))
 
   -- and all do
-  pub have_values_then : (m v : Moment K V) → SaidIn m.calls v.calls → (s t : Scene K V) → t.calls ≡ s.calls → (calls : List (Caller V)) → HaveValues m s calls → HaveValues v t calls
+  pub have_values_then : (m v : Moment K V) → SaidIn m.calls v.calls → (s t : Scene K V) → t.calls ≡ s.calls → (calls : List (NamedCaller V)) → HaveValues m s calls → HaveValues v t calls
   have_values_then m v said s t there [] all = tt
   have_values_then m v said s t there (d ∷ calls) all =
       (is_worth_then m v said s t d (λ u here. sym (ap (λ (f : ℕ → ℕ → Option (UnderWay K V K)). f d.map d.number) there) ∙ here) all.0, have_values_then m v said s t there calls all.1)

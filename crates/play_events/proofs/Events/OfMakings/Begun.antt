@@ -2,7 +2,7 @@
 use Rattle.std.specs.Prelude.{◌≡◌, ◌<◌, ◌+◌, ◌^◌, ℕ, Bool, List, Some, None}
 use Rattle.std.specs.Int.{IsPowerOfTwo}
 use Rattle.std.proofs.Common.{sym, subst, arith}
-use Rattle.play_stepping.specs.Given.SeizeDeclared.progress.Progress.{Progress}
+use Rattle.play_stepping.specs.Given.SeizeDeclared.advance.Advance.{Advance}
 use Rattle.play_stepping.specs.Given.SeizeWorld.{with_at}
 use Rattle.play_lists.specs.Given.TablesDeclared.resize_mode.ResizeMode.{ResizeMode}
 use Rattle.play_lists.specs.Given.TablesDeclared.setting.Setting.{Setting}
@@ -20,7 +20,7 @@ use Rattle.play_stepping.proofs.Given.ExecutorFresh.{no_making_yet}
 use Rattle.play_stepping.specs.Given.ExecutorMakingBegins.{next_making}
 use Rattle.run_kept.specs.Given.ScenesScene.{Scene}
 
-module _ {K V S : Type 0} {same : K → K → Bool} {hash : K → ℕ} {terms : Terms} {log : List (Entry K V)} {own : List ℕ} {mode : ResizeMode} {capacity : ℕ} {told : Progress Setting} {played : Played V}
+module _ {K V S : Type 0} {same : K → K → Bool} {hash : K → ℕ} {terms : Terms} {log : List (Entry K V)} {own : List ℕ} {mode : ResizeMode} {capacity : ℕ} {told : Advance Setting} {played : Played V}
     {old new : Scheduler K V S} (run : Runs same hash terms log old) (holds : Holds same hash terms (moment log) old) (d : MakingHasRun played old new own mode capacity told) where
   abbrev pub begun_as : Beginning K
   begun_as = next_making hash d.given d.places old.logged.executor

@@ -4,8 +4,8 @@ use Rattle.std.specs.List.{list_all}
 use Rattle.std.proofs.Common.{refl, sym, ap, subst, inl, inr, ◌∙◌}
 use Rattle.std.proofs.lemmas.Bool.{cases_eq}
 use Rattle.std.proofs.lemmas.List.Folds.{list_all-append}
-use Rattle.play_stepping.specs.Given.SeizeDeclared.progress.Progress.{Progress}
-use Rattle.play_stepping.specs.Given.SeizeDeclared.progress.Progress.TheVariants as progress
+use Rattle.play_stepping.specs.Given.SeizeDeclared.advance.Advance.{Advance}
+use Rattle.play_stepping.specs.Given.SeizeDeclared.advance.Advance.TheVariants as progress
 use Rattle.play_stepping.specs.Given.SeizeWorld.{with_at}
 use Rattle.play_stepping.specs.Given.ResizeDeclared.new_map.NewMap.{NewMap}
 use Rattle.play_lists.specs.Given.TablesDeclared.resize_mode.ResizeMode.{ResizeMode}
@@ -63,32 +63,32 @@ use Rattle.run_kept.specs.Given.ScenesMaking.{MakingLeads}
 
 -- By what a step of a making told: it goes on as another machine, of the same map.
 module _ {K V : Type 0} (same : K → K → Bool) (hash : ℕ → K → ℕ) (s : Scene K V) (old new : Held K V) (i : ℕ) (b : Beginning K) (here : s.makers i ≡ Some b) where
-  abbrev Leads : Progress Setting → Type 0
+  abbrev Leads : Advance Setting → Type 0
   Leads said = MakingLeads same hash i said s old new
 
-  abbrev next_scene : (said : Progress Setting) → Leads said → Scene K V
+  abbrev next_scene : (said : Advance Setting) → Leads said → Scene K V
   next_scene said leads = making_after same hash s old new i b (leads b here).0 (leads b here).2.step.w2 said (leads b here).3
 
   -- until the last step the making is under way, and the map is as new
-  pub making_on : (said : Progress Setting) (leads : Leads said) → is_over said ≡ false → (next_scene said leads).makers i ≡ Some (record b { machine = (leads b here).0 })
+  pub making_on : (said : Advance Setting) (leads : Leads said) → is_over said ≡ false → (next_scene said leads).makers i ≡ Some (record b { machine = (leads b here).0 })
   making_on progress.Goes leads more = at_same s.makers i (Some (record b { machine = (leads b here).0 })) i refl
   making_on progress.Waits leads more = absurd (leads b here).3
   making_on (progress.Done setting) leads more = absurd (cc more)
   making_on (progress.Refused fault) leads more = absurd (cc more)
 
-  pub just_goes : (said : Progress Setting) → Leads said → is_over said ≡ false → said ≡ progress.Goes
+  pub just_goes : (said : Advance Setting) → Leads said → is_over said ≡ false → said ≡ progress.Goes
   just_goes progress.Goes leads more = refl
   just_goes progress.Waits leads more = absurd (leads b here).3
   just_goes (progress.Done setting) leads more = absurd (cc more)
   just_goes (progress.Refused fault) leads more = absurd (cc more)
 
-  pub calls_still : (said : Progress Setting) (leads : Leads said) → (next_scene said leads).calls ≡ s.calls
+  pub calls_still : (said : Advance Setting) (leads : Leads said) → (next_scene said leads).calls ≡ s.calls
   calls_still progress.Goes leads = refl
   calls_still progress.Waits leads = absurd (leads b here).3
   calls_still (progress.Done setting) leads = refl
   calls_still (progress.Refused fault) leads = refl
 
-  new_still : (name : ℕ → List ℕ) (m : Moment K V) (k : Known) → IsAt same hash old s → Shows same name m k s → (of : Option ℕ) (setting : Setting) (said : Progress Setting) → Leads said → is_over said ≡ false
+  new_still : (name : ℕ → List ℕ) (m : Moment K V) (k : Known) → IsAt same hash old s → Shows same name m k s → (of : Option ℕ) (setting : Setting) (said : Advance Setting) → Leads said → is_over said ≡ false
       → IsNew b.map setting m → IsNew b.map setting (with_effects None of (effects_of (acts.Making b.map) k new.changed) m)
   new_still name m k at shows of setting progress.Goes leads more is_new = new_maps_stay K V same hash name m k s old new at shows i leads b here of setting is_new
   new_still name m k at shows of setting progress.Waits leads more is_new = absurd (leads b here).3
@@ -96,7 +96,7 @@ module _ {K V : Type 0} (same : K → K → Bool) (hash : ℕ → K → ℕ) (s 
   new_still name m k at shows of setting (progress.Refused fault) leads more is_new = absurd (cc more)
 
   -- maps that stand then: those that stood, and that which was made, as it was to be
-  made_maps : (said : Progress Setting) (leads : Leads said) (setting : Setting) → said ≡ progress.Done setting → (n : ℕ)
+  made_maps : (said : Advance Setting) (leads : Leads said) (setting : Setting) → said ≡ progress.Done setting → (n : ℕ)
       → ((n ≢ b.map) × ((next_scene said leads).maps n ≡ s.maps n)) ⊎ ((standing : Standing K) × ((next_scene said leads).maps n ≡ Some standing) × (standing.setting.mask ≡ b.given.mask))
   made_maps progress.Goes leads setting is n = absurd (cc is)
   made_maps progress.Waits leads setting is n = absurd (leads b here).3
@@ -126,14 +126,14 @@ maps_as_before of (f ∷ fs) m all =
     by _ is = absurd (cc is)
 
 -- what is told until the last step needs no new map
-pub none_new : {K V : Type 0} (map : ℕ) (said : Progress Setting) (m : Moment K V) → is_over said ≡ false → WasNew map said m
+pub none_new : {K V : Type 0} (map : ℕ) (said : Advance Setting) (m : Moment K V) → is_over said ≡ false → WasNew map said m
 none_new map progress.Goes m more = tt
 none_new map progress.Waits m more = tt
 none_new map (progress.Done setting) m more = absurd (cc more)
 none_new map (progress.Refused fault) m more = absurd (cc more)
 
 -- and has made no map
-pub none_made : (said : Progress Setting) → is_over said ≡ false → HasNotMade said
+pub none_made : (said : Advance Setting) → is_over said ≡ false → HasNotMade said
 none_made progress.Goes more = tt
 none_made progress.Waits more = tt
 none_made (progress.Done setting) more = absurd (cc more)
@@ -290,7 +290,7 @@ module _ {K V S : Type 0} (same : K → K → Bool) (hash : K → ℕ) (terms : 
 
       counts_still : is_over step.said ≡ false → CountsTables b.map mid.effects y.now (table_left it.0 progress.Goes) → CountsTables b.map to.effects comes_on.now (table_left (goes its it.1).0 progress.Goes)
       counts_still more counts =
-          subst (λ (said : Progress Setting). CountsTables b.map to.effects comes_on.now (table_left (goes its it.1).0 said))
+          subst (λ (said : Advance Setting). CountsTables b.map to.effects comes_on.now (table_left (goes its it.1).0 said))
           (just_goes same (λ map. hash) y.scene (held_by mid.logged.executor) (held_by to.logged.executor) i its it.1 step.said goes more) (counts_on counts)
 
       new_on : is_over step.said ≡ false → IsNew b.map setting comes_on.now

@@ -3,8 +3,8 @@ use Rattle.std.specs.Prelude.{◌≡◌, ◌≤◌, ◌⊎◌, ◌^◌, ◌++◌
 use Rattle.std.specs.List.{list_all}
 use Rattle.std.proofs.Common.{refl, sym, ap, subst, inr, ◌∙◌, arith}
 use Rattle.std.proofs.lemmas.List.Folds.{list_all-append}
-use Rattle.play_stepping.specs.Given.SeizeDeclared.progress.Progress.{Progress}
-use Rattle.play_stepping.specs.Given.SeizeDeclared.progress.Progress.TheVariants as progress
+use Rattle.play_stepping.specs.Given.SeizeDeclared.advance.Advance.{Advance}
+use Rattle.play_stepping.specs.Given.SeizeDeclared.advance.Advance.TheVariants as progress
 use Rattle.play_stepping.specs.Given.SeizeWorld.{SlotsTaken}
 use Rattle.play_lists.specs.Given.TablesDeclared.resize_mode.ResizeMode.{ResizeMode}
 use Rattle.play_lists.specs.Given.TablesDeclared.setting.Setting.{Setting}
@@ -109,7 +109,7 @@ module _ {K V S : Type 0} (same : K → K → Bool) (hash : K → ℕ) (terms : 
 
     may_still : is_over step.said ≡ false → MayBeRefused to.effects (goes d z.1.1).0.stands
     may_still more =
-        subst (λ (said : Progress Setting). IsRefusedSo to.effects ((goes d z.1.1).0, said))
+        subst (λ (said : Advance Setting). IsRefusedSo to.effects ((goes d z.1.1).0, said))
         (just_goes same (λ map. hash) z.0.scene (held_by mid.logged.executor) (held_by to.logged.executor) i d z.1.1 step.said goes more) refused_by
 
   refused_come : max b.places 8 ≤ 2 ^ 48 → (n : ℕ) (x : Come K V) (from to : Far K V S) → GoesFor (MakingOn i b.map) n from to → list_all is_growth to.effects ≡ true → Midway 0 x from → Midway n x to
@@ -223,7 +223,7 @@ module _ {K V S : Type 0} (same : K → K → Bool) (hash : K → ℕ) (terms : 
   none = subst HasNotMade (sym d.gone.4) tt
 
   was : WasNew b.map last.said z.0.now
-  was = subst (λ (t : Progress Setting). WasNew b.map t z.0.now) (sym d.gone.4) tt
+  was = subst (λ (t : Advance Setting). WasNew b.map t z.0.now) (sym d.gone.4) tt
 
   abbrev y : MakingComes same hash terms name log own mode capacity i b m (suc d.gone.1.0) x (far effects mid)
   y = refused_on same hash terms name log own mode capacity i b s.maps d.gone.1.0 x prev (far effects mid) z last was none asks
@@ -246,7 +246,7 @@ module _ {K V S : Type 0} (same : K → K → Bool) (hash : K → ℕ) (terms : 
   at_end : IsThere same hash new.logged.executor y.scene
   at_end =
       at_given same hash b.map i z.0.scene y.scene prev.logged.executor z.0.is_at its z.1.1 refl mid.executor new.logged.executor d.gone.6 y.is_at last.said came
-      (d.gone.7 ∙ ap (λ (t : Progress Setting). given_back b.map t mid.executor.maps.items) (sym d.gone.4))
+      (d.gone.7 ∙ ap (λ (t : Advance Setting). given_back b.map t mid.executor.maps.items) (sym d.gone.4))
 
   maps_are : y.scene.maps ≡ s.maps
   maps_are =
@@ -276,7 +276,7 @@ module _ {K V S : Type 0} (same : K → K → Bool) (hash : K → ℕ) (terms : 
   -- it did nothing, unless it was refused memory
   or_nothing : (fault ≡ Memory) ⊎ (effects ≡ [])
   or_nothing =
-      subst (λ (said : Progress Setting). IsRefusedSo effects ((last.leads same hash z.0.scene z.0.is_at its z.1.1).0, said)) d.gone.4
+      subst (λ (said : Advance Setting). IsRefusedSo effects ((last.leads same hash z.0.scene z.0.is_at its z.1.1).0, said)) d.gone.4
       (refused_by same hash terms name log own mode capacity i b s.maps d.first.1.most d.gone.1.0 x prev (far effects mid) z last)
 
   ends : ComesRight terms log e → IsLegalBut same terms log e × ShowsRun same name terms (e ∷ log) (known mid.notes) y.scene

@@ -11,7 +11,7 @@ use Rattle.run_kept.specs.Given.EffectsKnown.{known}
 use Rattle.run_kept.specs.Models.Follows.{FollowsModel}
 use Rattle.run_legal.specs.Carried.{ComesAlone, FollowsOrRows}
 use Rattle.play_stepping.specs.Given.NamedSeen.{seen, seen_of}
-use Rattle.play_stepping.specs.Given.ExecutorDeclared.caller.Caller.{Caller}
+use Rattle.play_stepping.specs.Given.ExecutorDeclared.caller.NamedCaller.{NamedCaller}
 use Rattle.play_stepping.specs.Given.SchedulerDeclared.scheduler.Scheduler.{Scheduler}
 use Rattle.play_events.specs.Events.OfCalls.{Runs}
 use Rattle.play_events.proofs.Events.OfCalls.Alone.{row_of_caller}
@@ -26,7 +26,7 @@ module _ {K V S : Type 0} (same : K → K → Bool) (hash : K → ℕ) (terms : 
   no_calls [] all = refl
   no_calls (c ∷ calls) all = absurd (cc all)
 
-  no_callers : (ds : List (Caller V)) → [] ≡ map seen_of ds → (i : ℕ) → list_any (λ (d : Caller V). d.number == i) ds ≡ true → ⊥
+  no_callers : (ds : List (NamedCaller V)) → [] ≡ map seen_of ds → (i : ℕ) → list_any (λ (d : NamedCaller V). d.number == i) ds ≡ true → ⊥
   no_callers [] is i any = cc any
   no_callers (d ∷ ds) is i any = cc is
 

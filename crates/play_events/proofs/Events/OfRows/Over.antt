@@ -14,7 +14,7 @@ use Rattle.run_legal.specs.Carried.{ShowsRun}
 use Rattle.run_legal.proofs.Come.{events_bring_things}
 use Rattle.play_events.proofs.Folded.Steps.{none_in_order}
 use Rattle.run_kept.specs.Given.ReclaimsLeft.{LeftAmong}
-use Rattle.play_stepping.specs.Given.ExecutorDeclared.caller.Caller.{Caller}
+use Rattle.play_stepping.specs.Given.ExecutorDeclared.caller.NamedCaller.{NamedCaller}
 use Rattle.play_stepping.specs.Given.SchedulerPlayed.{IsPlayed}
 use Rattle.play_stepping.specs.Given.SchedulerDeclared.scheduler.Scheduler.{Scheduler}
 use Rattle.play_events.specs.Events.Asked.{is_of_calls}
@@ -38,11 +38,11 @@ module _ {K V S : Type 0} (same : K → K → Bool) (hash : K → ℕ) (terms : 
     (none : is_of_calls e.event ≡ false) (scene : Scene K V) (at_end : IsThere same hash new.logged.executor scene) (lists : ℕ → List ℕ)
     (left : LeftAmong new.logged.executor.roots scene.world scene.maps scene.makers scene.enders lists) (callers : new.calls ≡ old.calls) (calls : scene.calls ≡ run.stands.scene.calls) where
   named : AreNamed run.stands.name new.calls
-  named = subst (λ (cs : List (Caller V)). AreNamed run.stands.name cs) (sym callers) (its_named same hash terms (moment log) old run.stands)
+  named = subst (λ (cs : List (NamedCaller V)). AreNamed run.stands.name cs) (sym callers) (its_named same hash terms (moment log) old run.stands)
 
   values : HaveValues (moment (e ∷ log)) scene new.calls
   values =
-      subst (λ (cs : List (Caller V)). HaveValues (moment (e ∷ log)) scene cs) (sym callers)
+      subst (λ (cs : List (NamedCaller V)). HaveValues (moment (e ∷ log)) scene cs) (sym callers)
       (have_values_then (moment log) (moment (e ∷ log)) (nobody_says e (moment log) none) run.stands.scene scene calls old.calls run.values)
 
   -- Where callers are as they were, what ended maps left over is behind the roots that the moment says, and the event is legal, and shows in that scene what a run needs, the run goes on with it.

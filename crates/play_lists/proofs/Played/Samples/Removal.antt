@@ -2,7 +2,7 @@
 use Rattle.std.specs.Prelude.{◌++◌, replicate}
 use Rattle.std.proofs.Common.{◌≡◌, ℕ, true, false, List, [], ◌∷◌, refl, Some, None}
 use Rattle.map_tables.specs.Given.SeizeWorld.{Leave'}
-use Rattle.run_schedules.specs.declared.call.Answer.TheVariants as answer
+use Rattle.run_schedules.specs.declared.call.Response.TheVariants as answer
 use Rattle.run_schedules.specs.declared.call.Call.TheVariants.{On}
 use Rattle.run_schedules.specs.declared.call.OneKey.TheVariants as one
 use Rattle.run_schedules.specs.declared.effect.Effect.TheVariants.{Counted, Removed, Retired, Reclaimed}

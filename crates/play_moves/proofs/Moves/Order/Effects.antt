@@ -5,7 +5,7 @@ use Rattle.std.proofs.Common.{refl, ap, sym, subst, ◌∙◌}
 use Rattle.std.proofs.lemmas.Bool.{and_from, and_parts}
 use Rattle.run_schedules.specs.declared.effect.Effect.{Effect}
 use Rattle.run_schedules.specs.declared.effect.Effect.TheVariants as effect
-use Rattle.run_schedules.specs.declared.effect.Table.{Table}
+use Rattle.run_schedules.specs.declared.effect.TableId.{TableId}
 use Rattle.run_schedules.specs.Schedules.Effects.{AtEachEffect, with_effects}
 use Rattle.run_schedules.specs.Schedules.Handing.{asks_for_bucket}
 use Rattle.run_schedules.specs.Schedules.InTurn.{is_growth}
@@ -45,7 +45,7 @@ itself u = by (is_linked u.stage) refl
     by true is = ap (λ (q : Bool). not q || (same_table u.table u.table && q)) is ∙ and_from (same_table u.table u.table) true (same_itself u.table) refl
     by false is = ap (λ (q : Bool). not q || (same_table u.table u.table && q)) is
 
-first_of_them : (P : TableThere → Type 0) (t : Table) (us : List TableThere) → AllByRecursion P us → is_first_of t us ≡ true → (u : TableThere) × (same_table u.table t ≡ true) × P u
+first_of_them : (P : TableThere → Type 0) (t : TableId) (us : List TableThere) → AllByRecursion P us → is_first_of t us ≡ true → (u : TableThere) × (same_table u.table t ≡ true) × P u
 first_of_them P t [] all e = absurd (cc e)
 first_of_them P t (u ∷ us) all e = (u, e, all.0)
 
@@ -68,7 +68,7 @@ module _ {K V : Type 0} where
   buckets_in_order effects m all order = subst AllIsInOrder (sym (growths_leave None effects m (all_growths effects all))) order
 
   -- What the end of a map finds is what must be found: a table that stands first is linked.
-  first_is_linked : (map : ℕ) (m : Moment K V) (t : Table) → is_first_of t (left_tables map m) ≡ true → (t.map ≡ map) × (is_stage is_linked t m ≡ true)
+  first_is_linked : (map : ℕ) (m : Moment K V) (t : TableId) → is_first_of t (left_tables map m) ≡ true → (t.map ≡ map) × (is_stage is_linked t m ≡ true)
   first_is_linked map m t e = (
     sym parts.0 ∙ number_is it.0.table.map map it.2.0.0.1,
     any_so (linked_one it.0) (λ v. same_table v.table t && is_linked v.stage) (λ v. Unit {0}) one m.tables it.2.0.0.0 (each_is (λ v. Unit {0}) (λ v. tt) m.tables),

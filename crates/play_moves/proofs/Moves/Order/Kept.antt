@@ -5,8 +5,8 @@ use Rattle.std.proofs.Common.{refl, ap, sym, subst, ◌∙◌}
 use Rattle.seize_acts.proofs.Acts.Answers.{same_some}
 use Rattle.play_events.proofs.Given.LateKindsKept.Laws.{told_sweeps_refuse_room}
 use Rattle.seize_acts.specs.Given.SeizeWorld.{Step}
-use Rattle.seize_acts.specs.Given.SeizeDeclared.progress.Progress.{Progress as Making}
-use Rattle.seize_acts.specs.Given.SeizeDeclared.progress.Progress.TheVariants as making
+use Rattle.seize_acts.specs.Given.SeizeDeclared.advance.Advance.{Advance as Making}
+use Rattle.seize_acts.specs.Given.SeizeDeclared.advance.Advance.TheVariants as making
 use Rattle.play_lists.specs.Given.TablesDeclared.setting.Setting.{Setting}
 use Rattle.run_schedules.specs.declared.outcome.Outcome.{Outcome}
 use Rattle.run_schedules.specs.declared.outcome.Outcome.TheVariants as outcome

@@ -7,8 +7,8 @@ use Rattle.play_lists.specs.Given.TablesDeclared.node.Node.{Node}
 use Rattle.run_schedules.specs.Given.ReservesDeclared.sweep.Sweeping.{Sweeping}
 use Rattle.run_schedules.specs.Given.ReservesDeclared.sweep.Sweeping.TheVariants as sweeping
 use Rattle.run_schedules.specs.Given.RawMachine.{machine_asked, machine_replied, sweep_told}
-use Rattle.run_schedules.specs.Given.RawDeclared.machines.asking.Reply.{Reply as MachineReply}
-use Rattle.run_schedules.specs.Given.RawDeclared.machines.asking.Reply.TheVariants as reply
+use Rattle.run_schedules.specs.Given.RawDeclared.machines.asking.MachineReply.{MachineReply}
+use Rattle.run_schedules.specs.Given.RawDeclared.machines.asking.MachineReply.TheVariants as reply
 use Rattle.run_schedules.specs.Given.RawDeclared.machines.machine.Machine.{Machine}
 use Rattle.run_schedules.specs.Given.RawDeclared.machines.machine.Machine.TheVariants as kinds
 use Rattle.run_schedules.specs.Given.RawDeclared.machines.progress.Progress.{Progress}

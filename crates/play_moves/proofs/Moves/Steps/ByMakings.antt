@@ -1,7 +1,7 @@
 -- What a moment shows of steps of calls it shows, too, where the making of a map begins, as its map comes, and after each of its steps.
 use Rattle.std.specs.Prelude.{◌≡◌, ◌⊎◌, ℕ, Bool, List, Option, Some, None}
 use Rattle.std.proofs.Common.{refl, ap, sym, ◌∙◌, inl, inr}
-use Rattle.seize_acts.specs.Given.SeizeDeclared.progress.Progress.{Progress as Making}
+use Rattle.seize_acts.specs.Given.SeizeDeclared.advance.Advance.{Advance as Making}
 use Rattle.play_lists.specs.Given.TablesDeclared.setting.Setting.{Setting}
 use Rattle.run_schedules.specs.declared.effect.Effect.{Effect}
 use Rattle.run_schedules.specs.Schedules.Effects.{with_effects}

@@ -3,8 +3,8 @@ use Rattle.std.specs.Prelude.{◌≡◌, ◌⊎◌, ◌<◌, ℕ, Bool, true, Li
 use Rattle.std.proofs.Common.{refl, ap, sym, subst, ◌∙◌, arith, inl, inr}
 use Rattle.seize_acts.proofs.Acts.Answers.{same_some}
 use Rattle.seize_acts.specs.Given.SeizeWorld.{Step}
-use Rattle.seize_acts.specs.Given.SeizeDeclared.progress.Progress.{Progress as Making}
-use Rattle.seize_acts.specs.Given.SeizeDeclared.progress.Progress.TheVariants as progress
+use Rattle.seize_acts.specs.Given.SeizeDeclared.advance.Advance.{Advance as Making}
+use Rattle.seize_acts.specs.Given.SeizeDeclared.advance.Advance.TheVariants as progress
 use Rattle.play_lists.specs.Given.TablesLengths.{entries_of}
 use Rattle.play_lists.specs.Given.TablesDeclared.setting.Setting.{Setting}
 use Rattle.run_schedules.specs.declared.effect.Effect.{Effect}

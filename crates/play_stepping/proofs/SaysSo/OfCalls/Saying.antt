@@ -7,8 +7,8 @@ use Rattle.papaya_raw.specs.declared.machines.answer.KeyAnswer.TheVariants as sa
 use Rattle.papaya_raw.specs.declared.machines.progress.Answer.TheVariants as answers
 use Rattle.papaya_raw.specs.declared.machines.progress.Progress.{Progress}
 use Rattle.papaya_raw.specs.declared.machines.progress.Progress.TheVariants as progress
-use Rattle.run_schedules.specs.declared.call.Answer.{Answer}
-use Rattle.run_schedules.specs.declared.call.Answer.TheVariants as answer
+use Rattle.run_schedules.specs.declared.call.Response.{Response}
+use Rattle.run_schedules.specs.declared.call.Response.TheVariants as answer
 use Rattle.run_schedules.specs.declared.call.Call.{Call}
 use Rattle.run_schedules.specs.declared.call.Call.TheVariants.{Clear, Len, On, Reserve, Retain, Walk}
 use Rattle.run_schedules.specs.declared.call.OneKey.{OneKey}
@@ -32,21 +32,21 @@ use Rattle.play_stepping.specs.EventSteps.Stepping.{outcome_of}
 
 -- what is stored is the reply's value, and else nothing is meant
 module _ {V : Type 0} where
-  puts_is : (reply : Option (Reply V)) (b a : Answer V) (v : V) → puts_reply reply b ≡ Answers a (Puts v) → a ≡ b
+  puts_is : (reply : Option (Reply V)) (b a : Response V) (v : V) → puts_reply reply b ≡ Answers a (Puts v) → a ≡ b
   puts_is None b a v e = absurd (cc e)
   puts_is (Some (Gives w)) b a v e = cc e
   puts_is (Some Removes) b a v e = absurd (cc e)
   puts_is (Some (Aborts w)) b a v e = absurd (cc e)
   puts_is (Some (Decides q)) b a v e = absurd (cc e)
 
-  never_leaves : (reply : Option (Reply V)) (b a : Answer V) → puts_reply reply b ≡ Answers a Leaves → ⊥
+  never_leaves : (reply : Option (Reply V)) (b a : Response V) → puts_reply reply b ≡ Answers a Leaves → ⊥
   never_leaves None b a e = cc e
   never_leaves (Some (Gives w)) b a e = cc e
   never_leaves (Some Removes) b a e = cc e
   never_leaves (Some (Aborts w)) b a e = cc e
   never_leaves (Some (Decides q)) b a e = cc e
 
-  never_takes : (reply : Option (Reply V)) (b a : Answer V) → puts_reply reply b ≡ Answers a Takes → ⊥
+  never_takes : (reply : Option (Reply V)) (b a : Response V) → puts_reply reply b ≡ Answers a Takes → ⊥
   never_takes None b a e = cc e
   never_takes (Some (Gives w)) b a e = cc e
   never_takes (Some Removes) b a e = cc e
@@ -64,7 +64,7 @@ question_is by None (Some n) so = absurd so
 question_is by (Some word) None so = absurd so
 question_is by (Some word) (Some n) so = so ∙ ap role.Pair (sym (number_is by word n so))
 
-module _ {V : Type 0} (by : Known) (word n : ℕ) (names : NamesPair by word n) (a : Answer V) where
+module _ {V : Type 0} (by : Known) (word n : ℕ) (names : NamesPair by word n) (a : Response V) where
   found_it : answer.Found n ≡ a → a ≡ answer.Found (number_by by word)
   found_it is = sym is ∙ ap answer.Found (sym (number_is by word n names))
 
@@ -75,7 +75,7 @@ module _ {V : Type 0} (by : Known) (word n : ℕ) (names : NamesPair by word n) 
   stored_it is = sym is ∙ ap answer.Stored (sym (number_is by word n names))
 
 -- and a value that the caller keeps is told back
-module _ {V : Type 0} (value : Option V) (w : V) (a : Answer V) (keeps : value ≡ Some w) where
+module _ {V : Type 0} (value : Option V) (w : V) (a : Response V) (keeps : value ≡ Some w) where
   aborts : answer.Aborted w ≡ a → a ≡ aborted_with value
   aborts is = sym is ∙ ap (λ (x : Option V). aborted_with x) (sym keeps)
 
@@ -84,7 +84,7 @@ module _ {V : Type 0} (value : Option V) (w : V) (a : Answer V) (keeps : value �
 
 module _ {K V : Type 0} (by : Known) (value : Option V) (replies : List (Option ℕ × Reply V)) where
   -- what is told of an answer of a call on one key
-  abbrev told : OneKey K V → KeyAnswer → Answer V
+  abbrev told : OneKey K V → KeyAnswer → Response V
   told one a = answer_on by (kind_on one) value a
 
   -- the value that it tells back is the one that was given: by `try_insert` its own, and by `compute` the one with which it was told to abort
@@ -93,7 +93,7 @@ module _ {K V : Type 0} (by : Known) (value : Option V) (replies : List (Option 
   Tells (Compute k) it = (about : Option ℕ) (w : V) → reply_to about replies ≡ Some (Aborts w) → value ≡ Some w
   Tells one it = Unit {0}
 
-  module _ (word n : ℕ) (names : NamesPair by word n) (a : Answer V) where
+  module _ (word n : ℕ) (names : NamesPair by word n) (a : Response V) where
     found_by : (reply : Option (Reply V)) → reply_to (Some n) replies ≡ reply → (one : OneKey K V) → means one reply (Some n) 0 ≡ Answers a Leaves → Tells one (says.Found word) → a ≡ told one (says.Found word)
     found_by reply is (Get k) e tells = found_it by word n names a (cc e)
     found_by reply is (GetKeyValue k) e tells = found_it by word n names a (cc e)
@@ -168,7 +168,7 @@ module _ {K V : Type 0} (by : Known) (value : Option V) (replies : List (Option 
     removed_by (Some (Aborts w)) (RemoveIf k) e = absurd (cc e)
     removed_by None (RemoveIf k) e = absurd (cc e)
 
-  absent_by : (a : Answer V) (reply : Option (Reply V)) → reply_to None replies ≡ reply → (one : OneKey K V) → means one reply None 0 ≡ Answers a Leaves → Tells one says.Absent → a ≡ told one says.Absent
+  absent_by : (a : Response V) (reply : Option (Reply V)) → reply_to None replies ≡ reply → (one : OneKey K V) → means one reply None 0 ≡ Answers a Leaves → Tells one says.Absent → a ≡ told one says.Absent
   absent_by a reply is (Get k) e tells = let f : answer.Absent ≡ a = cc e in sym f
   absent_by a reply is (GetKeyValue k) e tells = let f : answer.Absent ≡ a = cc e in sym f
   absent_by a reply is (ContainsKey k) e tells = let f : answer.Absent ≡ a = cc e in sym f
@@ -189,7 +189,7 @@ module _ {K V : Type 0} (by : Known) (value : Option V) (replies : List (Option 
   absent_by a reply is (RemoveEntry k) e tells = let f : answer.Absent ≡ a = cc e in sym f
   absent_by a reply is (RemoveIf k) e tells = let f : answer.Absent ≡ a = cc e in sym f
 
-  module _ (old new o n : ℕ) (was : NamesPair by old o) (comes : NamesPair by new n) (a : Answer V) (v : V) where
+  module _ (old new o n : ℕ) (was : NamesPair by old o) (comes : NamesPair by new n) (a : Response V) (v : V) where
     replaced_by : (reply : Option (Reply V)) (one : OneKey K V) → means one reply (Some o) n ≡ Answers a (Puts v) → a ≡ told one (says.Replaced old new)
     replaced_by reply (Get k) e = absurd (cc e)
     replaced_by reply (GetKeyValue k) e = absurd (cc e)
@@ -219,7 +219,7 @@ module _ {K V : Type 0} (by : Known) (value : Option V) (replies : List (Option 
     replaced_by None (RemoveIf k) e = absurd (cc e)
 
   -- so what the call means is what is told
-  means_it : (one : OneKey K V) (it : KeyAnswer) (a : Answer V) → IsToldAs by one replies it a ⊎ IsToldDone by one replies it a → Tells one it → a ≡ told one it
+  means_it : (one : OneKey K V) (it : KeyAnswer) (a : Response V) → IsToldAs by one replies it a ⊎ IsToldDone by one replies it a → Tells one it → a ≡ told one it
   means_it one (says.Found word) a (inl (n, names, so)) tells = found_by word n names a (reply_to (Some n) replies) refl one (so 0) tells
   means_it one (says.Found word) a (inr done) tells = absurd done
   means_it one says.Absent a (inl so) tells = absent_by a (reply_to None replies) refl one (so 0) tells
@@ -234,7 +234,7 @@ module _ {K V : Type 0} (by : Known) (value : Option V) (replies : List (Option 
   key_comes : (one : OneKey K V) (said : Progress (Node K V)) (o : Outcome V) → ComesToIt by one replies said o → ((it : KeyAnswer) → said ≡ progress.Done (answers.Key it) → Tells one it)
       → ComesToIt by one replies said (outcome_of by (kind_on one) value said)
   key_comes one (progress.Done (answers.Key it)) (outcome.Answered a) so tells =
-      subst (λ (x : Answer V). IsToldAs by one replies it x ⊎ IsToldDone by one replies it x) (means_it one it a so (tells it refl)) so
+      subst (λ (x : Response V). IsToldAs by one replies it x ⊎ IsToldDone by one replies it x) (means_it one it a so (tells it refl)) so
   key_comes one (progress.Asks about) (outcome.Asks question) so tells = question_is by about question so
   key_comes one progress.Goes o so tells = tt
   key_comes one progress.Waits o so tells = tt

@@ -1,6 +1,6 @@
 -- A map is made.
 use Rattle.std.proofs.Common.{◌≡◌, [], length, ap, inl, inr, sym, refl, subst, ◌∙◌, arith, rules}
-use Rattle.seize.specs.declared.progress.Progress.{Progress}
+use Rattle.seize.specs.declared.advance.Advance.{Advance}
 use Rattle.papaya_raw.specs.Given.TablesDeclared.setting.Setting.{Setting}
 use Rattle.play_scheduler.specs.Given.LoggedMakings.{MakingRan, numbers_then}
 use Rattle.play_scheduler.specs.Given.LoggedRoots.{MakingFinds}
@@ -59,8 +59,8 @@ returns-in-Refused-clause-plays g c =
     not_made same hash terms log c.args.scheduler.now c.args.map c.args.mode c.args.capacity may c.in-Ok.ensures.none (sym c.may_make.ensures ∙ c.if-not-may_make.false)
     (let ne = c.if-scheduler-eq0.false in omega (arith, ne)) c.in-Ok.places c.in-Ok.ensures.first c.setting_for-given.result c.setting_for-given.ensures c.in_ok-caller.caller c.begin_making.new.self
     (c.in_ok-caller.ensures.leads same hash may.due.played.name (moment log) may.due.played.scene may.due.played.shown) c.len-number.result count c.in-Refused.fault c.run_making.new.self
-    c.no_effects-effects.result.items c.run_making.new.effects.items c.no_effects-effects.ensures (subst (λ (x : Progress Setting). MakingRan c.in_ok-caller.caller c.len-number.result x c.no_effects-effects.result.items c.run_making.new.effects.items c.begin_making.new.self c.run_making.new.self) c.in-Refused.is c.in_ok-told.ensures.ran)
-    (subst (λ (x : Progress Setting). MakingFinds c.in_ok-caller.caller c.len-number.result x c.no_effects-effects.result.items c.run_making.new.effects.items c.begin_making.new.self c.run_making.new.self) c.in-Refused.is c.in_ok-told.ensures.finds) _ refl refl refl
+    c.no_effects-effects.result.items c.run_making.new.effects.items c.no_effects-effects.ensures (subst (λ (x : Advance Setting). MakingRan c.in_ok-caller.caller c.len-number.result x c.no_effects-effects.result.items c.run_making.new.effects.items c.begin_making.new.self c.run_making.new.self) c.in-Refused.is c.in_ok-told.ensures.ran)
+    (subst (λ (x : Advance Setting). MakingFinds c.in_ok-caller.caller c.len-number.result x c.no_effects-effects.result.items c.run_making.new.effects.items c.begin_making.new.self c.run_making.new.self) c.in-Refused.is c.in_ok-told.ensures.finds) _ refl refl refl
 
 pub returns-in_ok-push-in-Done-clause-plays : goal.returns-in_ok-push-in-Done-clause-plays
 returns-in_ok-push-in-Done-clause-plays g c =
@@ -69,8 +69,8 @@ returns-in_ok-push-in-Done-clause-plays g c =
     made same hash terms log c.args.scheduler.now c.args.map c.args.mode c.args.capacity may c.in-Ok.ensures.none (sym c.may_make.ensures ∙ c.if-not-may_make.false)
     (let ne = c.if-scheduler-eq0.false in omega (arith, ne)) c.in-Ok.places c.in-Ok.ensures.first c.setting_for-given.result c.setting_for-given.ensures c.in_ok-caller.caller c.begin_making.new.self
     (c.in_ok-caller.ensures.leads same hash may.due.played.name (moment log) may.due.played.scene may.due.played.shown) c.len-number.result count c.in-Done.field-0 c.run_making.new.self
-    c.no_effects-effects.result.items c.run_making.new.effects.items c.no_effects-effects.ensures c.in_ok-caller.ensures.there (subst (λ (x : Progress Setting). MakingRan c.in_ok-caller.caller c.len-number.result x c.no_effects-effects.result.items c.run_making.new.effects.items c.begin_making.new.self c.run_making.new.self) c.in-Done.is c.in_ok-told.ensures.ran)
-    (subst (λ (x : Progress Setting). MakingFinds c.in_ok-caller.caller c.len-number.result x c.no_effects-effects.result.items c.run_making.new.effects.items c.begin_making.new.self c.run_making.new.self) c.in-Done.is c.in_ok-told.ensures.finds) _ refl refl c.in_ok-push-in-Done.ensures.came
+    c.no_effects-effects.result.items c.run_making.new.effects.items c.no_effects-effects.ensures c.in_ok-caller.ensures.there (subst (λ (x : Advance Setting). MakingRan c.in_ok-caller.caller c.len-number.result x c.no_effects-effects.result.items c.run_making.new.effects.items c.begin_making.new.self c.run_making.new.self) c.in-Done.is c.in_ok-told.ensures.ran)
+    (subst (λ (x : Advance Setting). MakingFinds c.in_ok-caller.caller c.len-number.result x c.no_effects-effects.result.items c.run_making.new.effects.items c.begin_making.new.self c.run_making.new.self) c.in-Done.is c.in_ok-told.ensures.finds) _ refl refl c.in_ok-push-in-Done.ensures.came
 
 pub returns-in_err-told-clause-given : goal.returns-in_err-told-clause-given
 returns-in_err-told-clause-given g c = stays_on c.args.scheduler.now.logged.executor c.begin_making.new.self.executor c.run_making.new.self.executor c.begin_making.ensures.given c.run_making.ensures.given
@@ -96,12 +96,12 @@ returns-then-scheduler-eq0-clause-numbers g c = ap (λ (o : Outcome g.row.V.Deno
 pub returns-in-Refused-clause-numbers : goal.returns-in-Refused-clause-numbers
 returns-in-Refused-clause-numbers g c =
     let count : c.len-number.result ≡ length c.args.scheduler.now.logged.executor.maps.items = search (rules, c.len-number.ensures) in
-    c.in_ok-told.ensures.numbers ∙ ap (λ (t : Progress Setting). numbers_then c.len-number.result t (length c.begin_making.new.self.executor.maps.items)) c.in-Refused.is
+    c.in_ok-told.ensures.numbers ∙ ap (λ (t : Advance Setting). numbers_then c.len-number.result t (length c.begin_making.new.self.executor.maps.items)) c.in-Refused.is
     ∙ given_up c.len-number.result (length c.begin_making.new.self.executor.maps.items) (length c.args.scheduler.now.logged.executor.maps.items) count c.in_ok-caller.ensures.numbers
 
 pub returns-in_ok-push-in-Done-clause-numbers : goal.returns-in_ok-push-in-Done-clause-numbers
 returns-in_ok-push-in-Done-clause-numbers g c =
-    c.in_ok-told.ensures.numbers ∙ ap (λ (t : Progress Setting). numbers_then c.len-number.result t (length c.begin_making.new.self.executor.maps.items)) c.in-Done.is ∙ c.in_ok-caller.ensures.numbers
+    c.in_ok-told.ensures.numbers ∙ ap (λ (t : Advance Setting). numbers_then c.len-number.result t (length c.begin_making.new.self.executor.maps.items)) c.in-Done.is ∙ c.in_ok-caller.ensures.numbers
 
 pub returns-in-Err-clause-quiet : goal.returns-in-Err-clause-quiet
 returns-in-Err-clause-quiet g c = none_quiet c.quietly.result.outcome c.quietly.result.effects.items c.quietly.ensures.effects
@@ -122,8 +122,8 @@ returns-in-Refused-clause-quiet g c =
     refused_quiet r.0 r.1 r.2 r.3 c.args.scheduler.now c.args.map c.args.mode c.args.capacity r.4 c.in-Ok.ensures.none (sym c.may_make.ensures ∙ c.if-not-may_make.false)
     (let ne = c.if-scheduler-eq0.false in omega (arith, ne)) c.in-Ok.places c.in-Ok.ensures.first c.setting_for-given.result c.setting_for-given.ensures c.in_ok-caller.caller c.begin_making.new.self
     (c.in_ok-caller.ensures.leads r.0 r.1 r.4.due.played.name (moment r.3) r.4.due.played.scene r.4.due.played.shown) c.len-number.result count c.in-Refused.fault c.run_making.new.self
-    c.no_effects-effects.result.items c.run_making.new.effects.items c.no_effects-effects.ensures (subst (λ (x : Progress Setting). MakingRan c.in_ok-caller.caller c.len-number.result x c.no_effects-effects.result.items c.run_making.new.effects.items c.begin_making.new.self c.run_making.new.self) c.in-Refused.is c.in_ok-told.ensures.ran)
-    (subst (λ (x : Progress Setting). MakingFinds c.in_ok-caller.caller c.len-number.result x c.no_effects-effects.result.items c.run_making.new.effects.items c.begin_making.new.self c.run_making.new.self) c.in-Refused.is c.in_ok-told.ensures.finds)
+    c.no_effects-effects.result.items c.run_making.new.effects.items c.no_effects-effects.ensures (subst (λ (x : Advance Setting). MakingRan c.in_ok-caller.caller c.len-number.result x c.no_effects-effects.result.items c.run_making.new.effects.items c.begin_making.new.self c.run_making.new.self) c.in-Refused.is c.in_ok-told.ensures.ran)
+    (subst (λ (x : Advance Setting). MakingFinds c.in_ok-caller.caller c.len-number.result x c.no_effects-effects.result.items c.run_making.new.effects.items c.begin_making.new.self c.run_making.new.self) c.in-Refused.is c.in_ok-told.ensures.finds)
 
 pub returns-in-Err-clause-works : goal.returns-in-Err-clause-works
 returns-in-Err-clause-works g c = (refl, inl (c.in-Err.fault, c.quietly.ensures.outcome, (c.quietly.ensures.effects, refl)))

@@ -4,13 +4,13 @@ use Rattle.std.proofs.Common.{sym, subst}
 use Rattle.run_debts.specs.Given.SeizeWordsMem.{Mem}
 use Rattle.run_debts.specs.Given.SeizeWordsDeclared.fault.Fault.{Fault}
 use Rattle.run_debts.specs.Given.SeizeWordsDeclared.fault.Fault.TheVariants.{Capacity, RemoveNothing}
-use Rattle.run_debts.specs.Given.SeizeDeclared.progress.Progress.{Progress as CountTold}
-use Rattle.run_debts.specs.Given.SeizeDeclared.progress.Progress.TheVariants as counting
+use Rattle.run_debts.specs.Given.SeizeDeclared.advance.Advance.{Advance as CountTold}
+use Rattle.run_debts.specs.Given.SeizeDeclared.advance.Advance.TheVariants as counting
 use Rattle.run_debts.specs.Given.TablesDeclared.node.Node.{Node}
 use Rattle.run_debts.specs.Given.TablesDeclared.setting.Setting.{Setting}
 use Rattle.owner_calls.specs.Given.ResizeSum.{sum_plan}
-use Rattle.owner_calls.specs.Given.ResizeDeclared.outcome.Outcome.{Outcome}
-use Rattle.owner_calls.specs.Given.ResizeDeclared.outcome.Outcome.TheVariants as outcome
+use Rattle.owner_calls.specs.Given.ResizeDeclared.yielding.Yielding.{Yielding}
+use Rattle.owner_calls.specs.Given.ResizeDeclared.yielding.Yielding.TheVariants as outcome
 use Rattle.owner_calls.specs.Given.ResizeDeclared.sum.Sum.{Sum}
 use Rattle.owner_calls.specs.Given.ReservesReserve.{reserve_plan}
 use Rattle.run_debts.specs.Given.ReservesDeclared.reserve.Reserve.{Reserve}
@@ -24,8 +24,8 @@ use Rattle.owner_calls.specs.Given.RawCall.{call_plan}
 use Rattle.run_debts.specs.Given.RawMachine.{machine_asked, machine_plan, machine_replied, sweep_told, called as of_key, reserved as of_room, swept as of_sweep, counted as of_sum}
 use Rattle.run_debts.specs.Given.RawDeclared.machines.answer.Called.{Called}
 use Rattle.run_debts.specs.Given.RawDeclared.machines.answer.Called.TheVariants as called
-use Rattle.run_debts.specs.Given.RawDeclared.machines.asking.Reply.{Reply as MachineReply}
-use Rattle.run_debts.specs.Given.RawDeclared.machines.asking.Reply.TheVariants as reply
+use Rattle.run_debts.specs.Given.RawDeclared.machines.asking.MachineReply.{MachineReply}
+use Rattle.run_debts.specs.Given.RawDeclared.machines.asking.MachineReply.TheVariants as reply
 use Rattle.run_debts.specs.Given.RawDeclared.machines.call.KeyCall.{KeyCall}
 use Rattle.run_debts.specs.Given.RawDeclared.machines.machine.Machine.{Machine}
 use Rattle.run_debts.specs.Given.RawDeclared.machines.machine.Machine.TheVariants as kinds
@@ -69,7 +69,7 @@ module _ (Is : Fault → Type 0) {K V : Type 0} where
   key_says (p, called.Done answer) so = (so.0, tt)
   key_says (p, called.Refused fault) so = so
 
-  room_says : (end : Reserve × Outcome (Node K V) Unit) → ReservesFor Is end → MachineFor (of_room end)
+  room_says : (end : Reserve × Yielding (Node K V) Unit) → ReservesFor Is end → MachineFor (of_room end)
   room_says (r, outcome.Goes) so = (so.0, tt)
   room_says (r, outcome.Waits) so = (so.0, tt)
   room_says (r, outcome.Gave value) so = (so.0, tt)

@@ -21,7 +21,7 @@ use Rattle.owner_calls.specs.Given.RawReplies.{as_own, value_for}
 use Rattle.run_debts.specs.Given.RawDeclared.machines.answer.Called.{Called}
 use Rattle.run_debts.specs.Given.RawDeclared.machines.answer.End.TheVariants as ends
 use Rattle.run_debts.specs.Given.RawDeclared.machines.asking.Asking.TheVariants as asking
-use Rattle.run_debts.specs.Given.RawDeclared.machines.asking.Reply.{Reply}
+use Rattle.run_debts.specs.Given.RawDeclared.machines.asking.MachineReply.{MachineReply}
 use Rattle.run_debts.specs.Given.RawDeclared.machines.call.Calling.{Calling}
 use Rattle.run_debts.specs.Given.RawDeclared.machines.call.Calling.TheVariants as at
 use Rattle.run_debts.specs.Given.RawDeclared.machines.call.KeyCall.{KeyCall}
@@ -44,7 +44,7 @@ module _ (Is : Fault → Type 0) where
 
 -- of a call that goes on with what it was told
 module _ (Is : Fault → Type 0) (nothing : Is RemoveNothing) {K V : Type 0} where
-  pub key_told_so : (p : KeyCall K V K) → SoInCalling Is p.stands → (r : Reply V) → SoInCalling Is (told_at p.stands p r).0.stands
+  pub key_told_so : (p : KeyCall K V K) → SoInCalling Is p.stands → (r : MachineReply V) → SoInCalling Is (told_at p.stands p r).0.stands
   key_told_so p here r =
       so_of_stands Is (told_at p.stands p r).0.trial.table (told_at p.stands p r).0.stands (key_told_as Is AnyTable nothing p (stands_of_so Is p.trial.table p.stands here) r)
 

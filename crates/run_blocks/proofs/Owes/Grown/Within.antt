@@ -7,7 +7,7 @@ use Rattle.run_debts.specs.Given.SeizeWordsPlan.{Plan}
 use Rattle.run_debts.specs.Given.SeizeWordsDeclared.fault.Fault.{Fault}
 use Rattle.run_debts.specs.Given.SeizeWordsDeclared.fault.Fault.TheVariants.{Capacity}
 use Rattle.run_debts.specs.Given.SeizeSettle.{settle_plan}
-use Rattle.run_debts.specs.Given.SeizeDeclared.progress.Progress.{Progress as Counting}
+use Rattle.run_debts.specs.Given.SeizeDeclared.advance.Advance.{Advance as Counting}
 use Rattle.run_debts.specs.Given.TablesNodes.{deferred_word}
 use Rattle.run_debts.specs.Given.TablesDeclared.node.Node.{Node}
 use Rattle.run_debts.specs.Given.TablesDeclared.node.Node.TheVariants as node
@@ -27,7 +27,7 @@ use Rattle.owner_calls.specs.Given.ResizeDeclared.copier.Copying.TheVariants as 
 use Rattle.owner_calls.specs.Given.ResizeDeclared.new_table.NewTable.{NewTable}
 use Rattle.owner_calls.specs.Given.ResizeDeclared.new_table.Making.{Making}
 use Rattle.owner_calls.specs.Given.ResizeDeclared.new_table.Making.TheVariants as making
-use Rattle.owner_calls.specs.Given.ResizeDeclared.outcome.Outcome.{Outcome}
+use Rattle.owner_calls.specs.Given.ResizeDeclared.yielding.Yielding.{Yielding}
 use Rattle.owner_calls.specs.Given.ReservesReserve.{reserve_plan}
 use Rattle.owner_calls.specs.Given.ReservesReserve as reserves
 use Rattle.run_debts.specs.Given.ReservesDeclared.reserve.Reserve.{Reserve}
@@ -81,10 +81,10 @@ module _ (Is : Fault → Type 0) (long : Is Capacity) {K V : Type 0} (m m2 : Mem
 
   -- of its copying
   module _ (hash : K → ℕ) (p : Copier) (here : SoInCopying Is p.stands) where
-    abbrev Copied : Copier × Outcome (Node K V) Table → Type 0
+    abbrev Copied : Copier × Yielding (Node K V) Table → Type 0
     Copied end = CopiesFor Is end
 
-    pub copier_so : (end : Copier × Outcome (Node K V) Table) → Step m m2 told (copier_plan hash p) end → CopiesFor Is end
+    pub copier_so : (end : Copier × Yielding (Node K V) Table) → Step m m2 told (copier_plan hash p) end → CopiesFor Is end
     copier_so end s = by p.stands here s
       where
         by : (stage : Copying) → SoInCopying Is stage → Step m m2 told (copiers.plan_at hash p stage) end → Copied end
@@ -99,10 +99,10 @@ module _ (Is : Fault → Type 0) (long : Is Capacity) {K V : Type 0} (m m2 : Mem
 
   -- of a reservation
   module _ (hash : K → ℕ) (p : Reserve) (here : SoInReserving Is p.stands) where
-    abbrev Reserved : Reserve × Outcome (Node K V) Unit → Type 0
+    abbrev Reserved : Reserve × Yielding (Node K V) Unit → Type 0
     Reserved end = ReservesFor Is end
 
-    pub reserve_so : (end : Reserve × Outcome (Node K V) Unit) → Step m m2 told (reserve_plan hash p) end → ReservesFor Is end
+    pub reserve_so : (end : Reserve × Yielding (Node K V) Unit) → Step m m2 told (reserve_plan hash p) end → ReservesFor Is end
     reserve_so end s = by p.stands here s
       where
         by : (stage : Reserving) → SoInReserving Is stage → Step m m2 told (reserves.plan_at hash p stage) end → Reserved end

@@ -4,7 +4,7 @@ use Rattle.std.proofs.Common.{refl, ap, sym, subst, ◌∙◌}
 use Rattle.run_debts.specs.Given.TablesDeclared.setting.Setting.{Setting}
 use Rattle.owner_calls.specs.Given.RawCallAsks.{told_at}
 use Rattle.run_debts.specs.Given.RawMachine.{machine_replied, machine_asked}
-use Rattle.run_debts.specs.Given.RawDeclared.machines.asking.Reply.{Reply as MachineReply}
+use Rattle.run_debts.specs.Given.RawDeclared.machines.asking.MachineReply.{MachineReply}
 use Rattle.run_debts.specs.Given.RawDeclared.machines.call.Calling.{Calling}
 use Rattle.run_debts.specs.Given.RawDeclared.machines.call.Calling.TheVariants as at
 use Rattle.run_debts.specs.Given.RawDeclared.machines.call.KeyCall.{KeyCall}

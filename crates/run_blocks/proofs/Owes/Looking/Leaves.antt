@@ -2,8 +2,8 @@
 use Rattle.std.specs.Prelude.{◌≡◌, ℕ, Bool, Option, Some, None}
 use Rattle.std.proofs.Common.{refl, sym, subst}
 use Rattle.run_debts.specs.Given.SeizeWordsMem.{Mem}
-use Rattle.run_debts.specs.Given.SeizeDeclared.progress.Progress.{Progress as Counting}
-use Rattle.run_debts.specs.Given.SeizeDeclared.progress.Progress.TheVariants as counting
+use Rattle.run_debts.specs.Given.SeizeDeclared.advance.Advance.{Advance as Counting}
+use Rattle.run_debts.specs.Given.SeizeDeclared.advance.Advance.TheVariants as counting
 use Rattle.run_debts.specs.Given.TablesDeclared.node.Node.{Node}
 use Rattle.owner_calls.specs.Given.ResizeLookup.{lookup_plan}
 use Rattle.owner_calls.specs.Given.ResizeLookup as lookups

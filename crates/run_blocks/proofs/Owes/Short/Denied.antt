@@ -13,8 +13,8 @@ use Rattle.owner_calls.specs.Given.ResizeCopier as copiers
 use Rattle.owner_calls.specs.Given.ResizeDeclared.copier.Copier.{Copier}
 use Rattle.owner_calls.specs.Given.ResizeDeclared.copier.Copying.{Copying}
 use Rattle.owner_calls.specs.Given.ResizeDeclared.copier.Copying.TheVariants as copying
-use Rattle.owner_calls.specs.Given.ResizeDeclared.outcome.Outcome.{Outcome}
-use Rattle.owner_calls.specs.Given.ResizeDeclared.outcome.Outcome.TheVariants as outcome
+use Rattle.owner_calls.specs.Given.ResizeDeclared.yielding.Yielding.{Yielding}
+use Rattle.owner_calls.specs.Given.ResizeDeclared.yielding.Yielding.TheVariants as outcome
 use Rattle.owner_calls.specs.Given.ReservesReserve.{reserve_plan}
 use Rattle.owner_calls.specs.Given.ReservesReserve as reserves
 use Rattle.run_debts.specs.Given.ReservesDeclared.reserve.Reserve.{Reserve}
@@ -70,13 +70,13 @@ module _ {K V : Type 0} (m m2 : Mem (Node K V)) (told : Changed) where
   none_as x is none = subst NoneAsked (sym is) none
 
   -- of a copier
-  module _ (hash : K → ℕ) (c : Copier) (end : Copier × Outcome (Node K V) Planned) where
+  module _ (hash : K → ℕ) (c : Copier) (end : Copier × Yielding (Node K V) Planned) where
     abbrev CopierStays : Fault → Type 0
     CopierStays fault = NoneAsked told × (fault_in_copying end.0.stands ≡ Some fault) × ((end.1 ≡ outcome.Refused fault) ⊎ (end.1 ≡ outcome.Goes))
 
-    to_point : (d : Copier × Outcome (Node K V) Planned) (fault : Fault) → NoneAsked told → end ≡ d → fault_in_copying d.0.stands ≡ Some fault → d.1 ≡ outcome.Goes → CopierStays fault
+    to_point : (d : Copier × Yielding (Node K V) Planned) (fault : Fault) → NoneAsked told → end ≡ d → fault_in_copying d.0.stands ≡ Some fault → d.1 ≡ outcome.Goes → CopierStays fault
     to_point d fault none is has goes =
-        (none, ap (λ (y : Copier × Outcome (Node K V) Planned). fault_in_copying y.0.stands) is ∙ has, inr (ap (λ (y : Copier × Outcome (Node K V) Planned). y.1) is ∙ goes))
+        (none, ap (λ (y : Copier × Yielding (Node K V) Planned). fault_in_copying y.0.stands) is ∙ has, inr (ap (λ (y : Copier × Yielding (Node K V) Planned). y.1) is ∙ goes))
 
     copier_at : (p : Copying) → c.stands ≡ p → (fault : Fault) → fault_in_copying p ≡ Some fault → Step m m2 told (copiers.plan_at hash c p) end → CopierStays fault
     copier_at (copying.Tallies word f) at_p fault is s = to_point _ fault (none_as _ s.1.1 (add_none _ _ s.0)) s.2 is refl
@@ -85,8 +85,8 @@ module _ {K V : Type 0} (m m2 : Mem (Node K V)) (told : Changed) where
     copier_at (copying.Refused f) at_p fault is s =
         let one : f ≡ fault = cc is in (
           none_as _ s.2 tt,
-          ap (λ (y : Copier × Outcome (Node K V) Planned). fault_in_copying y.0.stands) s.1 ∙ ap fault_in_copying at_p ∙ is,
-          inl (ap (λ (y : Copier × Outcome (Node K V) Planned). y.1) s.1 ∙ ap (λ (x : Fault). outcome.Refused x) one),
+          ap (λ (y : Copier × Yielding (Node K V) Planned). fault_in_copying y.0.stands) s.1 ∙ ap fault_in_copying at_p ∙ is,
+          inl (ap (λ (y : Copier × Yielding (Node K V) Planned). y.1) s.1 ∙ ap (λ (x : Fault). outcome.Refused x) one),
         )
     copier_at _ at_p fault is s = absurd (cc is)
 
@@ -109,13 +109,13 @@ module _ {K V : Type 0} (m m2 : Mem (Node K V)) (told : Changed) where
     as_refused fault none so = (none, so.0, ends_as fault so.1)
 
     -- by its copier
-    module _ (stands : Copier → Calling) (f : Copier × Outcome (Node K V) Planned → KeyCall K V K × Called (Node K V)) (goes : (c : Copier) → f (c, outcome.Goes) ≡ going p (stands c))
+    module _ (stands : Copier → Calling) (f : Copier × Yielding (Node K V) Planned → KeyCall K V K × Called (Node K V)) (goes : (c : Copier) → f (c, outcome.Goes) ≡ going p (stands c))
         (refused : (c : Copier) (fault : Fault) → f (c, outcome.Refused fault) ≡ ending p (ends.Refused fault))
         (making : (c : Copier) → making_in_calling (stands c) ≡ making_in_copying c.stands) (fault_is : (c : Copier) → fault_in_calling (stands c) ≡ fault_in_copying c.stands) where
-      by_copier : (it : Copier × Outcome (Node K V) Planned) → end ≡ f it → (fault : Fault) → (it.1 ≡ outcome.Refused fault) ⊎ (it.1 ≡ outcome.Goes) → fault_in_copying it.0.stands ≡ Some fault
+      by_copier : (it : Copier × Yielding (Node K V) Planned) → end ≡ f it → (fault : Fault) → (it.1 ≡ outcome.Refused fault) ⊎ (it.1 ≡ outcome.Goes) → fault_in_copying it.0.stands ≡ Some fault
           → KeyRefuses m m2 told asks same hash p end fault
       by_copier it is fault (inl e) has =
-          key_refuses m m2 told asks same hash p end fault (p.own == 0) (is ∙ ap (λ (y : Outcome (Node K V) Planned). f (it.0, y)) e ∙ refused it.0 fault)
+          key_refuses m m2 told asks same hash p end fault (p.own == 0) (is ∙ ap (λ (y : Yielding (Node K V) Planned). f (it.0, y)) e ∙ refused it.0 fault)
       by_copier it is fault (inr e) has =
           copier_refused m m2 told asks same hash p end stands making fault_is it.0 (going_as m m2 told asks same hash p end stands f goes it is e) fault has
 
@@ -162,16 +162,16 @@ module _ {K V : Type 0} (m m2 : Mem (Node K V)) (told : Changed) where
     key_stays fault is s = key_at p.stands refl fault is s
 
   -- of a reservation
-  module _ (hash : K → ℕ) (r : Reserve) (end : Reserve × Outcome (Node K V) Unit) where
+  module _ (hash : K → ℕ) (r : Reserve) (end : Reserve × Yielding (Node K V) Unit) where
     abbrev RoomStays : Fault → Type 0
     RoomStays fault = NoneAsked told × RoomRefuses m m2 told hash r end fault
 
-    by_whole : (it : Copier × Outcome (Node K V) Planned) → end ≡ reserves.copied r it → (fault : Fault) → (it.1 ≡ outcome.Refused fault) ⊎ (it.1 ≡ outcome.Goes) → fault_in_copying it.0.stands ≡ Some fault
+    by_whole : (it : Copier × Yielding (Node K V) Planned) → end ≡ reserves.copied r it → (fault : Fault) → (it.1 ≡ outcome.Refused fault) ⊎ (it.1 ≡ outcome.Goes) → fault_in_copying it.0.stands ≡ Some fault
         → RoomRefuses m m2 told hash r end fault
-    by_whole it is fault (inl e) has = room_refuses m m2 told hash r end fault (is ∙ ap (λ (y : Outcome (Node K V) Planned). reserves.copied r (it.0, y)) e)
+    by_whole it is fault (inl e) has = room_refuses m m2 told hash r end fault (is ∙ ap (λ (y : Yielding (Node K V) Planned). reserves.copied r (it.0, y)) e)
     by_whole it is fault (inr e) has =
         let on = whole_on m m2 told hash r end it is e in
-        (ap (λ (y : Reserve × Outcome (Node K V) Unit). fault_in_reserving y.0.stands) on ∙ has, inr (ap (λ (y : Reserve × Outcome (Node K V) Unit). y.1) on))
+        (ap (λ (y : Reserve × Yielding (Node K V) Unit). fault_in_reserving y.0.stands) on ∙ has, inr (ap (λ (y : Reserve × Yielding (Node K V) Unit). y.1) on))
 
     room_at : (q : Reserving) → r.stands ≡ q → (fault : Fault) → fault_in_reserving q ≡ Some fault → Step m m2 told (reserves.plan_at hash r q) end → RoomStays fault
     room_at (reserving.Copies copier) at_q fault is s =
@@ -181,8 +181,8 @@ module _ {K V : Type 0} (m m2 : Mem (Node K V)) (told : Changed) where
         let one : f ≡ fault = cc is in (
           none_as _ s.2 tt,
           (
-            ap (λ (y : Reserve × Outcome (Node K V) Unit). fault_in_reserving y.0.stands) s.1 ∙ ap fault_in_reserving at_q ∙ is,
-            inl (ap (λ (y : Reserve × Outcome (Node K V) Unit). y.1) s.1 ∙ ap (λ (x : Fault). outcome.Refused x) one),
+            ap (λ (y : Reserve × Yielding (Node K V) Unit). fault_in_reserving y.0.stands) s.1 ∙ ap fault_in_reserving at_q ∙ is,
+            inl (ap (λ (y : Reserve × Yielding (Node K V) Unit). y.1) s.1 ∙ ap (λ (x : Fault). outcome.Refused x) one),
           ),
         )
     room_at _ at_q fault is s = absurd (cc is)
@@ -195,10 +195,10 @@ module _ {K V : Type 0} (m m2 : Mem (Node K V)) (told : Changed) where
     abbrev SweepStays : Fault → Type 0
     SweepStays fault = NoneAsked told × SweepRefuses m m2 told hash c end fault
 
-    by_table : (it : Copier × Outcome (Node K V) Planned) → end ≡ sweeps.copied c it → (fault : Fault) → (it.1 ≡ outcome.Refused fault) ⊎ (it.1 ≡ outcome.Goes) → fault_in_copying it.0.stands ≡ Some fault
+    by_table : (it : Copier × Yielding (Node K V) Planned) → end ≡ sweeps.copied c it → (fault : Fault) → (it.1 ≡ outcome.Refused fault) ⊎ (it.1 ≡ outcome.Goes) → fault_in_copying it.0.stands ≡ Some fault
         → SweepRefuses m m2 told hash c end fault
     by_table it is fault (inl e) has =
-        let over = is ∙ ap (λ (y : Outcome (Node K V) Planned). sweeps.copied c (it.0, y)) e in
+        let over = is ∙ ap (λ (y : Yielding (Node K V) Planned). sweeps.copied c (it.0, y)) e in
         (ap (λ (y : Sweep × Swept (Node K V)). fault_in_sweeping y.0.stands) over, inl (ap (λ (y : Sweep × Swept (Node K V)). y.1) over))
     by_table it is fault (inr e) has =
         let on = table_on m m2 told hash c end it is e in
@@ -235,9 +235,9 @@ module _ {K V : Type 0} (m m2 : Mem (Node K V)) (told : Changed) where
     )
 
     -- refused, or going on
-    room_ends : (o : Outcome (Node K V) Unit) (fault : Fault) → (o ≡ outcome.Refused fault) ⊎ (o ≡ outcome.Goes) → EndsSo fault (of_outcome o)
+    room_ends : (o : Yielding (Node K V) Unit) (fault : Fault) → (o ≡ outcome.Refused fault) ⊎ (o ≡ outcome.Goes) → EndsSo fault (of_outcome o)
     room_ends o fault (inl e) = inl (ap of_outcome e)
-    room_ends o fault (inr e) = inr (ap (λ (x : Outcome (Node K V) Unit). has_ended (of_outcome x)) e)
+    room_ends o fault (inr e) = inr (ap (λ (x : Yielding (Node K V) Unit). has_ended (of_outcome x)) e)
 
     sweep_ends : (o : Swept (Node K V)) (fault : Fault) → (o ≡ swept.Refused fault) ⊎ (o ≡ swept.Goes) → EndsSo fault (of_swept o)
     sweep_ends o fault (inl e) = inl (ap of_swept e)

@@ -9,7 +9,7 @@ use Rattle.run_debts.specs.Given.RunsDeclared.call.Call.TheVariants as call
 use Rattle.run_debts.specs.Given.RunsDeclared.effect.Effect.{Effect}
 use Rattle.run_debts.specs.Given.RunsDeclared.effect.Effect.TheVariants as effect
 use Rattle.run_debts.specs.Given.RunsDeclared.effect.Growth.TheVariants.{ABlock}
-use Rattle.run_debts.specs.Given.RunsDeclared.effect.Table.{Table}
+use Rattle.run_debts.specs.Given.RunsDeclared.effect.TableId.{TableId}
 use Rattle.run_debts.specs.Given.SchedulesEffects.{due_for, call_by, with_effect}
 use Rattle.run_debts.specs.Given.SchedulesEntry.{ByCall}
 use Rattle.run_debts.specs.Given.SchedulesMoment.{UnderWay as CallThere, Moment}
@@ -127,7 +127,7 @@ no_growth (effect.TableMade t) e = absurd (cc e)
 no_growth _ e = refl
 
 module _ (its : Acting) where
-  table_none : (t : Table) (len field stored : ℕ) (was is : Role) → NoneOfGrowth (in_table its t len field stored was is)
+  table_none : (t : TableId) (len field stored : ℕ) (was is : Role) → NoneOfGrowth (in_table its t len field stored was is)
   table_none t len field stored was is =
       let at_place = if is_place len field then placed (spot_at t field) stored was is else [] in
       none_if of_growth (field == NEXT) (followed_by its is) (if field == DEFERRED then carried t is else at_place) (followed_none of_growth no_growth its (λ turn shape. refl) is)

@@ -9,7 +9,7 @@ use Rattle.owner_calls.specs.Given.ResizeDeclared.new_table.NewTable.{NewTable}
 use Rattle.run_debts.specs.Given.RunsDeclared.shapes.TableShape.{TableShape}
 use Rattle.owner_calls.specs.Given.RawCallAsks.{told_at}
 use Rattle.run_debts.specs.Given.RawMachine.{machine_replied, sweep_told, machine_asked, is_ready}
-use Rattle.run_debts.specs.Given.RawDeclared.machines.asking.Reply.{Reply as MachineReply}
+use Rattle.run_debts.specs.Given.RawDeclared.machines.asking.MachineReply.{MachineReply}
 use Rattle.run_debts.specs.Given.RawDeclared.machines.call.Calling.{Calling}
 use Rattle.run_debts.specs.Given.RawDeclared.machines.call.Calling.TheVariants as calling
 use Rattle.run_debts.specs.Given.RawDeclared.machines.call.KeyCall.{KeyCall}
@@ -20,7 +20,7 @@ use Rattle.run_debts.specs.Given.ReservesDeclared.sweep.Sweeping.{Sweeping}
 use Rattle.run_debts.specs.Given.ReservesDeclared.sweep.Sweeping.TheVariants as sweeping
 use Rattle.owner_calls.specs.Given.SweepsSweepPoints.{next_at}
 use Rattle.run_debts.specs.Given.RunsDeclared.call.Call.{Call}
-use Rattle.run_debts.specs.Given.RunsDeclared.effect.Table.{Table}
+use Rattle.run_debts.specs.Given.RunsDeclared.effect.TableId.{TableId}
 use Rattle.run_debts.specs.Given.SchedulesBeginning.{with_call}
 use Rattle.run_debts.specs.Given.SchedulesMoment.{UnderWay as CallThere, Moment}
 use Rattle.run_debts.specs.Given.SchedulesViews.{call_of}
@@ -93,7 +93,7 @@ module _ {K V : Type 0} where
   ready_making (kinds.Count sum) e = refl
 
 module _ {K V : Type 0} (name : ℕ → List ℕ) (m : Moment K V) (known : Known) (s : Scene K V) (tables : ShowsTables name m known s) where
-  abbrev TableOf : ℕ → UnderWay K V K → Option Table
+  abbrev TableOf : ℕ → UnderWay K V K → Option TableId
   TableOf n x = option_map (of_map n) (table_made (making_of (machine_of x)))
 
   -- who had as much has the same table still

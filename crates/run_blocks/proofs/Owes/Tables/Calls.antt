@@ -6,7 +6,7 @@ use Rattle.run_debts.specs.Given.TablesDeclared.table.Table.{Table as Planned}
 use Rattle.run_debts.specs.Given.RawDeclared.machines.progress.Progress.{Progress}
 use Rattle.run_debts.specs.Given.RunsSame.{is_same}
 use Rattle.run_debts.specs.Given.RunsDeclared.effect.Effect.{Effect}
-use Rattle.run_debts.specs.Given.RunsDeclared.effect.Table.{Table}
+use Rattle.run_debts.specs.Given.RunsDeclared.effect.TableId.{TableId}
 use Rattle.run_debts.specs.Given.SchedulesEffects.{with_effects}
 use Rattle.run_debts.specs.Given.SchedulesMoment.{UnderWay as CallThere, Moment}
 use Rattle.run_debts.specs.Given.SchedulesViews.{call_of, tables_of}
@@ -67,12 +67,12 @@ module _ {K V : Type 0} (same : K → K → Bool) (hash : ℕ → K → ℕ) (na
   abbrev Goes : Type 0
   Goes = TableGoes its known new.changed s led i had now many
 
-  abbrev as_field : Option Planned → Option Table
+  abbrev as_field : Option Planned → Option TableId
   as_field o = option_map (of_map map) o
 
   -- which table its call has then, and what effects find
 
-  field_by : Goes → (h : Option Table) → h ≡ as_field had → all_by table_by effects h ≡ as_field now
+  field_by : Goes → (h : Option TableId) → h ≡ as_field had → all_by table_by effects h ≡ as_field now
   field_by (Stays quiet as_before) h is = tables_kept effects quiet h ∙ is ∙ ap as_field (sym as_before)
   field_by (IsMade p effects_are none has in_turn) h is = ap (λ (fs : List Effect). all_by table_by fs h) effects_are ∙ ap as_field (sym has)
   field_by (IsGivenUp p effects_are had_it none in_turn) h is = ap (λ (fs : List Effect). all_by table_by fs h) effects_are ∙ ap as_field (sym none)

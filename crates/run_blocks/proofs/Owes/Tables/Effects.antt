@@ -6,7 +6,7 @@ use Rattle.run_debts.specs.Given.RunsDeclared.call.Call.TheVariants as call
 use Rattle.run_debts.specs.Given.RunsDeclared.effect.Effect.{Effect}
 use Rattle.run_debts.specs.Given.RunsDeclared.effect.Effect.TheVariants as effect
 use Rattle.run_debts.specs.Given.RunsDeclared.effect.Growth.TheVariants.{ABlock}
-use Rattle.run_debts.specs.Given.RunsDeclared.effect.Table.{Table}
+use Rattle.run_debts.specs.Given.RunsDeclared.effect.TableId.{TableId}
 use Rattle.run_debts.specs.Given.RunsDeclared.shapes.TableShape.{TableShape}
 use Rattle.run_debts.specs.Given.SchedulesEffects.{due_for, call_by, with_effect}
 use Rattle.run_debts.specs.Given.SchedulesEntry.{ByCall}
@@ -17,19 +17,19 @@ use Rattle.run_blocks.proofs.Owes.Fields.{all_by, its_effect}
 use Rattle.run_blocks.proofs.Owes.Tables.Roles.{of_table, NoneOfTable}
 
 -- which table a call has after an effect
-abbrev pub table_by : Effect → Option Table → Option Table
+abbrev pub table_by : Effect → Option TableId → Option TableId
 table_by (effect.TableMade t) h = Some t
 table_by (effect.TableGivenUp t) h = None
 table_by (effect.Linked t shape) h = None
 table_by _ h = h
 
-kept_by : (f : Effect) → of_table f ≡ false → (h : Option Table) → table_by f h ≡ h
+kept_by : (f : Effect) → of_table f ≡ false → (h : Option TableId) → table_by f h ≡ h
 kept_by (effect.TableMade t) e h = absurd (cc e)
 kept_by (effect.TableGivenUp t) e h = absurd (cc e)
 kept_by (effect.Linked t shape) e h = absurd (cc e)
 kept_by _ e h = refl
 
-pub tables_kept : (effects : List Effect) → NoneOfTable effects → (h : Option Table) → all_by table_by effects h ≡ h
+pub tables_kept : (effects : List Effect) → NoneOfTable effects → (h : Option TableId) → all_by table_by effects h ≡ h
 tables_kept [] none h = refl
 tables_kept (f ∷ fs) none h = ap (all_by table_by fs) (kept_by f none.0 h) ∙ tables_kept fs none.1 h
 
@@ -79,7 +79,7 @@ module _ {K V : Type 0} where
       none_find fs (with_effect (Some own) (Some map) f m) (call_by m f c) (its_effect own map f m c is) none.1,
     )
 
-    pub made_find : (t : Table) (m : Moment K V) (c : CallThere K V) → call_of own m ≡ Some c → c.table ≡ None → t.map ≡ c.map → t.turn ≤ length (tables_of c.map m)
+    pub made_find : (t : TableId) (m : Moment K V) (c : CallThere K V) → call_of own m ≡ Some c → c.table ≡ None → t.map ≡ c.map → t.turn ≤ length (tables_of c.map m)
         → FindTables own map (effect.Asked ABlock ∷ effect.TableMade t ∷ []) m
     made_find t m c is none map_is in_turn = (
       finds_by (effect.Asked ABlock) m c is tt,
@@ -90,9 +90,9 @@ module _ {K V : Type 0} where
       ),
     )
 
-    pub given_find : (t : Table) (m : Moment K V) (c : CallThere K V) → call_of own m ≡ Some c → c.table ≡ Some t → t.turn < length (tables_of c.map m)
+    pub given_find : (t : TableId) (m : Moment K V) (c : CallThere K V) → call_of own m ≡ Some c → c.table ≡ Some t → t.turn < length (tables_of c.map m)
         → FindTables own map (effect.TableGivenUp t ∷ []) m
     given_find t m c is has in_turn = (finds_by (effect.TableGivenUp t) m c is (has, in_turn), tt)
 
-    pub linked_find : (t : Table) (shape : TableShape) (m : Moment K V) (c : CallThere K V) → call_of own m ≡ Some c → c.table ≡ Some t → FindTables own map (effect.Linked t shape ∷ []) m
+    pub linked_find : (t : TableId) (shape : TableShape) (m : Moment K V) (c : CallThere K V) → call_of own m ≡ Some c → c.table ≡ Some t → FindTables own map (effect.Linked t shape ∷ []) m
     linked_find t shape m c is has = (finds_by (effect.Linked t shape) m c is has, tt)

@@ -6,8 +6,8 @@ use Rattle.run_debts.specs.Given.SeizeWordsMem.{Mem}
 use Rattle.run_debts.specs.Given.SeizeWordsWord.{block_in}
 use Rattle.run_debts.specs.Given.SeizeWordsDeclared.at.At.{At}
 use Rattle.run_debts.specs.Given.SeizeWordsDeclared.at.At.TheVariants.{Root, Word}
-use Rattle.run_debts.specs.Given.SeizeDeclared.progress.Progress.{Progress as Counting}
-use Rattle.run_debts.specs.Given.SeizeDeclared.progress.Progress.TheVariants as progress
+use Rattle.run_debts.specs.Given.SeizeDeclared.advance.Advance.{Advance as Counting}
+use Rattle.run_debts.specs.Given.SeizeDeclared.advance.Advance.TheVariants as progress
 use Rattle.run_debts.specs.Given.TablesDeclared.node.Node.{Node}
 use Rattle.run_debts.specs.Given.TablesDeclared.node.Node.TheVariants as node
 use Rattle.run_debts.specs.Given.TablesDeclared.status.TheConstants.Status.{PROMOTED}

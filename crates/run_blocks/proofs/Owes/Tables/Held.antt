@@ -17,7 +17,7 @@ use Rattle.owner_calls.specs.Given.ResizeDeclared.new_table.Making.{Making}
 use Rattle.owner_calls.specs.Given.ResizeDeclared.new_table.Making.TheVariants as making
 use Rattle.owner_calls.specs.Given.ResizeDeclared.new_table.NewTable.{NewTable}
 use Rattle.run_debts.specs.Given.RunsDeclared.shapes.TableShape.{TableShape}
-use Rattle.run_debts.specs.Given.RunsDeclared.effect.Table.{Table}
+use Rattle.run_debts.specs.Given.RunsDeclared.effect.TableId.{TableId}
 use Rattle.run_debts.specs.Given.SchedulesMoment.{Moment}
 use Rattle.run_debts.specs.Given.SchedulesViews.{tables_of}
 use Rattle.owner_calls.specs.Given.RuleRule.{no_table}
@@ -75,7 +75,7 @@ IsNoted known b = (turn : ℕ) × (shape : TableShape) × (known.roles b ≡ rol
 
 -- where a table is to stand: at a root, or in the word of a table of the map
 abbrev pub IsLinkThere : Known → At → Type 0
-IsLinkThere known link = ((r : ℕ) × (link ≡ Root r)) ⊎ ((b : ℕ) × (len : ℕ) × (t : Table) × (link ≡ Word b NEXT) × (known.roles b ≡ role.Table t len))
+IsLinkThere known link = ((r : ℕ) × (link ≡ Root r)) ⊎ ((b : ℕ) × (len : ℕ) × (t : TableId) × (link ≡ Word b NEXT) × (known.roles b ≡ role.Table t len))
 
 module _ {K V : Type 0} (same : K → K → Bool) (hash : ℕ → K → ℕ) (name : ℕ → List ℕ) (m : Moment K V) (known : Known) (s : Scene K V) (e : Held K V) (at : IsAt same hash e s)
     (shown : Shows same name m known s) where

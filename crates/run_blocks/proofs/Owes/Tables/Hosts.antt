@@ -4,8 +4,8 @@ use Rattle.std.proofs.Common.{refl, ap, subst, ◌∙◌, inl, inr}
 use Rattle.run_debts.specs.Given.SeizeWordsMem.{Mem}
 use Rattle.run_debts.specs.Given.SeizeWordsPlan.{Plan}
 use Rattle.run_debts.specs.Given.SeizeWordsDeclared.fault.Fault.{Fault}
-use Rattle.run_debts.specs.Given.SeizeDeclared.progress.Progress.{Progress as Counting}
-use Rattle.run_debts.specs.Given.SeizeDeclared.progress.Progress.TheVariants as progress
+use Rattle.run_debts.specs.Given.SeizeDeclared.advance.Advance.{Advance as Counting}
+use Rattle.run_debts.specs.Given.SeizeDeclared.advance.Advance.TheVariants as progress
 use Rattle.run_debts.specs.Given.TablesDeclared.node.Node.{Node}
 use Rattle.run_debts.specs.Given.TablesDeclared.table.Table.{Table as Planned}
 use Rattle.run_debts.specs.Given.TablesDeclared.setting.Setting.{Setting}
@@ -17,8 +17,8 @@ use Rattle.owner_calls.specs.Given.ResizeDeclared.copier.Copier.{Copier}
 use Rattle.owner_calls.specs.Given.ResizeDeclared.copier.Copying.{Copying}
 use Rattle.owner_calls.specs.Given.ResizeDeclared.copier.Copying.TheVariants as copying
 use Rattle.owner_calls.specs.Given.ResizeDeclared.new_table.NewTable.{NewTable}
-use Rattle.owner_calls.specs.Given.ResizeDeclared.outcome.Outcome.{Outcome}
-use Rattle.owner_calls.specs.Given.ResizeDeclared.outcome.Outcome.TheVariants as outcome
+use Rattle.owner_calls.specs.Given.ResizeDeclared.yielding.Yielding.{Yielding}
+use Rattle.owner_calls.specs.Given.ResizeDeclared.yielding.Yielding.TheVariants as outcome
 use Rattle.run_debts.specs.Given.ResizeNewMap as new_map
 use Rattle.owner_calls.specs.Given.ResizeDeclared.new_map.NewMap.{NewMap}
 use Rattle.owner_calls.specs.Given.ResizeDeclared.new_map.Opening.{Opening}
@@ -94,20 +94,20 @@ module _ {K V : Type 0} (m m2 : Mem (Node K V)) (told : Changed) where
   refused_so P R x f so = (λ e. absurd (cc e), λ fault is. let one : f ≡ fault = cc is in subst R one so)
 
   -- of a copier
-  module _ (hash : K → ℕ) (c : Copier) (end : Copier × Outcome (Node K V) Planned) where
+  module _ (hash : K → ℕ) (c : Copier) (end : Copier × Yielding (Node K V) Planned) where
     abbrev CopierGoes : NewTable → Type 0
     CopierGoes x = (making_in_copying end.0.stands ≡ Some x) × (end.1 ≡ outcome.Goes)
 
     abbrev CopierRefuses : Fault → Type 0
     CopierRefuses fault = (fault_in_copying end.0.stands ≡ Some fault) × (end.1 ≡ outcome.Goes)
 
-    copier_goes : (d : Copier × Outcome (Node K V) Planned) (x : NewTable) → end ≡ d → making_in_copying d.0.stands ≡ Some x → d.1 ≡ outcome.Goes → CopierGoes x
+    copier_goes : (d : Copier × Yielding (Node K V) Planned) (x : NewTable) → end ≡ d → making_in_copying d.0.stands ≡ Some x → d.1 ≡ outcome.Goes → CopierGoes x
     copier_goes d x is making goes =
-        (ap (λ (y : Copier × Outcome (Node K V) Planned). making_in_copying y.0.stands) is ∙ making, ap (λ (y : Copier × Outcome (Node K V) Planned). y.1) is ∙ goes)
+        (ap (λ (y : Copier × Yielding (Node K V) Planned). making_in_copying y.0.stands) is ∙ making, ap (λ (y : Copier × Yielding (Node K V) Planned). y.1) is ∙ goes)
 
-    copier_refuses : (d : Copier × Outcome (Node K V) Planned) (fault : Fault) → end ≡ d → fault_in_copying d.0.stands ≡ Some fault → d.1 ≡ outcome.Goes → CopierRefuses fault
+    copier_refuses : (d : Copier × Yielding (Node K V) Planned) (fault : Fault) → end ≡ d → fault_in_copying d.0.stands ≡ Some fault → d.1 ≡ outcome.Goes → CopierRefuses fault
     copier_refuses d fault is refused goes =
-        (ap (λ (y : Copier × Outcome (Node K V) Planned). fault_in_copying y.0.stands) is ∙ refused, ap (λ (y : Copier × Outcome (Node K V) Planned). y.1) is ∙ goes)
+        (ap (λ (y : Copier × Yielding (Node K V) Planned). fault_in_copying y.0.stands) is ∙ refused, ap (λ (y : Copier × Yielding (Node K V) Planned). y.1) is ∙ goes)
 
     -- it gives its mark back, having told what it has done, if anything
     refusing_fault : (word : ℕ) (fault : Fault) (q : Bool) → fault_in_copying (if q then copiers_at.standing c (copying.Unmarks word fault) else copiers_at.standing c (copying.Tallies word fault)).stands ≡ Some fault
@@ -174,9 +174,9 @@ module _ {K V : Type 0} (m m2 : Mem (Node K V)) (told : Changed) where
       copier_refused c is fault has =
           (ap (λ (y : KeyCall K V K × Called (Node K V)). fault_in_calling y.0.stands) is ∙ refused c ∙ has, inr (ap (λ (y : KeyCall K V K × Called (Node K V)). y.1) is))
 
-    pub going_as : (stands : Copier → Calling) (f : Copier × Outcome (Node K V) Planned → KeyCall K V K × Called (Node K V)) → ((c : Copier) → f (c, outcome.Goes) ≡ going p (stands c))
-        → (it : Copier × Outcome (Node K V) Planned) → end ≡ f it → it.1 ≡ outcome.Goes → end ≡ going p (stands it.0)
-    going_as stands f so (c, o) is goes = is ∙ ap (λ (y : Outcome (Node K V) Planned). f (c, y)) goes ∙ so c
+    pub going_as : (stands : Copier → Calling) (f : Copier × Yielding (Node K V) Planned → KeyCall K V K × Called (Node K V)) → ((c : Copier) → f (c, outcome.Goes) ≡ going p (stands c))
+        → (it : Copier × Yielding (Node K V) Planned) → end ≡ f it → it.1 ≡ outcome.Goes → end ≡ going p (stands it.0)
+    going_as stands f so (c, o) is goes = is ∙ ap (λ (y : Yielding (Node K V) Planned). f (c, y)) goes ∙ so c
 
     key_at : (q : Calling) (n : NewTable) → making_in_calling q ≡ Some n → Step (calls.plan_at asks same hash p q) end → Within n KeyGoes KeyRefuses
     key_at (calling.Firsts k) n is s = let it = told_in m m2 told (first_made p) (new_table_plan k) end s in within k n KeyGoes KeyRefuses is (it.0, it.2, first_so it.0 it.1)
@@ -209,18 +209,18 @@ module _ {K V : Type 0} (m m2 : Mem (Node K V)) (told : Changed) where
     key_within n is s = key_at p.stands n is s
 
   -- of a reservation
-  module _ (hash : K → ℕ) (r : Reserve) (end : Reserve × Outcome (Node K V) Unit) where
+  module _ (hash : K → ℕ) (r : Reserve) (end : Reserve × Yielding (Node K V) Unit) where
     abbrev pub RoomGoes : NewTable → Type 0
     RoomGoes x = (making_in_reserving end.0.stands ≡ Some x) × (end.1 ≡ outcome.Goes)
 
     abbrev pub RoomRefuses : Fault → Type 0
     RoomRefuses fault = (fault_in_reserving end.0.stands ≡ Some fault) × ((end.1 ≡ outcome.Refused fault) ⊎ (end.1 ≡ outcome.Goes))
 
-    room_goes : (d : Reserve × Outcome (Node K V) Unit) (x : NewTable) → end ≡ d → making_in_reserving d.0.stands ≡ Some x → d.1 ≡ outcome.Goes → RoomGoes x
-    room_goes d x is making goes = (ap (λ (y : Reserve × Outcome (Node K V) Unit). making_in_reserving y.0.stands) is ∙ making, ap (λ (y : Reserve × Outcome (Node K V) Unit). y.1) is ∙ goes)
+    room_goes : (d : Reserve × Yielding (Node K V) Unit) (x : NewTable) → end ≡ d → making_in_reserving d.0.stands ≡ Some x → d.1 ≡ outcome.Goes → RoomGoes x
+    room_goes d x is making goes = (ap (λ (y : Reserve × Yielding (Node K V) Unit). making_in_reserving y.0.stands) is ∙ making, ap (λ (y : Reserve × Yielding (Node K V) Unit). y.1) is ∙ goes)
 
     pub room_refuses : (fault : Fault) → end ≡ reserves.refusing r fault → RoomRefuses fault
-    room_refuses fault is = (ap (λ (y : Reserve × Outcome (Node K V) Unit). fault_in_reserving y.0.stands) is, inl (ap (λ (y : Reserve × Outcome (Node K V) Unit). y.1) is))
+    room_refuses fault is = (ap (λ (y : Reserve × Yielding (Node K V) Unit). fault_in_reserving y.0.stands) is, inl (ap (λ (y : Reserve × Yielding (Node K V) Unit). y.1) is))
 
     made_so : (e : NewTable × Counting Planned) → end ≡ reserves.made r e → LeadsTo RoomGoes RoomRefuses e
     made_so (x, progress.Goes) is = goes_so RoomGoes RoomRefuses x (room_goes _ x is refl refl)
@@ -234,8 +234,8 @@ module _ {K V : Type 0} (m m2 : Mem (Node K V)) (told : Changed) where
     more_so t (x, progress.Done u) is = done_so RoomGoes RoomRefuses x u
     more_so t (x, progress.Refused f) is = refused_so RoomGoes RoomRefuses x f (room_refuses f is)
 
-    pub whole_on : (it : Copier × Outcome (Node K V) Planned) → end ≡ reserves.copied r it → it.1 ≡ outcome.Goes → end ≡ (reserves.standing r (reserving.Copies it.0), outcome.Goes)
-    whole_on (c, o) is goes = is ∙ ap (λ (y : Outcome (Node K V) Planned). reserves.copied r (c, y)) goes
+    pub whole_on : (it : Copier × Yielding (Node K V) Planned) → end ≡ reserves.copied r it → it.1 ≡ outcome.Goes → end ≡ (reserves.standing r (reserving.Copies it.0), outcome.Goes)
+    whole_on (c, o) is goes = is ∙ ap (λ (y : Yielding (Node K V) Planned). reserves.copied r (c, y)) goes
 
     room_at : (q : Reserving) (n : NewTable) → making_in_reserving q ≡ Some n → Step (reserves.plan_at hash r q) end → Within n RoomGoes RoomRefuses
     room_at (reserving.Makes k) n is s = let it = told_in m m2 told (reserves.made r) (new_table_plan k) end s in within k n RoomGoes RoomRefuses is (it.0, it.2, made_so it.0 it.1)
@@ -250,7 +250,7 @@ module _ {K V : Type 0} (m m2 : Mem (Node K V)) (told : Changed) where
             λ fault goes.
                 let so = inner.2.1 fault goes in
                 let is_on = whole_on it.0 it.1 so.1 in
-                (ap (λ (y : Reserve × Outcome (Node K V) Unit). fault_in_reserving y.0.stands) is_on ∙ so.0, inr (ap (λ (y : Reserve × Outcome (Node K V) Unit). y.1) is_on)),
+                (ap (λ (y : Reserve × Yielding (Node K V) Unit). fault_in_reserving y.0.stands) is_on ∙ so.0, inr (ap (λ (y : Reserve × Yielding (Node K V) Unit). y.1) is_on)),
           ),
         )
     room_at _ n is s = absurd (cc is)
@@ -266,8 +266,8 @@ module _ {K V : Type 0} (m m2 : Mem (Node K V)) (told : Changed) where
     abbrev pub SweepRefuses : Fault → Type 0
     SweepRefuses fault = (fault_in_sweeping end.0.stands ≡ Some fault) × ((end.1 ≡ swept.Refused fault) ⊎ (end.1 ≡ swept.Goes))
 
-    pub table_on : (it : Copier × Outcome (Node K V) Planned) → end ≡ sweeps.copied c it → it.1 ≡ outcome.Goes → end ≡ sweeps_at.going c (sweeping.Copies it.0)
-    table_on (x, o) is goes = is ∙ ap (λ (y : Outcome (Node K V) Planned). sweeps.copied c (x, y)) goes
+    pub table_on : (it : Copier × Yielding (Node K V) Planned) → end ≡ sweeps.copied c it → it.1 ≡ outcome.Goes → end ≡ sweeps_at.going c (sweeping.Copies it.0)
+    table_on (x, o) is goes = is ∙ ap (λ (y : Yielding (Node K V) Planned). sweeps.copied c (x, y)) goes
 
     sweep_at : (q : Sweeping) (n : NewTable) → making_in_sweeping q ≡ Some n → Step (sweeps.plan_at hash c q) end → Within n SweepGoes SweepRefuses
     sweep_at (sweeping.Copies copier) n is s =

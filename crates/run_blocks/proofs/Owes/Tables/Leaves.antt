@@ -8,7 +8,7 @@ use Rattle.run_debts.specs.Given.RunsDeclared.shapes.TableShape.{TableShape}
 use Rattle.run_debts.specs.Given.RunsDeclared.effect.Effect.{Effect}
 use Rattle.run_debts.specs.Given.RunsDeclared.effect.Effect.TheVariants as effect
 use Rattle.run_debts.specs.Given.RunsDeclared.effect.Growth.TheVariants.{ABlock}
-use Rattle.run_debts.specs.Given.RunsDeclared.effect.Table.{Table}
+use Rattle.run_debts.specs.Given.RunsDeclared.effect.TableId.{TableId}
 use Rattle.run_debts.specs.Given.EffectsDeclared.changed.Changed.{Changed}
 use Rattle.run_debts.specs.Given.EffectsDeclared.changed.Changed.TheVariants as changed
 use Rattle.run_debts.specs.Given.EffectsDeclared.changed.Kind.TheVariants as kind
@@ -31,7 +31,7 @@ module _ {K V : Type 0} (its : Acting) (known : Known) (told : Changed) (s t : S
   abbrev effects : List Effect
   effects = effects_of its known told
 
-  abbrev its_table : Planned → Table
+  abbrev its_table : Planned → TableId
   its_table p = table_at its p.turn
 
   -- This caller had that table before, if any, and has this one now; each other one has what it had.

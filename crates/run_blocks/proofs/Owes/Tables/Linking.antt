@@ -6,7 +6,7 @@ use Rattle.run_debts.specs.Given.TablesDeclared.table_words.TheConstants.{NEXT, 
 use Rattle.run_debts.specs.Given.RunsDeclared.shapes.TableShape.{TableShape}
 use Rattle.run_debts.specs.Given.RunsDeclared.effect.Effect.{Effect}
 use Rattle.run_debts.specs.Given.RunsDeclared.effect.Effect.TheVariants as effect
-use Rattle.run_debts.specs.Given.RunsDeclared.effect.Table.{Table}
+use Rattle.run_debts.specs.Given.RunsDeclared.effect.TableId.{TableId}
 use Rattle.run_debts.specs.Given.EffectsEffects.{table_at, followed_by, led_to, carried, placed, spot_at, is_place, in_block, linked_on, stored_on, in_block_on}
 use Rattle.run_debts.specs.Given.EffectsKnown.{Known, with_role}
 use Rattle.run_debts.specs.Given.EffectsDeclared.acting.Acting.{Acting}
@@ -29,13 +29,13 @@ module _ (its : Acting) (known : Known) (b turn : ℕ) (shape : TableShape) wher
       (subst (λ (z : Role). LinkedSo (led_to its was z) (linked_on its b z known)) (sym r) (refl, refl))
 
   -- the word that leads to the next table
-  next_links : (was : Role) (len : ℕ) (f : Table) → LinkedSo (in_block its (role.Table f len) NEXT known.stored false was own_role) (in_block_on its (role.Table f len) NEXT false b own_role known)
+  next_links : (was : Role) (len : ℕ) (f : TableId) → LinkedSo (in_block its (role.Table f len) NEXT known.stored false was own_role) (in_block_on its (role.Table f len) NEXT false b own_role known)
   next_links was len f = (
     ap (λ (z : Bool). if z then followed_by its own_role else (if NEXT == DEFERRED then carried f own_role else (if is_place len NEXT then placed (spot_at f NEXT) known.stored was own_role else []))) (eq-eqb NEXT NEXT refl),
     ap (λ (z : Bool). if z then linked_on its b own_role known else (if is_place len NEXT then stored_on b own_role known else known)) (eq-eqb NEXT NEXT refl),
   )
 
-  pub table_links : (q : Bool) (owner was is : Role) (len : ℕ) (f : Table) → owner ≡ role.Table f len → q ≡ false → is ≡ own_role
+  pub table_links : (q : Bool) (owner was is : Role) (len : ℕ) (f : TableId) → owner ≡ role.Table f len → q ≡ false → is ≡ own_role
       → LinkedSo (in_block its owner NEXT known.stored q was is) (in_block_on its owner NEXT q b is known)
   table_links q owner was is len f o e r =
       subst (λ (z : Role). LinkedSo (in_block its z NEXT known.stored q was is) (in_block_on its z NEXT q b is known)) (sym o)

@@ -3,8 +3,8 @@ use Rattle.std.specs.Prelude.{◌≡◌, ◌≢◌, ℕ, Bool, false, List, [], 
 use Rattle.std.proofs.Common.{refl, ap, sym, subst, ◌∙◌, arith, inl, inr}
 use Rattle.run_debts.specs.Given.SeizeWordsWord.{block_in}
 use Rattle.run_debts.specs.Given.SeizeWorld.{World}
-use Rattle.run_debts.specs.Given.SeizeDeclared.progress.Progress.{Progress}
-use Rattle.run_debts.specs.Given.SeizeDeclared.progress.Progress.TheVariants as progress
+use Rattle.run_debts.specs.Given.SeizeDeclared.advance.Advance.{Advance}
+use Rattle.run_debts.specs.Given.SeizeDeclared.advance.Advance.TheVariants as progress
 use Rattle.run_debts.specs.Given.TablesDeclared.node.Node.{Node}
 use Rattle.run_debts.specs.Given.TablesDeclared.setting.Setting.{Setting}
 use Rattle.run_debts.specs.Given.TablesDeclared.table.Table.{Table as Planned}
@@ -61,7 +61,7 @@ first_none map (f ∷ effects) none = by f none.0 (first_none map effects none.1
     by _ e rest = rest
 
 module _ {K V : Type 0} (same : K → K → Bool) (hash : ℕ → K → ℕ) (name : ℕ → List ℕ) (m : Moment K V) (known : Known) (s : Scene K V) (old new : Held K V) (at : IsAt same hash old s)
-    (shown : Shows same name m known s) (tables : ShowsTables name m known s) (i : ℕ) (b : Beginning K) (here : s.makers i ≡ Some b) (end : NewMap) (said : Progress Setting)
+    (shown : Shows same name m known s) (tables : ShowsTables name m known s) (i : ℕ) (b : Beginning K) (here : s.makers i ≡ Some b) (end : NewMap) (said : Advance Setting)
     (steps : MakingStepsFrom b.machine old new end said)
     (did : MakingStepsAmong V same same old.batch_size old.roots slot_of s.world s.maps s.calls s.makers s.enders i b new.memory (end, said)) (of : Option ℕ)
     (comes : MakingComesTo same hash s old new i b end did.step.w2 said) where
@@ -85,34 +85,34 @@ module _ {K V : Type 0} (same : K → K → Bool) (hash : ℕ → K → ℕ) (na
 
   -- where it has come, by what it says
 
-  abbrev After : (q : Progress Setting) → MakingComesTo same hash s old new i b end w2 q → Scene K V
+  abbrev After : (q : Advance Setting) → MakingComesTo same hash s old new i b end w2 q → Scene K V
   After q c = making_after same hash s old new i b end w2 q c
 
-  at_after : (q : Progress Setting) (c : MakingComesTo same hash s old new i b end w2 q) → IsAt same hash new (After q c)
+  at_after : (q : Advance Setting) (c : MakingComesTo same hash s old new i b end w2 q) → IsAt same hash new (After q c)
   at_after progress.Goes c = c
   at_after progress.Waits c = absurd c
   at_after (progress.Done setting) c = c.2
   at_after (progress.Refused fault) c = c
 
-  same_calls : (q : Progress Setting) (c : MakingComesTo same hash s old new i b end w2 q) → (After q c).calls ≡ s.calls
+  same_calls : (q : Advance Setting) (c : MakingComesTo same hash s old new i b end w2 q) → (After q c).calls ≡ s.calls
   same_calls progress.Goes c = refl
   same_calls progress.Waits c = refl
   same_calls (progress.Done setting) c = refl
   same_calls (progress.Refused fault) c = refl
 
-  others_make : (q : Progress Setting) (c : MakingComesTo same hash s old new i b end w2 q) (j : ℕ) → j ≢ i → (After q c).makers j ≡ s.makers j
+  others_make : (q : Advance Setting) (c : MakingComesTo same hash s old new i b end w2 q) (j : ℕ) → j ≢ i → (After q c).makers j ≡ s.makers j
   others_make progress.Goes c j ne = at_other s.makers i (Some (record b { machine = end })) j ne
   others_make progress.Waits c j ne = refl
   others_make (progress.Done setting) c j ne = at_other s.makers i None j ne
   others_make (progress.Refused fault) c j ne = at_other s.makers i None j ne
 
-  abbrev now_of : Progress Setting → Option Planned
+  abbrev now_of : Advance Setting → Option Planned
   now_of progress.Goes = table_made (making_in_opening end.stands)
   now_of progress.Waits = None
   now_of (progress.Done setting) = None
   now_of (progress.Refused fault) = None
 
-  its_then : (q : Progress Setting) (c : MakingComesTo same hash s old new i b end w2 q) (p : Planned) → now_of q ≡ Some p → HoldsTable (After q c) i (block_in p.link)
+  its_then : (q : Advance Setting) (c : MakingComesTo same hash s old new i b end w2 q) (p : Planned) → now_of q ≡ Some p → HoldsTable (After q c) i (block_in p.link)
   its_then progress.Goes c p has = inr (record b { machine = end }, at_same s.makers i (Some (record b { machine = end })) i refl, p, has, refl)
   its_then progress.Waits c p has = absurd c
   its_then (progress.Done setting) c p has = absurd (cc has)

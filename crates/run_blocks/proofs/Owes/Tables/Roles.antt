@@ -11,7 +11,7 @@ use Rattle.run_debts.specs.Given.RunsDeclared.effect.Effect.{Effect}
 use Rattle.run_debts.specs.Given.RunsDeclared.effect.Effect.TheVariants as effect
 use Rattle.run_debts.specs.Given.RunsDeclared.effect.Growth.TheVariants.{ABucket}
 use Rattle.run_debts.specs.Given.RunsDeclared.effect.Spot.{Spot}
-use Rattle.run_debts.specs.Given.RunsDeclared.effect.Table.{Table}
+use Rattle.run_debts.specs.Given.RunsDeclared.effect.TableId.{TableId}
 use Rattle.run_debts.specs.Given.SchedulesLists.{put}
 use Rattle.run_debts.specs.Given.EffectsDeclared.changed.Changed.{Changed}
 use Rattle.run_debts.specs.Given.EffectsDeclared.changed.Changed.TheVariants as changed
@@ -105,7 +105,7 @@ module _ (its : Acting) (known : Known) where
   stored_same b (role.Table t len) e x = refl
   stored_same b (role.Counter map) e x = refl
 
-  by_word : (t : Table) (s : Spot) (b : ℕ) (was is : Role) → known.roles b ≡ is → (next list place : Bool)
+  by_word : (t : TableId) (s : Spot) (b : ℕ) (was is : Role) → known.roles b ≡ is → (next list place : Bool)
       → WroteTables (if next then followed_by its is else (if list then carried t is else (if place then placed s known.stored was is else [])))
       (if next then linked_on its b is known else (if place then stored_on b is known else known))
   by_word t s b was is e true list place = followed_so b is e

@@ -7,36 +7,36 @@ use Rattle.run_names.specs.Presence.Counts.{count_in}
 use Rattle.run_names.specs.Presence.Crowd.{IsAbsent, LeadsHome, StandsAt, kept, weigh}
 use Rattle.run_names.specs.Presence.Places.{IsElsewhere, place_of}
 use Rattle.run_names.specs.declared.counts.Counts.{Counts}
-use Rattle.run_names.specs.declared.places.Places.{Places}
+use Rattle.run_names.specs.declared.name_index.NameIndex.{NameIndex}
 use Rattle.run_names.proofs.Presence.Crowds.Homes.{OthersLead, changed_leads, come_leads, left_leads, more_stands, put_leads}
 use Rattle.run_names.proofs.Presence.Crowds.Kept.{kept_few, kept_more}
 use Rattle.run_names.proofs.Presence.Crowds.Weights.{counted_changed, counted_left, counted_more, weigh_changed, weigh_few, weigh_left, weigh_more}
 use Rattle.run_executor.specs.Named.Roll.{AreKept, is_on, is_under, name_of}
-use Rattle.run_executor.specs.declared.caller.Caller.{Caller}
+use Rattle.run_executor.specs.declared.caller.NamedCaller.{NamedCaller}
 
 module _ {V : Type 0} where
   -- nobody is there
-  pub kept_none : (comers : List (Option (Caller V))) (places : Places) (under : Counts) (on : List ℕ) → comers ≡ [] → ((guard : List ℕ) → count_in guard under ≡ 0)
+  pub kept_none : (comers : List (Option (NamedCaller V))) (places : NameIndex) (under : Counts) (on : List ℕ) → comers ≡ [] → ((guard : List ℕ) → count_in guard under ≡ 0)
       → ((map : ℕ) → slice_index on map ≡ 0) → AreKept comers places under on 0
   kept_none comers places under on none no_guard no_map =
-      subst (λ (l : List (Option (Caller V))). AreKept l places under on 0) (sym none)
+      subst (λ (l : List (Option (NamedCaller V))). AreKept l places under on 0) (sym none)
       (record { leads = record { home = λ p t s. absurd (cc s) }; under_so = no_guard; on_so = no_map; count_so = refl })
 
-  kept_empty : (comers : List (Option (Caller V))) → kept (comers ++ (None ∷ [])) ≡ kept comers
+  kept_empty : (comers : List (Option (NamedCaller V))) → kept (comers ++ (None ∷ [])) ≡ kept comers
   kept_empty [] = refl
   kept_empty (None ∷ comers) = kept_empty comers
-  kept_empty (Some t ∷ comers) = ap (λ (l : List (Caller V)). t ∷ l) (kept_empty comers)
+  kept_empty (Some t ∷ comers) = ap (λ (l : List (NamedCaller V)). t ∷ l) (kept_empty comers)
 
-  empty_leads : (comers : List (Option (Caller V))) (places : Places) → LeadsHome name_of comers places → LeadsHome name_of (comers ++ (None ∷ [])) places
+  empty_leads : (comers : List (Option (NamedCaller V))) (places : NameIndex) → LeadsHome name_of comers places → LeadsHome name_of (comers ++ (None ∷ [])) places
   empty_leads comers places leads = record { home = λ p t s. at p t (more_stands comers None p t s) }
     where
-      at : (p : ℕ) (t : Caller V) → ((p ≡ length comers) × (None ≡ Some t)) ⊎ StandsAt comers p t → place_of (name_of t) places ≡ Some p
+      at : (p : ℕ) (t : NamedCaller V) → ((p ≡ length comers) × (None ≡ Some t)) ⊎ StandsAt comers p t → place_of (name_of t) places ≡ Some p
       at p t (inl h) = let e = h.1 in absurd (cc e)
       at p t (inr s) = leads.home p t s
 
   -- a place is there for one who has not come yet
-  pub place_kept : (comers : List (Option (Caller V))) (old new : Places) (under under2 : Counts) (on on2 : List ℕ) (count : ℕ) (name : List ℕ) → AreKept comers old under on count
-      → IsAbsent name_of name comers → OthersLead {T = Caller V} name_of name old new → ((guard : List ℕ) → count_in guard under2 ≡ count_in guard under) → ((map : ℕ) → slice_index on2 map ≡ slice_index on map)
+  pub place_kept : (comers : List (Option (NamedCaller V))) (old new : NameIndex) (under under2 : Counts) (on on2 : List ℕ) (count : ℕ) (name : List ℕ) → AreKept comers old under on count
+      → IsAbsent name_of name comers → OthersLead {T = NamedCaller V} name_of name old new → ((guard : List ℕ) → count_in guard under2 ≡ count_in guard under) → ((map : ℕ) → slice_index on2 map ≡ slice_index on map)
       → AreKept (comers ++ (None ∷ [])) new under2 on2 count
   place_kept comers old new under under2 on on2 count name is absent others guards maps = record {
     leads = empty_leads comers new (put_leads name_of comers old new name is.leads absent others);
@@ -45,12 +45,12 @@ module _ {V : Type 0} where
     count_so = is.count_so ∙ sym (ap length (kept_empty comers));
   }
 
-  pub filled : (comers : List (Option (Caller V))) (d : Caller V) → slice_set (comers ++ (None ∷ [])) (length comers) (Some d) ≡ comers ++ Some d ∷ []
+  pub filled : (comers : List (Option (NamedCaller V))) (d : NamedCaller V) → slice_set (comers ++ (None ∷ [])) (length comers) (Some d) ≡ comers ++ Some d ∷ []
   filled [] d = refl
-  filled (x ∷ comers) d = ap (λ (l : List (Option (Caller V))). x ∷ l) (filled comers d)
+  filled (x ∷ comers) d = ap (λ (l : List (Option (NamedCaller V))). x ∷ l) (filled comers d)
 
   -- one more of a guard
-  under_more : (under under2 : Counts) (d : Caller V) (guard : List ℕ) (n : ℕ) → count_in d.guard under2 ≡ count_in d.guard under + 1
+  under_more : (under under2 : Counts) (d : NamedCaller V) (guard : List ℕ) (n : ℕ) → count_in d.guard under2 ≡ count_in d.guard under + 1
       → ((g : List ℕ) → IsElsewhere d.guard g → count_in g under2 ≡ count_in g under) → count_in guard under ≡ n → count_in guard under2 ≡ is_under guard d + n
   under_more under under2 d guard n here others is = by (is_same d.guard guard) refl
     where
@@ -69,8 +69,8 @@ module _ {V : Type 0} where
           (others guard (λ one. let told : is_same d.guard guard ≡ true = (same_tells d.guard guard).1 one in let never : true ≡ false = sym told ∙ e in cc never)) is
 
   -- one comes
-  pub come_kept : (comers : List (Option (Caller V))) (old new : Places) (under under2 : Counts) (on on2 : List ℕ) (count : ℕ) (d : Caller V) → AreKept comers old under on count
-      → IsAbsent name_of d.name comers → OthersLead {T = Caller V} name_of d.name old new → place_of d.name new ≡ Some (length comers) → count_in d.guard under2 ≡ count_in d.guard under + 1
+  pub come_kept : (comers : List (Option (NamedCaller V))) (old new : NameIndex) (under under2 : Counts) (on on2 : List ℕ) (count : ℕ) (d : NamedCaller V) → AreKept comers old under on count
+      → IsAbsent name_of d.name comers → OthersLead {T = NamedCaller V} name_of d.name old new → place_of d.name new ≡ Some (length comers) → count_in d.guard under2 ≡ count_in d.guard under + 1
       → ((g : List ℕ) → IsElsewhere d.guard g → count_in g under2 ≡ count_in g under) → ((map : ℕ) → slice_index on2 map ≡ (if d.map == map then 1 else 0) + slice_index on map)
       → AreKept (comers ++ (Some d ∷ [])) new under2 on2 (count + 1)
   come_kept comers old new under under2 on on2 count d is absent others led here guards maps = record {
@@ -84,7 +84,7 @@ module _ {V : Type 0} where
   }
 
   -- one goes on
-  pub changed_kept : (comers : List (Option (Caller V))) (places : Places) (under : Counts) (on : List ℕ) (count place : ℕ) (d n : Caller V) → AreKept comers places under on count
+  pub changed_kept : (comers : List (Option (NamedCaller V))) (places : NameIndex) (under : Counts) (on : List ℕ) (count place : ℕ) (d n : NamedCaller V) → AreKept comers places under on count
       → StandsAt comers place d → n.name ≡ d.name → n.guard ≡ d.guard → n.map ≡ d.map → AreKept (slice_set comers place (Some n)) places under on count
   changed_kept comers places under on count place d n is stands name guard map = record {
     leads = changed_leads name_of comers places place d n is.leads stands name;
@@ -93,11 +93,11 @@ module _ {V : Type 0} where
     count_so = is.count_so ∙ sym (counted_changed comers place d n stands);
   }
     where
-      alike : (weight : Caller V → ℕ) → weight n ≡ weight d → weigh weight (kept (slice_set comers place (Some n))) ≡ weigh weight (kept comers)
+      alike : (weight : NamedCaller V → ℕ) → weight n ≡ weight d → weigh weight (kept (slice_set comers place (Some n))) ≡ weigh weight (kept comers)
       alike weight e = let w = weigh_changed weight comers place d n stands in omega (arith, w, e)
 
   -- one less of a guard
-  under_less : (under under2 : Counts) (d : Caller V) (guard : List ℕ) (rest : ℕ) → count_in d.guard under2 + 1 ≡ count_in d.guard under
+  under_less : (under under2 : Counts) (d : NamedCaller V) (guard : List ℕ) (rest : ℕ) → count_in d.guard under2 + 1 ≡ count_in d.guard under
       → ((g : List ℕ) → IsElsewhere d.guard g → count_in g under2 ≡ count_in g under) → is_under guard d + rest ≡ count_in guard under → count_in guard under2 ≡ rest
   under_less under under2 d guard rest here others is = by (is_same d.guard guard) refl is
     where
@@ -116,8 +116,8 @@ module _ {V : Type 0} where
           (others guard (λ one. let told : is_same d.guard guard ≡ true = (same_tells d.guard guard).1 one in let never : true ≡ false = sym told ∙ e in cc never)) h
 
   -- one leaves
-  pub left_kept : (comers : List (Option (Caller V))) (old new : Places) (under under2 : Counts) (on on2 : List ℕ) (count count2 place : ℕ) (d : Caller V) → AreKept comers old under on count
-      → StandsAt comers place d → OthersLead {T = Caller V} name_of d.name old new → count_in d.guard under2 + 1 ≡ count_in d.guard under
+  pub left_kept : (comers : List (Option (NamedCaller V))) (old new : NameIndex) (under under2 : Counts) (on on2 : List ℕ) (count count2 place : ℕ) (d : NamedCaller V) → AreKept comers old under on count
+      → StandsAt comers place d → OthersLead {T = NamedCaller V} name_of d.name old new → count_in d.guard under2 + 1 ≡ count_in d.guard under
       → ((g : List ℕ) → IsElsewhere d.guard g → count_in g under2 ≡ count_in g under) → ((map : ℕ) → (if d.map == map then 1 else 0) + slice_index on2 map ≡ slice_index on map)
       → count2 + 1 ≡ count → AreKept (slice_set comers place None) new under2 on2 count2
   left_kept comers old new under under2 on on2 count count2 place d is stands others here guards maps one = record {
@@ -131,8 +131,8 @@ module _ {V : Type 0} where
       less a b c e = omega (arith, e)
 
   -- places at the end go, where nobody stands
-  pub trimmed_kept : (comers trimmed : List (Option (Caller V))) (places : Places) (under : Counts) (on : List ℕ) (count : ℕ) → AreKept comers places under on count
-      → kept trimmed ≡ kept comers → ((p : ℕ) (t : Caller V) → StandsAt trimmed p t → StandsAt comers p t) → AreKept trimmed places under on count
+  pub trimmed_kept : (comers trimmed : List (Option (NamedCaller V))) (places : NameIndex) (under : Counts) (on : List ℕ) (count : ℕ) → AreKept comers places under on count
+      → kept trimmed ≡ kept comers → ((p : ℕ) (t : NamedCaller V) → StandsAt trimmed p t → StandsAt comers p t) → AreKept trimmed places under on count
   trimmed_kept comers trimmed places under on count is same stands = record {
     leads = record { home = λ p t s. is.leads.home p t (stands p t s) };
     under_so = λ guard. is.under_so guard ∙ sym (ap (weigh (is_under guard)) same);
@@ -141,7 +141,7 @@ module _ {V : Type 0} where
   }
 
   -- none is more than there are
-  pub few_under : (comers : List (Option (Caller V))) (guard : List ℕ) → weigh (is_under guard) (kept comers) ≤ length comers
+  pub few_under : (comers : List (Option (NamedCaller V))) (guard : List ℕ) → weigh (is_under guard) (kept comers) ≤ length comers
   few_under comers guard =
       let few = weigh_few (is_under guard) (λ d. at_most (is_same d.guard guard)) (kept comers) in
       let kept_so = kept_few comers in
@@ -151,7 +151,7 @@ module _ {V : Type 0} where
       at_most true = omega arith
       at_most false = omega arith
 
-  pub few_on : (comers : List (Option (Caller V))) (map : ℕ) → weigh (is_on map) (kept comers) ≤ length comers
+  pub few_on : (comers : List (Option (NamedCaller V))) (map : ℕ) → weigh (is_on map) (kept comers) ≤ length comers
   few_on comers map =
       let few = weigh_few (is_on map) (λ d. at_most (d.map == map)) (kept comers) in
       let kept_so = kept_few comers in
@@ -162,7 +162,7 @@ module _ {V : Type 0} where
       at_most false = omega arith
 
   -- where one stands its guard and its map are counted
-  pub some_under : (comers : List (Option (Caller V))) (places : Places) (under : Counts) (on : List ℕ) (count place : ℕ) (d : Caller V) → AreKept comers places under on count → StandsAt comers place d
+  pub some_under : (comers : List (Option (NamedCaller V))) (places : NameIndex) (under : Counts) (on : List ℕ) (count place : ℕ) (d : NamedCaller V) → AreKept comers places under on count → StandsAt comers place d
       → 1 ≤ count_in d.guard under
   some_under comers places under on count place d is stands =
       let left = weigh_left (is_under d.guard) comers place d stands in
@@ -170,7 +170,7 @@ module _ {V : Type 0} where
       let one : is_under d.guard d ≡ 1 = ap (λ (b : Bool). if b then 1 else 0) ((same_tells d.guard d.guard).1 refl) in
       omega (arith, left, so, one)
 
-  pub some_on : (comers : List (Option (Caller V))) (places : Places) (under : Counts) (on : List ℕ) (count place : ℕ) (d : Caller V) → AreKept comers places under on count → StandsAt comers place d
+  pub some_on : (comers : List (Option (NamedCaller V))) (places : NameIndex) (under : Counts) (on : List ℕ) (count place : ℕ) (d : NamedCaller V) → AreKept comers places under on count → StandsAt comers place d
       → 1 ≤ slice_index on d.map
   some_on comers places under on count place d is stands =
       let left = weigh_left (is_on d.map) comers place d stands in
@@ -181,7 +181,7 @@ module _ {V : Type 0} where
       itself : (n : ℕ) → (n == n) ≡ true
       itself n = grind arith
 
-  pub some_count : (comers : List (Option (Caller V))) (places : Places) (under : Counts) (on : List ℕ) (count place : ℕ) (d : Caller V) → AreKept comers places under on count → StandsAt comers place d
+  pub some_count : (comers : List (Option (NamedCaller V))) (places : NameIndex) (under : Counts) (on : List ℕ) (count place : ℕ) (d : NamedCaller V) → AreKept comers places under on count → StandsAt comers place d
       → 1 ≤ count
   some_count comers places under on count place d is stands =
       let gone = counted_left comers place d stands in

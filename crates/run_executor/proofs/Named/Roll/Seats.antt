@@ -5,10 +5,10 @@ use Rattle.std.proofs.lemmas.Bool.{ltb-true}
 use Rattle.std.proofs.Common.{◌≡◌, ℕ, zero, suc, Bool, true, false, List, [], ◌∷◌, length, refl, arith}
 use Rattle.run_executor.specs.Named.Roll.{at_place, called}
 use Rattle.run_executor.specs.Named.Seen.{if_ready, is_named, is_ready, ready_place}
-use Rattle.run_executor.specs.declared.caller.Caller.{Caller}
+use Rattle.run_executor.specs.declared.caller.NamedCaller.{NamedCaller}
 
 module _ {V : Type 0} where
-  pub called_at : (own : List ℕ) (calls : List (Caller V)) (d : Caller V) → called own calls ≡ Some d
+  pub called_at : (own : List ℕ) (calls : List (NamedCaller V)) (d : NamedCaller V) → called own calls ≡ Some d
       → (place : ℕ) × (position (is_named own) calls ≡ Some place) × (slice_get calls place ≡ Some d)
   called_at own calls d is = by (position (is_named own) calls) refl is
     where
@@ -16,13 +16,13 @@ module _ {V : Type 0} where
       by None e h = absurd (cc h)
       by (Some place) e h = (place, e, h)
 
-  within : (calls : List (Caller V)) (k : ℕ) → k < length calls → slice_get calls k ≡ None → ⊥
+  within : (calls : List (NamedCaller V)) (k : ℕ) → k < length calls → slice_get calls k ≡ None → ⊥
   within [] k less none = omega (arith, less)
   within (d ∷ calls) zero less none = cc none
   within (d ∷ calls) (suc k) less none = within calls k (omega (arith, less)) none
 
   -- where nobody is called so there is no place
-  pub called_out : (own : List ℕ) (calls : List (Caller V)) → called own calls ≡ None → position (is_named own) calls ≡ None
+  pub called_out : (own : List ℕ) (calls : List (NamedCaller V)) → called own calls ≡ None → position (is_named own) calls ≡ None
   called_out own calls none = by (nat_lt (position_or_len (is_named own) calls) (length calls)) refl none
     where
       by : (b : Bool) → nat_lt (position_or_len (is_named own) calls) (length calls) ≡ b → at_place calls (cond b (Some (position_or_len (is_named own) calls)) None) ≡ None
@@ -31,13 +31,13 @@ module _ {V : Type 0} where
       by false e h = refl
 
   -- who stands at a place is read there
-  pub reads_at : (calls : List (Caller V)) (place : ℕ) (d : Caller V) → slice_get calls place ≡ Some d → d ≡ slice_index_or calls place d
+  pub reads_at : (calls : List (NamedCaller V)) (place : ℕ) (d : NamedCaller V) → slice_get calls place ≡ Some d → d ≡ slice_index_or calls place d
   reads_at [] place d is = absurd (cc is)
   reads_at (x ∷ calls) zero d is = cc is
   reads_at (x ∷ calls) (suc place) d is = reads_at calls place d is
 
   -- where a walk shows pairs there its caller stands
-  pub ready_placed : (own : List ℕ) (calls : List (Caller V)) (place : ℕ) → ready_place own calls ≡ Some place → position (is_named own) calls ≡ Some place
+  pub ready_placed : (own : List ℕ) (calls : List (NamedCaller V)) (place : ℕ) → ready_place own calls ≡ Some place → position (is_named own) calls ≡ Some place
   ready_placed own calls place ready = by (position (is_named own) calls) ready
     where
       one : (k : ℕ) (b : Bool) → (if b then Some k else None) ≡ Some place → Some k ≡ Some place

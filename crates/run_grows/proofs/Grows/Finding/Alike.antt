@@ -4,7 +4,7 @@ use Rattle.std.proofs.Common.{refl, ap, sym, subst, ◌∙◌, arith}
 use Rattle.papaya_raw.specs.Given.TablesLengths.{entries_of}
 use Rattle.papaya_raw.specs.Given.TablesDeclared.setting.Setting.{Setting}
 use Rattle.run_schedules.specs.declared.effect.Spot.{Spot}
-use Rattle.run_schedules.specs.declared.effect.Table.{Table}
+use Rattle.run_schedules.specs.declared.effect.TableId.{TableId}
 use Rattle.run_schedules.specs.Schedules.Growing.{Has}
 use Rattle.run_schedules.specs.Schedules.Moment.{MapThere, Moment, Place, TableThere}
 use Rattle.run_schedules.specs.Schedules.Views.{capacity_or, first_of, first_or, grows_in_chunks, is_in_a_map, map_at}
@@ -43,7 +43,7 @@ module _ {K V : Type 0} (m v : Moment K V) (stored : length m.stored ≤ length 
   pub held_in : (map : ℕ) → map_at map v ≡ map_at map m → (k : ℕ) → is_in_a_map (v.place k) ≡ is_in_a_map (m.place k) → (waits : Option ℕ) → IsHeldPast map m k waits → IsHeldPast map v k waits
   held_in map there k place waits held = (
     ((let l = held.0.0 in omega (arith, l, stored)), place ∙ held.0.1),
-    lies_same map m v k waits (ap (λ (f : ℕ → Table). f k) born) (ap (λ (f : ℕ → Spot). f k) spot)
+    lies_same map m v k waits (ap (λ (f : ℕ → TableId). f k) born) (ap (λ (f : ℕ → Spot). f k) spot)
         (subst (λ (o : Option MapThere). first_or (map_at map m) ≤ first_or o) (sym there) (itself (first_of map m))) (ap grows_in_chunks there) held.1,
   )
 

@@ -5,13 +5,13 @@ use Rattle.run_executor.specs.Given.SeizeWordsMem.{word_at}
 use Rattle.run_executor.specs.Given.SeizeWordsWord.{block_in}
 use Rattle.run_executor.specs.Given.SeizeWordsDeclared.at.At.TheVariants.{Entry, Root, Slot, Used, Word}
 use Rattle.papaya_raw.specs.Given.SeizeWorld.{World}
-use Rattle.papaya_raw.specs.Given.SeizeDeclared.progress.Progress.{Progress as Making}
+use Rattle.papaya_raw.specs.Given.SeizeDeclared.advance.Advance.{Advance as Making}
 use Rattle.papaya_raw.specs.Given.SeizeDeclared.rows.settle.Settled.{Settled}
 use Rattle.papaya_raw.specs.Given.TablesDeclared.node.Node.{Node}
 use Rattle.papaya_raw.specs.Given.TablesDeclared.setting.Setting.{Setting}
 use Rattle.run_schedules.specs.declared.effect.Effect.TheVariants.{Asked}
 use Rattle.run_schedules.specs.declared.effect.Growth.TheVariants.{ABlock}
-use Rattle.run_schedules.specs.declared.effect.Table.{Table}
+use Rattle.run_schedules.specs.declared.effect.TableId.{TableId}
 use Rattle.run_schedules.specs.Schedules.Effects.{with_effects}
 use Rattle.run_schedules.specs.Schedules.Moment.{Moment}
 use Rattle.run_executor.specs.Given.EffectsDeclared.changed.Changed.{Changed}
@@ -51,7 +51,7 @@ pair_aside (acts.Making map) n = refl
 pair_aside (acts.Call caller map) n = refl
 pair_aside acts.Row n = refl
 
-table_aside : (its : Acting) (t : Table) → is_aside (table_taken its t) ≡ true
+table_aside : (its : Acting) (t : TableId) → is_aside (table_taken its t) ≡ true
 table_aside (acts.Ending map) t = refl
 table_aside (acts.Making map) t = refl
 table_aside (acts.Call caller map) t = refl
@@ -82,7 +82,7 @@ module _ (its : Acting) where
   led_aside false (role.Counter of) = tt
 
   -- a word of a block that is no table, or that goes on naming what it named
-  word_aside : (field stored : ℕ) (r : Role) (q : Bool) (was is : Role) → ((t : Table) (len : ℕ) → r ≡ role.Table t len → q ≡ true) → AllAside (in_block its r field stored q was is)
+  word_aside : (field stored : ℕ) (r : Role) (q : Bool) (was is : Role) → ((t : TableId) (len : ℕ) → r ≡ role.Table t len → q ≡ true) → AllAside (in_block its r field stored q was is)
   word_aside field stored role.Free q was is names = tt
   word_aside field stored (role.OwnPair i) q was is names = tt
   word_aside field stored (role.OwnTable turn shape) q was is names = tt
@@ -92,7 +92,7 @@ module _ (its : Acting) where
   word_aside field stored (role.Table t len) false was is names = absurd (let e = names t len refl in cc e)
 
 module _ {K V : Type 0} (map : ℕ) (known : Known) (w w2 : World (Node K V)) (i root : ℕ) (free : known.roles 0 ≡ role.Free)
-    (no_table : (x : ℕ) (q : Bool) → TellsMaking w i root (changed.Wrote (Word x 0) 0 0) → (t : Table) (len : ℕ) → known.roles x ≡ role.Table t len → q ≡ true) where
+    (no_table : (x : ℕ) (q : Bool) → TellsMaking w i root (changed.Wrote (Word x 0) 0 0) → (t : TableId) (len : ℕ) → known.roles x ≡ role.Table t len → q ≡ true) where
   making_aside : (told : Changed) → TellsMaking w i root told → LeavesBy w.memory w2.memory told → AllAside (effects_of (acts.Making map) known told)
   making_aside changed.Nothing so l = tt
   making_aside (changed.Wrote (Root r) before after) so l =

@@ -11,7 +11,7 @@ use Rattle.papaya_raw.specs.Given.ReservesDeclared.sweep.Sweeping.TheVariants as
 use Rattle.papaya_raw.specs.CallAsks.{told_at}
 use Rattle.papaya_raw.specs.Machine.{machine_asked, machine_replied, sweep_told}
 use Rattle.papaya_raw.specs.declared.machines.asking.Asking.TheVariants as asking
-use Rattle.papaya_raw.specs.declared.machines.asking.Reply.{Reply as MachineReply}
+use Rattle.papaya_raw.specs.declared.machines.asking.MachineReply.{MachineReply}
 use Rattle.papaya_raw.specs.declared.machines.call.Calling.{Calling}
 use Rattle.papaya_raw.specs.declared.machines.call.Calling.TheVariants as calling
 use Rattle.papaya_raw.specs.declared.machines.call.KeyCall.{KeyCall}

@@ -10,7 +10,7 @@ use Rattle.run_logged.specs.Given.ResizeNewTable.{new_table_plan}
 use Rattle.run_logged.specs.Given.ResizeDeclared.copier.Copier.{Copier}
 use Rattle.run_logged.specs.Given.ResizeDeclared.new_table.NewTable.{NewTable}
 use Rattle.papaya_raw.specs.Machine.{machine_asked, machine_plan, machine_replied}
-use Rattle.papaya_raw.specs.declared.machines.asking.Reply.{Reply as MachineReply}
+use Rattle.papaya_raw.specs.declared.machines.asking.MachineReply.{MachineReply}
 use Rattle.papaya_raw.specs.declared.machines.machine.Machine.{Machine}
 use Rattle.papaya_raw.specs.declared.machines.progress.Progress.{Progress}
 use Rattle.run_schedules.specs.declared.call.Call.{Call}

@@ -5,7 +5,7 @@ use Rattle.std.proofs.Common.{refl, ap, sym, subst, ◌∙◌, arith, inl, inr}
 use Rattle.std.proofs.lemmas.Bool.{leb-true}
 use Rattle.run_executor.specs.Given.SeizeWordsMem.{Mem}
 use Rattle.run_executor.specs.Given.SeizeWordsDeclared.fault.Fault.TheVariants.{Capacity}
-use Rattle.papaya_raw.specs.Given.SeizeDeclared.progress.Progress.{Progress as MakingProgress}
+use Rattle.papaya_raw.specs.Given.SeizeDeclared.advance.Advance.{Advance as MakingProgress}
 use Rattle.papaya_raw.specs.Given.TablesLengths.{entries_of, len_of, places_for}
 use Rattle.papaya_raw.specs.Given.TablesPowers.{next_power}
 use Rattle.papaya_raw.specs.Given.TablesDeclared.lengths.Reason.TheVariants.{Reserved}
@@ -17,7 +17,7 @@ use Rattle.run_logged.specs.Given.ResizeDeclared.copier.Copier.{Copier}
 use Rattle.run_logged.specs.Given.ResizeDeclared.new_table.Making.{Making}
 use Rattle.run_logged.specs.Given.ResizeDeclared.new_table.Making.TheVariants as makes
 use Rattle.run_logged.specs.Given.ResizeDeclared.new_table.NewTable.{NewTable}
-use Rattle.run_logged.specs.Given.ResizeDeclared.outcome.Outcome.{Outcome}
+use Rattle.run_logged.specs.Given.ResizeDeclared.yielding.Yielding.{Yielding}
 use Rattle.papaya_raw.specs.Given.ReservesReserve.{made, plan_at, reserve_plan}
 use Rattle.papaya_raw.specs.Given.ReservesDeclared.reserve.Reserve.{Reserve}
 use Rattle.papaya_raw.specs.Given.ReservesDeclared.reserve.Reserving.{Reserving}
@@ -170,7 +170,7 @@ module _ {K V : Type 0} (same : K → K → Bool) (hash : ℕ → K → ℕ) (na
     few : Asks new.changed → is_too_many (0 + r.reserve.additional) ≡ false
     few asks =
         let it = told_in old.memory new.memory new.changed of_room (reserve_plan (leads map (ForRoom r) here).0.hash r.reserve) ((leads map (ForRoom r) here).1, said) (leads map (ForRoom r) here).3 in
-        let makes = subst (λ (q : Reserving). StepsTold K V (Reserve × Outcome (Node K V) Unit) old.memory Nothing (plan_at (leads map (ForRoom r) here).0.hash r.reserve q) new.memory new.changed it.0) at_first it.2 in
+        let makes = subst (λ (q : Reserving). StepsTold K V (Reserve × Yielding (Node K V) Unit) old.memory Nothing (plan_at (leads map (ForRoom r) here).0.hash r.reserve q) new.memory new.changed it.0) at_first it.2 in
         let step = told_in old.memory new.memory new.changed (made r.reserve) (new_table_plan making) it.0 makes in
         few_first r.reserve making making.stands old.memory new.memory new.changed step.0 (subst (NeedsAt map moments r.reserve) at_first has.needs) step.2 asks
 

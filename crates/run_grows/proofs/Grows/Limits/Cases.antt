@@ -5,7 +5,7 @@ use Rattle.std.proofs.lemmas.Bool.{leb-true, lt-ltb}
 use Rattle.run_executor.specs.Given.SeizeWordsMem.{Mem, Took, value_at}
 use Rattle.run_executor.specs.Given.SeizeWordsPlan.{Steps}
 use Rattle.run_executor.specs.Given.SeizeWordsDeclared.fault.Fault.TheVariants.{Capacity}
-use Rattle.papaya_raw.specs.Given.SeizeDeclared.progress.Progress.TheVariants as counting
+use Rattle.papaya_raw.specs.Given.SeizeDeclared.advance.Advance.TheVariants as counting
 use Rattle.papaya_raw.specs.Given.TablesCounts.{count_in}
 use Rattle.papaya_raw.specs.Given.TablesLengths.{places_for}
 use Rattle.papaya_raw.specs.Given.TablesPowers.{next_power}

@@ -4,7 +4,7 @@ use Rattle.std.specs.List.{list_any}
 use Rattle.std.proofs.Common.{refl, ap, sym, subst, ◌∙◌}
 use Rattle.run_schedules.specs.declared.effect.Effect.{Effect}
 use Rattle.run_schedules.specs.declared.effect.Effect.TheVariants as effect
-use Rattle.run_schedules.specs.declared.effect.Table.{Table}
+use Rattle.run_schedules.specs.declared.effect.TableId.{TableId}
 use Rattle.run_schedules.specs.declared.effect.Thing.TheVariants.{APair, ATable}
 use Rattle.run_schedules.specs.Schedules.Effects.{at_stage, with_effect, with_effects}
 use Rattle.run_schedules.specs.Schedules.Moment.{IsReclaimed, IsRetired, IsTaken, MapThere, Moment, Stage, TableThere}
@@ -35,7 +35,7 @@ such_any : (first of : ℕ) (ts : List TableThere) → any_from first of ts ≡ 
 such_any first of ts =
     filter_any (λ t. nat_le first t.table.turn) is_longest (filter (λ t. t.table.map == of) ts) ∙ filter_any (λ t. t.table.map == of) (λ t. nat_le first t.table.turn && is_longest t) ts
 
-staged_any : (first of : ℕ) (t : Table) (to : Stage) (ts : List TableThere) → list_any (is_such first of) (list_map (at_stage t to) ts) ≡ list_any (is_such first of) ts
+staged_any : (first of : ℕ) (t : TableId) (to : Stage) (ts : List TableThere) → list_any (is_such first of) (list_map (at_stage t to) ts) ≡ list_any (is_such first of) ts
 staged_any first of t to [] = refl
 staged_any first of t to (u ∷ ts) = by (same_table u.table t) (staged_any first of t to ts)
   where

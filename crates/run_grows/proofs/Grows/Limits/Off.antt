@@ -5,8 +5,8 @@ use Rattle.run_executor.specs.Given.SeizeWordsMem.{Mem}
 use Rattle.run_executor.specs.Given.SeizeWordsOp.{Exchanged, Found, Made, Roomed, Stored, Taken}
 use Rattle.run_executor.specs.Given.SeizeWordsPlan.{Plan}
 use Rattle.run_executor.specs.Given.SeizeWordsDeclared.fault.Fault.{Fault}
-use Rattle.papaya_raw.specs.Given.SeizeDeclared.progress.Progress.{Progress as Counting}
-use Rattle.papaya_raw.specs.Given.SeizeDeclared.progress.Progress.TheVariants as progress
+use Rattle.papaya_raw.specs.Given.SeizeDeclared.advance.Advance.{Advance as Counting}
+use Rattle.papaya_raw.specs.Given.SeizeDeclared.advance.Advance.TheVariants as progress
 use Rattle.papaya_raw.specs.Given.TablesDeclared.node.Node.{Node}
 use Rattle.papaya_raw.specs.Given.TablesDeclared.table.Table.{Table}
 use Rattle.papaya_raw.specs.Given.ResizeCopier as copiers
@@ -19,7 +19,7 @@ use Rattle.run_logged.specs.Given.ResizeDeclared.copier.Copying.{Copying}
 use Rattle.run_logged.specs.Given.ResizeDeclared.copier.Copying.TheVariants as copying
 use Rattle.run_logged.specs.Given.ResizeDeclared.new_table.Making.TheVariants as makes
 use Rattle.run_logged.specs.Given.ResizeDeclared.new_table.NewTable.{NewTable}
-use Rattle.run_logged.specs.Given.ResizeDeclared.outcome.Outcome.{Outcome}
+use Rattle.run_logged.specs.Given.ResizeDeclared.yielding.Yielding.{Yielding}
 use Rattle.papaya_raw.specs.Given.ReservesReserve as reserves
 use Rattle.papaya_raw.specs.Given.ReservesReserve.{reserve_plan}
 use Rattle.papaya_raw.specs.Given.ReservesDeclared.reserve.Reserve.{Reserve}
@@ -81,8 +81,8 @@ module _ {K V : Type 0} (m m2 : Mem (Node K V)) (told : Changed) (hash : K → �
 
   module _ (Why : Type 0) where
     -- of a copier
-    module _ (c : Copier) (end : Copier × Outcome (Node K V) Table) where
-      abbrev CopierFree : Copier × Outcome (Node K V) Table → Type 0
+    module _ (c : Copier) (end : Copier × Yielding (Node K V) Table) where
+      abbrev CopierFree : Copier × Yielding (Node K V) Table → Type 0
       CopierFree e = CopiesAs (IsFor Why) (IsForBehind Why) e
 
       quiet_copier : (p : Copying) → c.stands ≡ p → StandsInCopying (IsFor Why) (IsForBehind Why) p → EndsInCopying (IsFor Why) (IsForBehind Why) m c p → Step (copiers.plan_at hash c p) end → CopierFree end ⊎ Off
@@ -124,12 +124,12 @@ module _ {K V : Type 0} (m m2 : Mem (Node K V)) (told : Changed) (hash : K → �
       copier_at (copying.Refused fault) is s = inr (subst OffRoot (sym s.2) tt)
       copier_at p is s = quiet_copier p is tt tt s
 
-    copier_off : (c : Copier) (end : Copier × Outcome (Node K V) Table) → Step (copier_plan hash c) end → CopiesAs (IsFor Why) (IsForBehind Why) end ⊎ Off
+    copier_off : (c : Copier) (end : Copier × Yielding (Node K V) Table) → Step (copier_plan hash c) end → CopiesAs (IsFor Why) (IsForBehind Why) end ⊎ Off
     copier_off c end s = copier_at c end c.stands refl s
 
     -- of what it goes on to
-    by_copier : {R : Type 0} (P : R → Type 0) (f : Copier × Outcome (Node K V) Table → R) → ((e : Copier × Outcome (Node K V) Table) → CopiesAs (IsFor Why) (IsForBehind Why) e → P (f e)) → (c : Copier) (end : R)
-        → (it : (e : Copier × Outcome (Node K V) Table) × (end ≡ f e) × Step (copier_plan hash c) e) → P end ⊎ Off
+    by_copier : {R : Type 0} (P : R → Type 0) (f : Copier × Yielding (Node K V) Table → R) → ((e : Copier × Yielding (Node K V) Table) → CopiesAs (IsFor Why) (IsForBehind Why) e → P (f e)) → (c : Copier) (end : R)
+        → (it : (e : Copier × Yielding (Node K V) Table) × (end ≡ f e) × Step (copier_plan hash c) e) → P end ⊎ Off
     by_copier P f on c end (e, is, s) = elim (copier_off c e s) as (λ _. P end ⊎ Off) [
       | inl free ↦ inl (subst P (sym is) (on e free))
       | inr off ↦ inr off
@@ -182,10 +182,10 @@ module _ {K V : Type 0} (m m2 : Mem (Node K V)) (told : Changed) (hash : K → �
       sweep_at c end (sweeping.Refused fault) is s = inr (subst OffRoot (sym s.2) tt)
       sweep_at c end stands is s = quiet_sweep c end stands is tt tt s
 
-      abbrev RoomFree : Reserve × Outcome (Node K V) Unit → Type 0
+      abbrev RoomFree : Reserve × Yielding (Node K V) Unit → Type 0
       RoomFree e = ReservesAs (IsFor Why) (IsForBehind Why) e
 
-      room_at : (r : Reserve) (end : Reserve × Outcome (Node K V) Unit) (stands : Reserving) → Step (reserves.plan_at hash r stands) end → RoomFree end ⊎ Off
+      room_at : (r : Reserve) (end : Reserve × Yielding (Node K V) Unit) (stands : Reserving) → Step (reserves.plan_at hash r stands) end → RoomFree end ⊎ Off
       room_at r end (reserving.Copies c) s =
           by_copier RoomFree (reserves.copied r) (rooms_as.copied_as (IsFor Why) (IsForBehind Why) K V hash r) c end (told_in m m2 told (reserves.copied r) (copier_plan hash c) end s)
       room_at r end (reserving.Makes n) s =

@@ -2,12 +2,12 @@
 use Rattle.std.specs.Prelude.{◌≡◌, ◌⊎◌, ◌≤◌, ℕ, Bool, true, List, Option, Some, None}
 use Rattle.std.proofs.Common.{ap, sym, subst, ◌∙◌}
 use Rattle.papaya_raw.specs.Given.SeizeWorld.{Begin, Step}
-use Rattle.papaya_raw.specs.Given.SeizeDeclared.progress.Progress.{Progress as Making}
+use Rattle.papaya_raw.specs.Given.SeizeDeclared.advance.Advance.{Advance as Making}
 use Rattle.papaya_raw.specs.Given.SeizeDeclared.rows.settle.Settled.{Settled}
 use Rattle.papaya_raw.specs.Given.TablesDeclared.node.Node.{Node}
 use Rattle.papaya_raw.specs.Given.TablesDeclared.setting.Setting.{Setting}
 use Rattle.papaya_raw.specs.Machine.{machine_asked, machine_replied}
-use Rattle.papaya_raw.specs.declared.machines.asking.Reply.{Reply as MachineReply}
+use Rattle.papaya_raw.specs.declared.machines.asking.MachineReply.{MachineReply}
 use Rattle.papaya_raw.specs.declared.machines.machine.Machine.{Machine}
 use Rattle.run_schedules.specs.declared.call.Call.{Call}
 use Rattle.run_schedules.specs.declared.call.Reply.{Reply}

@@ -5,14 +5,14 @@ use Rattle.run_executor.specs.Given.SeizeWordsMem.{Mem, Took, value_at}
 use Rattle.run_executor.specs.Given.SeizeWordsPlan.{Steps}
 use Rattle.run_executor.specs.Given.SeizeWordsDeclared.fault.Fault.TheVariants.{Capacity, Memory}
 use Rattle.run_executor.proofs.Given.SeizeRuleRows.Leaving.{steps_back}
-use Rattle.papaya_raw.specs.Given.SeizeDeclared.progress.Progress.{Progress as Counting}
-use Rattle.papaya_raw.specs.Given.SeizeDeclared.progress.Progress.TheVariants as counting
+use Rattle.papaya_raw.specs.Given.SeizeDeclared.advance.Advance.{Advance as Counting}
+use Rattle.papaya_raw.specs.Given.SeizeDeclared.advance.Advance.TheVariants as counting
 use Rattle.papaya_raw.specs.Given.TablesDeclared.node.Node.{Node}
 use Rattle.papaya_raw.specs.Given.TablesDeclared.setting.Setting.{Setting}
 use Rattle.papaya_raw.specs.Given.TablesDeclared.table.Table.{Table}
 use Rattle.run_logged.specs.Given.ResizeSum.{sum_plan}
-use Rattle.run_logged.specs.Given.ResizeDeclared.outcome.Outcome.{Outcome}
-use Rattle.run_logged.specs.Given.ResizeDeclared.outcome.Outcome.TheVariants as outcome
+use Rattle.run_logged.specs.Given.ResizeDeclared.yielding.Yielding.{Yielding}
+use Rattle.run_logged.specs.Given.ResizeDeclared.yielding.Yielding.TheVariants as outcome
 use Rattle.run_logged.specs.Given.ResizeDeclared.sum.Sum.{Sum}
 use Rattle.papaya_raw.specs.Given.ReservesReserve.{enough, needed, plan_at as room_at, refusing, reserve_plan, standing, summed}
 use Rattle.papaya_raw.specs.Given.ReservesDeclared.reserve.Reserve.{Reserve}
@@ -28,8 +28,8 @@ use Rattle.papaya_raw.specs.Call.{call_plan}
 use Rattle.papaya_raw.specs.Machine.{called as of_key, counted as of_sum, machine_asked, machine_plan, machine_replied, reserved as of_room, swept as of_sweep, sweep_told}
 use Rattle.papaya_raw.specs.declared.machines.answer.Called.{Called}
 use Rattle.papaya_raw.specs.declared.machines.answer.Called.TheVariants as called
-use Rattle.papaya_raw.specs.declared.machines.asking.Reply.{Reply}
-use Rattle.papaya_raw.specs.declared.machines.asking.Reply.TheVariants as reply
+use Rattle.papaya_raw.specs.declared.machines.asking.MachineReply.{MachineReply}
+use Rattle.papaya_raw.specs.declared.machines.asking.MachineReply.TheVariants as reply
 use Rattle.papaya_raw.specs.declared.machines.call.KeyCall.{KeyCall}
 use Rattle.papaya_raw.specs.declared.machines.machine.Machine.{Machine}
 use Rattle.papaya_raw.specs.declared.machines.machine.Machine.TheVariants as kinds
@@ -99,11 +99,11 @@ module _ (Why : Type 0) (K V Q : Type 0) (m m2 : Mem (Node K V)) where
   key_end p (q, called.Unstored value) so = (so.0, tt)
   key_end p (q, called.Done answer) so = (so.0, tt)
 
-  pub room_end : (r : Reserve) (e : Reserve × Outcome (Node K V) Unit) → e.0.additional ≡ r.additional → ReservesAs (IsFor (Why ⊎ NeedsMore r.additional)) (IsForBehind (Why ⊎ NeedsMore r.additional)) e
+  pub room_end : (r : Reserve) (e : Reserve × Yielding (Node K V) Unit) → e.0.additional ≡ r.additional → ReservesAs (IsFor (Why ⊎ NeedsMore r.additional)) (IsForBehind (Why ⊎ NeedsMore r.additional)) e
       → EndsThen (kinds.Reserve r) (of_room e)
   room_end r (q, told) asks_on so = (subst (λ (n : ℕ). RoomEnds (Why ⊎ NeedsMore n) q.stands) (sym asks_on) so.0, says told so.1)
     where
-      says : (told : Outcome (Node K V) Unit) → RefusesSo (IsFor (Why ⊎ NeedsMore r.additional)) told → SaysFor (Why ⊎ NeedsMore r.additional) (of_room {K = K} {V = V} {Q = Q} (q, told)).1
+      says : (told : Yielding (Node K V) Unit) → RefusesSo (IsFor (Why ⊎ NeedsMore r.additional)) told → SaysFor (Why ⊎ NeedsMore r.additional) (of_room {K = K} {V = V} {Q = Q} (q, told)).1
       says outcome.Goes so = tt
       says outcome.Waits so = tt
       says (outcome.Gave value) so = tt
@@ -148,7 +148,7 @@ module _ (Why : Type 0) (K V Q : Type 0) (m m2 : Mem (Node K V)) where
 
 -- By a reply, or as it is asked for its next pair.
 module _ (Why : Type 0) (K V Q : Type 0) where
-  sweep_told_for : (stands : Sweeping) (c : Sweep) (told : Reply V) → StandsInSweeping (IsFor Why) (IsForBehind Why) c.stands → StandsInSweeping (IsFor Why) (IsForBehind Why) (sweep_told stands c told).0.stands
+  sweep_told_for : (stands : Sweeping) (c : Sweep) (told : MachineReply V) → StandsInSweeping (IsFor Why) (IsForBehind Why) c.stands → StandsInSweeping (IsFor Why) (IsForBehind Why) (sweep_told stands c told).0.stands
   sweep_told_for (sweeping.Asks word) c reply.Yes so = (told_as_on (IsFor Why) (IsForBehind Why) c so).1 true
   sweep_told_for (sweeping.Asks word) c reply.No so = (told_as_on (IsFor Why) (IsForBehind Why) c so).1 false
   sweep_told_for (sweeping.Asks word) c (reply.Insert value) so = so
@@ -156,7 +156,7 @@ module _ (Why : Type 0) (K V Q : Type 0) where
   sweep_told_for (sweeping.Asks word) c reply.Abort so = so
   sweep_told_for _ c told so = so
 
-  pub reply_ends : (machine : Machine K V Q) (told : Reply V) → MachineEnds Why machine → MachineEnds Why (machine_replied machine told).0
+  pub reply_ends : (machine : Machine K V Q) (told : MachineReply V) → MachineEnds Why machine → MachineEnds Why (machine_replied machine told).0
   reply_ends (kinds.Key p) told so = key_told_as (IsFor Why) (IsForBehind Why) (λ is. absurd (cc is)) p so told
   reply_ends (kinds.Sweep c) told so = sweep_told_for c.stands c told so
   reply_ends (kinds.Reserve r) told so = so
@@ -180,7 +180,7 @@ SummedIn m m2 _ = ⊥
 
 -- is refused at once: what goes on is as it was to be.
 module _ (Why : Type 0) (K V Q : Type 0) (m m2 : Mem (Node K V)) (asks : Q → K → Bool) (same : K → K → Bool) (hash : K → ℕ) where
-  abbrev Which : (r : Reserve) → Reserve × Outcome (Node K V) Unit → Type 0
+  abbrev Which : (r : Reserve) → Reserve × Yielding (Node K V) Unit → Type 0
   Which r e = has_ended (of_room {K = K} {V = V} {Q = Q} e).1 ≡ false → RoomEnds (Why ⊎ NeedsMore e.0.additional) e.0.stands
 
   enough_on : (r : Reserve) (table : Table) (need : ℕ) → Which r (enough r table need)
@@ -203,7 +203,7 @@ module _ (Why : Type 0) (K V Q : Type 0) (m m2 : Mem (Node K V)) (asks : Q → K
   less additional (inl (inr none)) = absurd none
   less additional (inr needs) = inr needs
 
-  room_on : (r : Reserve) (e : Reserve × Outcome (Node K V) Unit) (stands : Reserving) → Steps Took value_at m (room_at hash r stands) m2 e
+  room_on : (r : Reserve) (e : Reserve × Yielding (Node K V) Unit) (stands : Reserving) → Steps Took value_at m (room_at hash r stands) m2 e
       → RoomEnds ((Why ⊎ SummedAt m m2 r stands) ⊎ NeedsMore e.0.additional) e.0.stands → Which r e
   room_on r e (reserving.Sums table sum) s so =
       let d = steps_back (summed r table) m m2 (sum_plan sum) e s in
@@ -217,7 +217,7 @@ module _ (Why : Type 0) (K V Q : Type 0) (m m2 : Mem (Node K V)) (asks : Q → K
   abbrev OnWhere : Type 0 → Machine K V Q × Progress (Node K V) → Type 0
   OnWhere Before end = MachineEnds Before end.0 → has_ended end.1 ≡ false → MachineEnds Why end.0
 
-  of_rooms : (r : Reserve) (e : Reserve × Outcome (Node K V) Unit) → Steps Took value_at m (reserve_plan hash r) m2 e → OnWhere (Why ⊎ SummedAt m m2 r r.stands) (of_room e)
+  of_rooms : (r : Reserve) (e : Reserve × Yielding (Node K V) Unit) → Steps Took value_at m (reserve_plan hash r) m2 e → OnWhere (Why ⊎ SummedAt m m2 r r.stands) (of_room e)
   of_rooms r (q, told) s = λ so goes. room_on r (q, told) r.stands s so goes
 
   pub machine_on : (machine : Machine K V Q) (end : Machine K V Q × Progress (Node K V)) → Steps Took value_at m (machine_plan asks same hash machine) m2 end → OnWhere (Why ⊎ SummedIn m m2 machine) end

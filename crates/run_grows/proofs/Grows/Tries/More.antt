@@ -13,8 +13,8 @@ use Rattle.papaya_raw.specs.declared.machines.asking.Asking.{Asking}
 use Rattle.papaya_raw.specs.declared.machines.asking.Asking.TheVariants as asking
 use Rattle.papaya_raw.specs.declared.machines.asking.Gap.{Gap}
 use Rattle.papaya_raw.specs.declared.machines.asking.Gap.TheVariants as gaps
-use Rattle.papaya_raw.specs.declared.machines.asking.Reply.{Reply}
-use Rattle.papaya_raw.specs.declared.machines.asking.Reply.TheVariants as replies
+use Rattle.papaya_raw.specs.declared.machines.asking.MachineReply.{MachineReply}
+use Rattle.papaya_raw.specs.declared.machines.asking.MachineReply.TheVariants as replies
 use Rattle.papaya_raw.specs.declared.machines.asking.Takes.{Takes}
 use Rattle.papaya_raw.specs.declared.machines.asking.Takes.TheVariants as takes
 use Rattle.papaya_raw.specs.declared.machines.asking.Told.{Told}
@@ -115,14 +115,14 @@ module _ (Why : Spot × ℕ → Type 0) where
     same_gap p value gaps.Past so = so
     same_gap p value gaps.Last so = so
 
-    absent_tried : (kind : Takes) (p : KeyCall K V Q) (gap : Gap) (reply : Reply V) → TriedAt Why p p.stands → TriedAtGap Why p gap → TriedAt Why (absent_told kind p gap reply).0 (absent_told kind p gap reply).0.stands
+    absent_tried : (kind : Takes) (p : KeyCall K V Q) (gap : Gap) (reply : MachineReply V) → TriedAt Why p p.stands → TriedAtGap Why p gap → TriedAt Why (absent_told kind p gap reply).0 (absent_told kind p gap reply).0.stands
     absent_tried takes.Values p gap (replies.Insert value) self so = gap_tried (with_absent p value) gap (same_gap p value gap so)
     absent_tried takes.Changes p gap (replies.Insert value) self so = gap_tried (with_absent p value) gap (same_gap p value gap so)
     absent_tried takes.Changes p gap replies.Remove self so = ending_tried p _
     absent_tried takes.Changes p gap replies.Abort self so = ending_tried p _
     absent_tried _ p gap _ self so = self
 
-    present_tried : (kind : Takes) (p : KeyCall K V Q) (word : ℕ) (reply : Reply V) → TriedAt Why p p.stands → HasTried Why p p.trial.probe.len
+    present_tried : (kind : Takes) (p : KeyCall K V Q) (word : ℕ) (reply : MachineReply V) → TriedAt Why p p.stands → HasTried Why p p.trial.probe.len
         → TriedAt Why (present_told kind p word reply).0 (present_told kind p word reply).0.stands
     present_tried takes.Values p word (replies.Insert value) self so = so
     present_tried takes.Changes p word (replies.Insert value) self so = so
@@ -132,15 +132,15 @@ module _ (Why : Spot × ℕ → Type 0) where
     present_tried takes.Choices p word replies.No self so = ending_tried p _
     present_tried _ p word _ self so = self
 
-    told_tried_at : (stands : Calling) (p : KeyCall K V Q) (reply : Reply V) → TriedAt Why p p.stands → TriedAt Why p stands → TriedAt Why (told_at stands p reply).0 (told_at stands p reply).0.stands
+    told_tried_at : (stands : Calling) (p : KeyCall K V Q) (reply : MachineReply V) → TriedAt Why p p.stands → TriedAt Why p stands → TriedAt Why (told_at stands p reply).0 (told_at stands p reply).0.stands
     told_tried_at (at.Asks (asking.Absent gap)) p reply self so = absent_tried p.replies.takes p gap reply self so
     told_tried_at (at.Asks (asking.Present word)) p reply self so = present_tried p.replies.takes p word reply self so
     told_tried_at _ p reply self so = self
 
-    key_replies : (p : KeyCall K V Q) (reply : Reply V) → TriedAt Why p p.stands → TriedAt Why (replied p reply).0 (replied p reply).0.stands
+    key_replies : (p : KeyCall K V Q) (reply : MachineReply V) → TriedAt Why p p.stands → TriedAt Why (replied p reply).0 (replied p reply).0.stands
     key_replies p reply so = told_tried_at p.stands p reply so so
 
-    pub reply_tried : (machine : Machine K V Q) (reply : Reply V) → MachineTried Why machine → MachineTried Why (machine_replied machine reply).0
+    pub reply_tried : (machine : Machine K V Q) (reply : MachineReply V) → MachineTried Why machine → MachineTried Why (machine_replied machine reply).0
     reply_tried (kinds.Key p) reply so = key_replies p reply so
     reply_tried (kinds.Reserve r) reply so = so
     reply_tried (kinds.Sweep c) reply so = tt

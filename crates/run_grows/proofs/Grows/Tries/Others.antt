@@ -2,7 +2,7 @@
 use Rattle.std.specs.Prelude.{◌≡◌, ℕ, Bool, List, Some, None}
 use Rattle.std.proofs.Common.{refl}
 use Rattle.papaya_raw.specs.Given.SeizeWorld.{Begin, Step}
-use Rattle.papaya_raw.specs.Given.SeizeDeclared.progress.Progress.{Progress as Making}
+use Rattle.papaya_raw.specs.Given.SeizeDeclared.advance.Advance.{Advance as Making}
 use Rattle.papaya_raw.specs.Given.SeizeDeclared.rows.settle.Settled.{Settled}
 use Rattle.papaya_raw.specs.Given.TablesDeclared.node.Node.{Node}
 use Rattle.papaya_raw.specs.Given.TablesDeclared.setting.Setting.{Setting}

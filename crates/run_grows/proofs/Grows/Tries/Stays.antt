@@ -3,7 +3,7 @@ use Rattle.std.specs.Prelude.{◌≡◌, ◌<◌, ◌≤◌, ◌==◌, ◌&&◌,
 use Rattle.std.specs.List.{list_any}
 use Rattle.std.proofs.Common.{refl, ap, sym, ◌∙◌, arith, inl, inr}
 use Rattle.run_schedules.specs.declared.effect.Spot.{Spot}
-use Rattle.run_schedules.specs.declared.effect.Table.{Table}
+use Rattle.run_schedules.specs.declared.effect.TableId.{TableId}
 use Rattle.run_schedules.specs.Schedules.Lists.{numbers_from}
 use Rattle.run_schedules.specs.Schedules.Moment.{Moment, Place}
 use Rattle.run_schedules.specs.Schedules.Things.{same_spot}
@@ -34,7 +34,7 @@ module _ {K V : Type 0} (map : ℕ) (m v : Moment K V) (stored : v.stored ≡ m.
   taken_same : (s : Spot) → is_taken_at map s v ≡ is_taken_at map s m
   taken_same s =
       any_same (λ n. ((v.born n).map == map) && same_spot (v.spot n) s) (λ n. ((m.born n).map == map) && same_spot (m.spot n) s)
-      (λ n. ap (λ (f : ℕ → Table). ((f n).map == map) && same_spot (v.spot n) s) born ∙ ap (λ (f : ℕ → Spot). ((m.born n).map == map) && same_spot (f n) s) spot) (numbers_from 1 (length v.stored))
+      (λ n. ap (λ (f : ℕ → TableId). ((f n).map == map) && same_spot (v.spot n) s) born ∙ ap (λ (f : ℕ → Spot). ((m.born n).map == map) && same_spot (f n) s) spot) (numbers_from 1 (length v.stored))
       ∙ ap (λ (ns : List ℕ). list_any (λ n. ((m.born n).map == map) && same_spot (m.spot n) s) ns) numbers
 
   pairs_same : (s : Spot) → has_pair_at map s v ≡ has_pair_at map s m
@@ -61,7 +61,7 @@ taken_where m v pairs tables map there x so = same_taken m v pairs map (many_sam
 module _ {K V : Type 0} (map : ℕ) (number number2 : ℕ → ℕ) (st st2 : Standing K) (m v : Moment K V) (known known2 : Known) (stored : v.stored ≡ m.stored) (born : v.born ≡ m.born) (spot : v.spot ≡ m.spot)
     (same_chart : st2.chart ≡ st.chart) (shown : ShowsMap map number st m known) (shown2 : ShowsMap map number2 st2 v known2) (numbered : AreNumbered map number st m) where
   stay : PairsStay m v
-  stay = record { stored = ap length stored; born = λ k l. ap (λ (f : ℕ → Table). f k) born; spot = λ k l. ap (λ (f : ℕ → Spot). f k) spot }
+  stay = record { stored = ap length stored; born = λ k l. ap (λ (f : ℕ → TableId). f k) born; spot = λ k l. ap (λ (f : ℕ → Spot). f k) spot }
 
   numbers_as : (n : ℕ) → n < st.chart.stored → number2 n ≡ number n
   numbers_as = numbers_stay map number number2 st st2 m v known known2 stay same_chart shown shown2 numbered

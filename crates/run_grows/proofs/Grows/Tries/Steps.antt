@@ -11,9 +11,9 @@ use Rattle.papaya_raw.specs.Given.TablesDeclared.finding.Finding.TheVariants as 
 use Rattle.papaya_raw.specs.Given.TablesDeclared.node.Node.{Node}
 use Rattle.papaya_raw.specs.Given.TablesDeclared.table.Table.{Table as Planned}
 use Rattle.papaya_raw.specs.Given.SeizeWorld.{IsInside}
-use Rattle.papaya_raw.specs.Given.SeizeDeclared.progress.Progress.{Progress as Counting_told}
+use Rattle.papaya_raw.specs.Given.SeizeDeclared.advance.Advance.{Advance as Counting_told}
 use Rattle.run_logged.specs.Given.ResizeSum.{sum_plan}
-use Rattle.run_logged.specs.Given.ResizeDeclared.outcome.Outcome.{Outcome}
+use Rattle.run_logged.specs.Given.ResizeDeclared.yielding.Yielding.{Yielding}
 use Rattle.run_logged.specs.Given.ResizeDeclared.sum.Sum.{Sum}
 use Rattle.papaya_raw.specs.Given.ReservesReserve.{reserve_plan}
 use Rattle.papaya_raw.specs.Given.ReservesDeclared.reserve.Reserve.{Reserve}
@@ -248,7 +248,7 @@ module _ {K V : Type 0} (same : K → K → Bool) (hash : ℕ → K → ℕ) (na
     came : (e : Machine K V K × Progress (Node K V)) → (to.1, said) ≡ e → MachineTried After e.0 → MachineTried After to.1
     came e e_is so = subst (λ (y : Machine K V K × Progress (Node K V)). MachineTried After y.0) (sym e_is) so
 
-    room_tried : (e : Reserve × Outcome (Node K V) Unit) → MachineTried After (of_room {K = K} {V = V} {Q = K} e).0
+    room_tried : (e : Reserve × Yielding (Node K V) Unit) → MachineTried After (of_room {K = K} {V = V} {Q = K} e).0
     room_tried (r, outcome) = tt
 
     sum_tried : (e : Sum × Counting_told ℕ) → MachineTried After (of_sum {K = K} {V = V} {Q = K} e).0

@@ -7,8 +7,8 @@ use Rattle.run_executor.specs.Given.SeizeWordsMem.{Mem, value_at, word_at}
 use Rattle.run_executor.specs.Given.SeizeWordsOp.{Exchanged, Found, Made, Out, Roomed, Stored, Taken}
 use Rattle.run_executor.specs.Given.SeizeWordsPlan.{Plan}
 use Rattle.run_executor.specs.Given.SeizeWordsWord.{block_in}
-use Rattle.papaya_raw.specs.Given.SeizeDeclared.progress.Progress.{Progress as Counting}
-use Rattle.papaya_raw.specs.Given.SeizeDeclared.progress.Progress.TheVariants as progress
+use Rattle.papaya_raw.specs.Given.SeizeDeclared.advance.Advance.{Advance as Counting}
+use Rattle.papaya_raw.specs.Given.SeizeDeclared.advance.Advance.TheVariants as progress
 use Rattle.papaya_raw.specs.Given.SeizeDeclared.rows.settle.Settled.{Settled}
 use Rattle.papaya_raw.specs.Given.SeizeDeclared.rows.settle.Settled.TheVariants as settled
 use Rattle.papaya_raw.specs.Given.TablesChunks.{is_incremental}
@@ -39,8 +39,8 @@ use Rattle.run_logged.specs.Given.ResizeDeclared.lookup.Lookup.{Lookup}
 use Rattle.run_logged.specs.Given.ResizeDeclared.new_table.Making.{Making}
 use Rattle.run_logged.specs.Given.ResizeDeclared.new_table.Making.TheVariants as makes
 use Rattle.run_logged.specs.Given.ResizeDeclared.new_table.NewTable.{NewTable}
-use Rattle.run_logged.specs.Given.ResizeDeclared.outcome.Outcome.{Outcome}
-use Rattle.run_logged.specs.Given.ResizeDeclared.outcome.Outcome.TheVariants as outcome
+use Rattle.run_logged.specs.Given.ResizeDeclared.yielding.Yielding.{Yielding}
+use Rattle.run_logged.specs.Given.ResizeDeclared.yielding.Yielding.TheVariants as outcome
 use Rattle.run_logged.specs.Given.ResizeDeclared.sum.Sum.{Sum}
 use Rattle.run_logged.specs.Given.ResizeDeclared.sum.Summing.{Summing}
 use Rattle.run_logged.specs.Given.ResizeDeclared.sum.Summing.TheVariants as sums
@@ -138,14 +138,14 @@ module _ (Why : Spot × ℕ → Type 0) {K V Q : Type 0} where
   first_tried q (n, progress.Done table) = entering_tried q table
   first_tried q (n, progress.Refused fault) = ending_tried Why q (ends.Refused fault)
 
-  helped_tried : (q : KeyCall K V Q) (goal : Table) (end : Copier × Outcome (Node K V) Table) → So (helped q goal end)
+  helped_tried : (q : KeyCall K V Q) (goal : Table) (end : Copier × Yielding (Node K V) Table) → So (helped q goal end)
   helped_tried q goal (copier, outcome.Goes) = tt
   helped_tried q goal (copier, outcome.Waits) = tt
   helped_tried q goal (copier, outcome.Gave value) = tt
   helped_tried q goal (copier, outcome.Done table) = entering_tried q goal
   helped_tried q goal (copier, outcome.Refused fault) = ending_tried Why q (ends.Refused fault)
 
-  copied_tried : (q : KeyCall K V Q) (end : Copier × Outcome (Node K V) Table) → So (copied q end)
+  copied_tried : (q : KeyCall K V Q) (end : Copier × Yielding (Node K V) Table) → So (copied q end)
   copied_tried q (copier, outcome.Goes) = tt
   copied_tried q (copier, outcome.Waits) = tt
   copied_tried q (copier, outcome.Gave value) = tt

@@ -19,7 +19,7 @@ use Rattle.run_places.specs.Given.RawDeclared.machines.machine.Machine.TheVarian
 use Rattle.run_places.specs.Given.RawDeclared.machines.progress.Answer.TheVariants.{Key}
 use Rattle.run_places.specs.Given.RawDeclared.machines.progress.Progress.{Progress}
 use Rattle.run_places.specs.Given.RawDeclared.machines.progress.Progress.TheVariants as progress
-use Rattle.run_places.specs.Given.RunsDeclared.call.Answer.{Answer}
+use Rattle.run_places.specs.Given.RunsDeclared.call.Response.{Response}
 use Rattle.run_places.specs.Given.RunsDeclared.call.Call.{Call}
 use Rattle.run_places.specs.Given.RunsDeclared.call.Call.TheVariants.{On}
 use Rattle.run_places.specs.Given.RunsDeclared.call.OneKey.{OneKey}
@@ -240,7 +240,7 @@ module _ {K V : Type 0} (same : K → K → Bool) (hash : ℕ → K → ℕ) (na
   replies_are = (was_there same hash name log m known s old new at_old whole dues map i (OnKey z) here said leads i c d c_is d_is).1
 
   abbrev Words : Type 0
-  Words = (a : Answer V) × (IsToldAs noted one c.replies answer a ⊎ IsToldDone noted one c.replies answer a)
+  Words = (a : Response V) × (IsToldAs noted one c.replies answer a ⊎ IsToldDone noted one c.replies answer a)
 
   module _ (c2 : Chart K) (looks : Blocks) (roles : (n : ℕ) → n < c2.stored → looks.pair_known n ≡ true → noted.roles (looks.pair n) ≡ role.Pair (number2 n)) where
     name_it : (word n : ℕ) (phase : Phase) (borrowed : Bool) → n < c2.stored → looks.pair_known n ≡ true → word ≡ place_word st.hash c2 looks (Holds n phase borrowed) → NamesPair noted word (number2 n)
@@ -248,7 +248,7 @@ module _ {K V : Type 0} (same : K → K → Bool) (hash : ℕ → K → ℕ) (na
 
     -- where it tells a change it tells what it means by that
     done_by : (w : World (Node K V)) (change : Change) (an : KeyAnswer) → Tells same st.hash same w i (in_slot st.setting (slot_of i)) c2 looks z.keys change change an → Owes number2 st2.chart.stored one d change
-        → (a : Answer V) × IsToldDone noted one c.replies an a
+        → (a : Response V) × IsToldDone noted one c.replies an a
     done_by w (Stored n) (answers.Stored word) (there, word_is) (l, a, value, meaning, due) = (
       a,
       (
@@ -294,7 +294,7 @@ module _ {K V : Type 0} (same : K → K → Bool) (hash : ℕ → K → ℕ) (na
     FitsIt given an = Fits (kind_of given).present (kind_of given).absent (kind_of given).takes an
 
     told_by : (memory : Mem (Node K V)) (an : KeyAnswer) → SoSince st.hash c2 looks z.keys z.began an → FitsIt (given_by one asked.asked) an
-        → LeavesGiven st.hash memory c2 looks (given_by one asked.asked) an → (a : Answer V) × IsToldAs noted one c.replies an a
+        → LeavesGiven st.hash memory c2 looks (given_by one asked.asked) an → (a : Response V) × IsToldAs noted one c.replies an a
     told_by memory (answers.Found word) (time, from, until, (n, had, known_too, phase, borrowed, word_is)) fits leaves =
         let it = finds_it number st.chart.stored apart asked.asked c.replies asked.replies n (number2 n) (λ l. sym (led.numbers map st went.2 n l)) one fits
         (leaves_it memory word n phase borrowed had.0 known_too word_is (given_by one asked.asked) leaves) in

@@ -2,10 +2,10 @@
 use Rattle.std.specs.Prelude.{◌≡◌, ℕ, ◌<◌, Bool, true, false, List, [], ◌∷◌, Option, Some, None, option_map, if◌then◌else◌}
 use Rattle.std.proofs.Common.{refl, ap, sym, subst, ◌∙◌, inl, inr}
 use Rattle.std.proofs.lemmas.Bool.{eqb-true}
-use Rattle.run_places.specs.Given.RawDeclared.machines.asking.Reply.{Reply as MachineReply}
-use Rattle.run_places.specs.Given.RawDeclared.machines.asking.Reply.TheVariants as reply
-use Rattle.run_places.specs.Given.RunsDeclared.call.Answer.{Answer}
-use Rattle.run_places.specs.Given.RunsDeclared.call.Answer.TheVariants as answer
+use Rattle.run_places.specs.Given.RawDeclared.machines.asking.MachineReply.{MachineReply}
+use Rattle.run_places.specs.Given.RawDeclared.machines.asking.MachineReply.TheVariants as reply
+use Rattle.run_places.specs.Given.RunsDeclared.call.Response.{Response}
+use Rattle.run_places.specs.Given.RunsDeclared.call.Response.TheVariants as answer
 use Rattle.run_places.specs.Given.RunsDeclared.call.OneKey.{OneKey}
 use Rattle.run_places.specs.Given.RunsDeclared.call.OneKey.TheVariants.{Get, GetKeyValue, ContainsKey, Insert, TryInsert, TryInsertWith, GetOrInsert, GetOrInsertWith, Update, UpdateOrInsert, UpdateOrInsertWith, Compute, Remove, RemoveEntry, RemoveIf}
 use Rattle.run_places.specs.Given.RunsDeclared.call.Reply.{Reply}
@@ -76,10 +76,10 @@ module _ {K V : Type 0} (number : ℕ → ℕ) (stored : ℕ) (apart : (n o : �
     (asked : List (Asked V)) (replies : List (Option ℕ × Reply V)) (are : AreReplies number stored asked replies) where
   -- it means to leave this pair, or that there is none, as it is
   abbrev pub FindsIt : OneKey K V → ℕ → Type 0
-  FindsIt one q = (a : Answer V) × ((new : ℕ) → means one (reply_to (Some q) replies) (Some q) new ≡ Answers a Leaves)
+  FindsIt one q = (a : Response V) × ((new : ℕ) → means one (reply_to (Some q) replies) (Some q) new ≡ Answers a Leaves)
 
   abbrev pub MissesIt : OneKey K V → Type 0
-  MissesIt one = (a : Answer V) × ((new : ℕ) → means one (reply_to None replies) None new ≡ Answers a Leaves)
+  MissesIt one = (a : Response V) × ((new : ℕ) → means one (reply_to None replies) None new ≡ Answers a Leaves)
 
   pub finds_it : (n q : ℕ) → (n < stored → number n ≡ q) → (one : OneKey K V) → MayFind (kind_of (given_by one asked)).present (kind_of (given_by one asked)).absent (kind_of (given_by one asked)).takes
       → LeavesIt n (given_by one asked) → FindsIt one q
@@ -137,7 +137,7 @@ module _ {K V : Type 0} (number : ℕ → ℕ) (stored : ℕ) (apart : (n o : �
   misses_it (RemoveIf k) may leaves = (answer.Absent, λ new. refl)
 
 -- a reply that is to be stored removes none
-put_no : {V : Type 0} (a : Answer V) (r : Option (Reply V)) (b : Answer V) → puts_reply r b ≡ Answers a Takes → ⊥
+put_no : {V : Type 0} (a : Response V) (r : Option (Reply V)) (b : Response V) → puts_reply r b ≡ Answers a Takes → ⊥
 put_no a None b e = cc e
 put_no a (Some (Gives v)) b e = cc e
 put_no a (Some Removes) b e = cc e
@@ -145,7 +145,7 @@ put_no a (Some (Aborts w)) b e = cc e
 put_no a (Some (Decides d)) b e = cc e
 
 -- to remove a pair means so whichever pair would be stored next
-module _ {K V : Type 0} (p new new2 : ℕ) (a : Answer V) where
+module _ {K V : Type 0} (p new new2 : ℕ) (a : Response V) where
   abbrev Same : OneKey K V → Option (Reply V) → Type 0
   Same one r = means one r (Some p) new ≡ Answers a Takes → means one r (Some p) new2 ≡ Answers a Takes
 

@@ -4,8 +4,8 @@ use Rattle.std.proofs.Common.{refl, ap, sym, subst, ◌∙◌, inl, inr}
 use Rattle.std.proofs.lemmas.Bool.{cases_eq}
 use Rattle.run_places.specs.Given.SeizeWordsDeclared.fault.Fault.TheVariants.{Memory}
 use Rattle.run_places.specs.Given.SeizeWorld.{World, Hand, with_at}
-use Rattle.run_places.specs.Given.SeizeDeclared.progress.Progress.{Progress}
-use Rattle.run_places.specs.Given.SeizeDeclared.progress.Progress.TheVariants as progress
+use Rattle.run_places.specs.Given.SeizeDeclared.advance.Advance.{Advance}
+use Rattle.run_places.specs.Given.SeizeDeclared.advance.Advance.TheVariants as progress
 use Rattle.run_places.specs.Given.SeizeDeclared.rows.settle.Settled.{Settled}
 use Rattle.run_places.specs.Given.SeizeDeclared.rows.settle.Settled.TheVariants as settled
 use Rattle.run_places.specs.Given.TablesDeclared.node.Node.{Node}
@@ -65,7 +65,7 @@ use Rattle.run_places.specs.Given.ScenesScene.{Scene}
 
 -- where a making, and an end, has come, the scene is that of what is held
 module _ {K V : Type 0} (same : K → K → Bool) (hash : ℕ → K → ℕ) (s : Scene K V) (old new : Held K V) where
-  pub making_at : (i : ℕ) (b : Beginning K) (end : NewMap) (w2 : World (Node K V)) (told : Progress Setting) (it : MakingComesTo same hash s old new i b end w2 told)
+  pub making_at : (i : ℕ) (b : Beginning K) (end : NewMap) (w2 : World (Node K V)) (told : Advance Setting) (it : MakingComesTo same hash s old new i b end w2 told)
       → IsAt same hash new (making_after same hash s old new i b end w2 told it)
   making_at i b end w2 progress.Goes it = it
   making_at i b end w2 progress.Waits it = absurd it

@@ -9,8 +9,8 @@ use Rattle.run_places.specs.Given.ReservesDeclared.sweep.Sweep.{Sweep}
 use Rattle.run_places.specs.Given.ReservesDeclared.sweep.Sweeping.{Sweeping}
 use Rattle.run_places.specs.Given.ReservesDeclared.sweep.Sweeping.TheVariants as at
 use Rattle.run_places.specs.Given.RawMachine.{machine_replied, sweep_told, sweep_replied}
-use Rattle.run_places.specs.Given.RawDeclared.machines.asking.Reply.{Reply as MachineReply}
-use Rattle.run_places.specs.Given.RawDeclared.machines.asking.Reply.TheVariants as reply
+use Rattle.run_places.specs.Given.RawDeclared.machines.asking.MachineReply.{MachineReply}
+use Rattle.run_places.specs.Given.RawDeclared.machines.asking.MachineReply.TheVariants as reply
 use Rattle.run_places.specs.Given.RunsDeclared.call.Call.{Call}
 use Rattle.run_places.specs.Given.RunsDeclared.call.Reply.{Reply}
 use Rattle.run_places.specs.Given.RunsDeclared.call.Reply.TheVariants.{Gives, Removes, Aborts, Decides}

@@ -11,10 +11,10 @@ use Rattle.run_places.specs.Given.RawDeclared.machines.machine.Machine.{Machine}
 use Rattle.run_places.specs.Given.RawDeclared.machines.machine.Machine.TheVariants as kinds
 use Rattle.run_places.specs.Given.RawDeclared.machines.progress.Progress.{Progress}
 use Rattle.run_places.specs.Given.RawDeclared.machines.progress.Progress.TheVariants as progress
-use Rattle.run_places.specs.Given.ResizeDeclared.outcome.Outcome.{Outcome as Ending}
-use Rattle.run_places.specs.Given.ResizeDeclared.outcome.Outcome.TheVariants as rooms
-use Rattle.run_places.specs.Given.SeizeDeclared.progress.Progress.{Progress as Counted}
-use Rattle.run_places.specs.Given.SeizeDeclared.progress.Progress.TheVariants as counts
+use Rattle.run_places.specs.Given.ResizeDeclared.yielding.Yielding.{Yielding as Ending}
+use Rattle.run_places.specs.Given.ResizeDeclared.yielding.Yielding.TheVariants as rooms
+use Rattle.run_places.specs.Given.SeizeDeclared.advance.Advance.{Advance as Counted}
+use Rattle.run_places.specs.Given.SeizeDeclared.advance.Advance.TheVariants as counts
 use Rattle.run_places.specs.Given.RunsDeclared.call.Call.{Call}
 use Rattle.run_places.specs.Given.RunsDeclared.call.Call.TheVariants as call
 use Rattle.run_places.specs.Given.RunsDeclared.effect.Effect.{Effect}

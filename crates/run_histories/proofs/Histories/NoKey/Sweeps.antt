@@ -16,8 +16,8 @@ use Rattle.run_places.specs.Given.ResizeCopier.{copier_plan}
 use Rattle.run_places.specs.Given.ResizeDispose.{dispose_plan}
 use Rattle.run_places.specs.Given.ResizeDeclared.copier.Copier.{Copier}
 use Rattle.run_places.specs.Given.ResizeDeclared.dispose.Dispose.{Dispose}
-use Rattle.run_places.specs.Given.ResizeDeclared.outcome.Outcome.{Outcome}
-use Rattle.run_places.specs.Given.ResizeDeclared.outcome.Outcome.TheVariants as outcome
+use Rattle.run_places.specs.Given.ResizeDeclared.yielding.Yielding.{Yielding}
+use Rattle.run_places.specs.Given.ResizeDeclared.yielding.Yielding.TheVariants as outcome
 use Rattle.run_places.specs.Given.SweepsSweep.{word_found, tried, disposed, root_read, next_read, copied, plan_at}
 use Rattle.run_places.specs.Given.SweepsSweepPoints.{removes, beginning, tableless, entering, further, told, telling, at_pair, seen}
 use Rattle.run_places.specs.Given.ReservesDeclared.sweep.Purpose.{Purpose}
@@ -122,7 +122,7 @@ module _ (K V : Type 0) (p : Sweep) where
   disposed_keeps (d, settled.Gave value) = (refl, tt)
   disposed_keeps (d, settled.Done) = telling_keeps (further p) refl
 
-  copied_keeps : (end : Copier × Outcome (Node K V) Table) → Keeps (copied p end)
+  copied_keeps : (end : Copier × Yielding (Node K V) Table) → Keeps (copied p end)
   copied_keeps (c, outcome.Goes) = (refl, tt)
   copied_keeps (c, outcome.Waits) = (refl, tt)
   copied_keeps (c, outcome.Gave value) = (refl, tt)

@@ -7,7 +7,7 @@ use Rattle.run_places.specs.Given.SeizeWordsMem.{Mem, Took, value_at, word_at}
 use Rattle.run_places.specs.Given.SeizeWordsPlan.{Steps, Ends, Now, Seeing}
 use Rattle.run_places.proofs.Given.SeizeWordsOneOwner.Operations.{loaded}
 use Rattle.run_places.proofs.Given.SeizeWordsPlans.{ends_if}
-use Rattle.run_places.specs.Given.SeizeDeclared.progress.Progress.{Progress}
+use Rattle.run_places.specs.Given.SeizeDeclared.advance.Advance.{Advance}
 use Rattle.run_places.specs.Given.TablesChunks.{is_incremental}
 use Rattle.run_places.specs.Given.TablesFinding.{finding}
 use Rattle.run_places.specs.Given.TablesNodes.{table_seen}
@@ -90,7 +90,7 @@ to_behind c first steps turn turn2 len next none made h = record {
 
 module _ {K V : Type 0} (same : K → K → Bool) (hash : K → ℕ) (fits : (k : K) → hash k < 2 ^ 64) (mode : ResizeMode) (root : ℕ) (keys : K → Bool) (code : ℕ) (class : IsClass same hash keys code)
     (m : Mem (Node K V)) (c : Chart K) (blocks : Blocks) (map : IsMap same hash mode root m c blocks) (first steps : ℕ) (l : Lookup) where
-  abbrev On : Lookup × Progress (Option ℕ) → Type 0
+  abbrev On : Lookup × Advance (Option ℕ) → Type 0
   On end = ReadsOn (is_incremental mode) c first (suc steps) end
 
   abbrev At : Looking → Type 0
@@ -99,7 +99,7 @@ module _ {K V : Type 0} (same : K → K → Bool) (hash : K → ℕ) (fits : (k 
   -- a link that was read leads to the first try at its table, or nowhere
   link_reads : (link u : ℕ) → LeadsTo c blocks link u
       → ((trial : Trial) → trial.table.turn ≡ u → trial.probe.len ≡ 0 → u < c.past → At (at.Probes trial))
-      → (end : Lookup × Progress (Option ℕ)) → Ends (value_at m) (table_read {K = K} {V = V} l link) end → On end
+      → (end : Lookup × Advance (Option ℕ)) → Ends (value_at m) (table_read {K = K} {V = V} l link) end → On end
   link_reads link u leads enters end ends =
       by leads (ends_if (value_at m) (link == 0) (Now (answered l None)) (Seeing (link / 2048) (λ value. Now (going l (at.Probes (first_trial (table_seen link value) l.hash))))) end ends)
     where
@@ -116,7 +116,7 @@ module _ {K V : Type 0} (same : K → K → Bool) (hash : K → ℕ) (fits : (k 
           entered = subst (λ x. IsTable c blocks (table_seen x e.1.0) u) (sym some.0)
               (table_is hash m c blocks root map.shows u some.1 some.2 e.1.0 (subst (λ x. value_at m (x / 2048) ≡ Some e.1.0) some.0 e.1.1))
 
-  root_reads : l.root ≡ root → first ≡ c.first → steps ≡ 0 → (m2 : Mem (Node K V)) (end : Lookup × Progress (Option ℕ)) → Steps Took value_at m (roots {K = K} {V = V} l) m2 end → On end
+  root_reads : l.root ≡ root → first ≡ c.first → steps ≡ 0 → (m2 : Mem (Node K V)) (end : Lookup × Advance (Option ℕ)) → Steps Took value_at m (roots {K = K} {V = V} l) m2 end → On end
   root_reads root_is same_first none m2 end s =
       let r = loaded m (link_found l) (Root l.root) m2 end s in
       let read : word_at m (Root root) ≡ Some r.0 = ap (λ x. word_at m (Root x)) (sym root_is) ∙ r.1 in
@@ -129,7 +129,7 @@ module _ {K V : Type 0} (same : K → K → Bool) (hash : K → ℕ) (fits : (k 
       )
 
   next_reads : (table : Table) (t : ℕ) → IsTable c blocks table t → is_incremental mode ≡ true → HasRead (is_incremental mode) c first table.turn steps (suc (c.limit table.turn))
-      → (m2 : Mem (Node K V)) (end : Lookup × Progress (Option ℕ)) → Steps Took value_at m (nexts {K = K} {V = V} l table) m2 end → On end
+      → (m2 : Mem (Node K V)) (end : Lookup × Advance (Option ℕ)) → Steps Took value_at m (nexts {K = K} {V = V} l table) m2 end → On end
   next_reads table t entered incremental h m2 end s =
       let r = loaded m (link_found l) (at_word table NEXT) m2 end s in
       link_reads r.0 (suc t) (next_leads same hash mode root m c blocks map table t r.0 entered r.1) enters end r.3
@@ -168,7 +168,7 @@ module _ {K V : Type 0} (same : K → K → Bool) (hash : K → ℕ) (fits : (k 
     told_reads word is.Copying = tt
     told_reads word is.There = tt
 
-    probes_read : (m2 : Mem (Node K V)) (end : Lookup × Progress (Option ℕ)) → Steps Took value_at m (probes {K = K} {V = V} keys l trial) m2 end → On end
+    probes_read : (m2 : Mem (Node K V)) (end : Lookup × Advance (Option ℕ)) → Steps Took value_at m (probes {K = K} {V = V} keys l trial) m2 end → On end
     probes_read m2 end s =
         (probes_tell hash keys code m c blocks l hash_is trial t (c.place t (spot_at (c.len t) code j)) sees (λ x. On x)
         (λ same_key tells. told_reads (place_word hash c blocks (c.place t (spot_at (c.len t) code j)))
@@ -191,7 +191,7 @@ module _ (K V : Type 0) (same : K → K → Bool) (hash : K → ℕ) where
   pub late_reads_on : AreLawful same hash → (mode : ResizeMode) (root : ℕ) (keys asked : K → Bool) (code began : ℕ) (m : Mem (Node K V)) (c : Chart K) (blocks : Blocks) (l : Lookup)
       → IsClass same hash asked code → IsMap same hash mode root m c blocks → LateLookupFacts same hash keys code c blocks began mode root l
       → (first steps : ℕ) → ReadsAt (is_incremental mode) c first steps l.stands
-      → (m2 : Mem (Node K V)) (end : Lookup × Progress (Option ℕ)) → Steps Took value_at m (lookup_plan asked l) m2 end
+      → (m2 : Mem (Node K V)) (end : Lookup × Advance (Option ℕ)) → Steps Took value_at m (lookup_plan asked l) m2 end
       → ReadsOn (is_incremental mode) c first (suc steps) end
   late_reads_on are mode root keys asked code began m c blocks l class map facts first steps reads m2 end s = by l.stands facts.point reads s
     where

@@ -5,7 +5,7 @@ use Rattle.run_places.specs.Given.SeizeWordsMem.{Mem, Took, value_at}
 use Rattle.run_places.specs.Given.SeizeWordsPlan.{Steps}
 use Rattle.run_places.proofs.Given.SeizeRuleRows.Leaving.{steps_back}
 use Rattle.run_places.specs.Given.SeizeWorld.{Rests}
-use Rattle.run_places.specs.Given.SeizeDeclared.progress.Progress.{Progress as Stepped}
+use Rattle.run_places.specs.Given.SeizeDeclared.advance.Advance.{Advance as Stepped}
 use Rattle.run_places.specs.Given.TablesChunks.{is_incremental}
 use Rattle.run_places.specs.Given.TablesDeclared.node.Node.{Node}
 use Rattle.run_places.specs.Given.ResizeLookup.{lookup_plan}

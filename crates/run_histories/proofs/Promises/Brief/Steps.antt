@@ -2,8 +2,8 @@
 use Rattle.std.specs.Prelude.{◌≡◌, ℕ, suc, ◌+◌, ◌<◌, ◌≤◌, Bool, true, List, Option, Some, None, if◌then◌else◌}
 use Rattle.std.proofs.Common.{refl, ap, sym, subst, ◌∙◌, arith, inl, inr}
 use Rattle.std.proofs.lemmas.Bool.{eq-eqb, ne_eqb}
-use Rattle.run_places.specs.Given.SeizeDeclared.progress.Progress.{Progress as Stepped}
-use Rattle.run_places.specs.Given.SeizeDeclared.progress.Progress.TheVariants as stepped
+use Rattle.run_places.specs.Given.SeizeDeclared.advance.Advance.{Advance as Stepped}
+use Rattle.run_places.specs.Given.SeizeDeclared.advance.Advance.TheVariants as stepped
 use Rattle.run_places.specs.Given.TablesChunks.{is_incremental}
 use Rattle.run_places.specs.Given.TablesDeclared.node.Node.{Node}
 use Rattle.run_places.specs.Given.TablesDeclared.setting.Setting.{Setting}

@@ -6,7 +6,7 @@ use Rattle.run_places.specs.Given.SeizeWorld.{World, Use, Outside, Changing, IsI
 use Rattle.run_places.specs.Given.TablesNodes.{deferred_word}
 use Rattle.run_places.specs.Given.TablesDeclared.node.Node.{Node}
 use Rattle.run_places.specs.Given.RunsPresent.{Present, guard_of}
-use Rattle.run_places.specs.Given.RunsDeclared.holders.Guard.{Guard}
+use Rattle.run_places.specs.Given.RunsDeclared.holders.NamedGuard.{NamedGuard}
 use Rattle.run_places.specs.Given.RunsDeclared.call.Call.{Call}
 use Rattle.run_places.specs.Given.SchedulesBeginning.{with_call}
 use Rattle.run_places.specs.Given.SchedulesMoment.{Sheltered, Moment}
@@ -30,7 +30,7 @@ module _ {K V : Type 0} (size slot i : ℕ) (w w2 : World (Node K V)) where
   module _ (there : Present) where
     -- sections that have guards go on
     abbrev GuardsGoOn : Type 0
-    GuardsGoOn = (own : List ℕ) (g : Guard) → guard_of own there.guards ≡ Some g → IsInside (w.uses g.slot) → IsInside (w2.uses g.slot)
+    GuardsGoOn = (own : List ℕ) (g : NamedGuard) → guard_of own there.guards ≡ Some g → IsInside (w.uses g.slot) → IsInside (w2.uses g.slot)
 
     others_go : NobodyOn slot there → w2.uses ≡ with_at w.uses slot Changing → GuardsGoOn
     others_go none uses own g is inside = other_inside uses g.slot (none own g is) inside

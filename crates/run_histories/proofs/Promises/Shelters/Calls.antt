@@ -13,7 +13,7 @@ use Rattle.run_places.specs.Given.TablesDeclared.node.Node.{Node}
 use Rattle.run_places.specs.Given.RawDeclared.machines.progress.Progress.{Progress}
 use Rattle.run_places.specs.Given.RuleInWorld.{IsMapIn}
 use Rattle.run_places.proofs.Given.RuleLaws.{current_is_known}
-use Rattle.run_places.specs.Given.RunsDeclared.holders.Guard.{Guard}
+use Rattle.run_places.specs.Given.RunsDeclared.holders.NamedGuard.{NamedGuard}
 use Rattle.run_places.specs.Given.RunsDeclared.effect.Effect.{Effect}
 use Rattle.run_places.specs.Given.RunsDeclared.effect.Effect.TheVariants.{Promoted, Replaced, Removed}
 use Rattle.run_places.specs.Given.RunsDeclared.effect.Thing.{Thing}
@@ -166,8 +166,8 @@ module _ {K V : Type 0} (same : K → K → Bool) (hash : ℕ → K → ℕ) (na
   outs _ finds = tt
 
   module _ (inside : GuardsAreOn (On w) m.there) (sheltered : AreShelteredOn (On w) m.there w known m.sheltered) where
-    guards_shelter : AllByRecursion (λ (g : Guard). (x : Thing) → IsOut x → IsShelteredOn (On w) m.there w known (record { guard = g.name; thing = x })) m.there.guards
-    guards_shelter = all_of (IsFound m.there.guards) (λ (g : Guard). (x : Thing) → IsOut x → IsShelteredOn (On w) m.there w known (record { guard = g.name; thing = x })) m.there.guards
+    guards_shelter : AllByRecursion (λ (g : NamedGuard). (x : Thing) → IsOut x → IsShelteredOn (On w) m.there w known (record { guard = g.name; thing = x })) m.there.guards
+    guards_shelter = all_of (IsFound m.there.guards) (λ (g : NamedGuard). (x : Thing) → IsOut x → IsShelteredOn (On w) m.there w known (record { guard = g.name; thing = x })) m.there.guards
         (λ g found x out. (
           out.0,
           found.0,

@@ -13,7 +13,7 @@ use Rattle.run_places.specs.Given.TablesDeclared.node.Node.{Node}
 use Rattle.run_places.specs.Given.RunsPresent.{Present}
 use Rattle.run_places.specs.Given.RunsDeclared.effect.Effect.TheVariants.{Asked}
 use Rattle.run_places.specs.Given.RunsDeclared.effect.Growth.TheVariants.{ABucket}
-use Rattle.run_places.specs.Given.RunsDeclared.effect.Table.{Table}
+use Rattle.run_places.specs.Given.RunsDeclared.effect.TableId.{TableId}
 use Rattle.run_places.specs.Given.RunsDeclared.effect.Thing.{Thing}
 use Rattle.run_places.specs.Given.RunsDeclared.effect.Thing.TheVariants.{APair, ATable}
 use Rattle.run_places.specs.Given.SchedulesLists.{is_in}
@@ -52,7 +52,7 @@ both_true true true e = (refl, refl)
 both_true true false e = absurd (cc e)
 both_true false q e = absurd (cc e)
 
-tables_are : (t u : Table) → same_table t u ≡ true → t ≡ u
+tables_are : (t u : TableId) → same_table t u ≡ true → t ≡ u
 tables_are t u e =
     let both = both_true (t.map == u.map) (t.turn == u.turn) e in
     let maps : t.map ≡ u.map = grind (arith, both.0) in

@@ -21,7 +21,7 @@ use Rattle.papaya_raw.specs.Given.TablesDeclared.node.Node.{Node}
 use Rattle.run_schedules.specs.declared.effect.Effect.{Effect}
 use Rattle.run_schedules.specs.declared.effect.Effect.TheVariants.{Asked}
 use Rattle.run_schedules.specs.declared.effect.Growth.TheVariants.{ABucket}
-use Rattle.run_schedules.specs.declared.effect.Table.{Table}
+use Rattle.run_schedules.specs.declared.effect.TableId.{TableId}
 use Rattle.run_schedules.specs.Schedules.Effects.{AtEachEffect}
 use Rattle.run_schedules.specs.Schedules.Moment.{Moment}
 use Rattle.run_schedules.specs.Schedules.Views.{is_retired, is_stage}
@@ -120,7 +120,7 @@ module _ {K V : Type 0} (same : K → K → Bool) (hash : ℕ → K → ℕ) (na
   RunsBy events = Runs deferred_word old.batch_size events w w2
 
   -- a table that is taken away was retired: the collector had it, and nobody has a call whose row is to retire it
-  table_had : (x len : ℕ) (t : Table) → known.roles x ≡ role.Table t len → value_at w2.memory x ≡ None → is_stage is_retired t m ≡ true
+  table_had : (x len : ℕ) (t : TableId) → known.roles x ≡ role.Table t len → value_at w2.memory x ≡ None → is_stage is_retired t m ≡ true
   table_had x len t is gone = elim (retired.tables x len t is (by leads.1.its)) as (λ _. is_stage is_retired t m ≡ true) [
     | inl so ↦ so
     | inr due ↦ absurd (no_call due.0 due.1)

@@ -20,7 +20,7 @@ use Rattle.papaya_raw.specs.Given.TablesDeclared.node.Node.{Node}
 use Rattle.run_schedules.specs.declared.effect.Effect.{Effect}
 use Rattle.run_schedules.specs.declared.effect.Effect.TheVariants.{Asked}
 use Rattle.run_schedules.specs.declared.effect.Growth.TheVariants.{ABucket}
-use Rattle.run_schedules.specs.declared.effect.Table.{Table}
+use Rattle.run_schedules.specs.declared.effect.TableId.{TableId}
 use Rattle.run_schedules.specs.Schedules.Effects.{all_at, with_effects}
 use Rattle.run_schedules.specs.Schedules.Lists.{is_among}
 use Rattle.run_schedules.specs.Schedules.Moment.{Place, Behind, Handed as IsHanded, GivenBack, Moment}
@@ -131,7 +131,7 @@ module _ {K V : Type 0} (same : K → K → Bool) (hash : ℕ → K → ℕ) (na
           aside runs.0 runs.2 (log_back deferred_word old.batch_size w runs.0 (Operates (Store (Used root) 0)) tt runs.1 p)
 
   -- what waits behind a table does so by the log, since none is left over
-  by_log : (n : ℕ) (t : Table) (l : LiesBehind known w n t) → waits_behind l.pair w.log ≡ Some l.table
+  by_log : (n : ℕ) (t : TableId) (l : LiesBehind known w n t) → waits_behind l.pair w.log ≡ Some l.table
   by_log n t l = by l.waits
     where
       by : (waits_behind l.pair w.log ≡ Some l.table) ⊎ (IsLeft (w.hand l.pair) × IsLeft (w.hand l.table)) → waits_behind l.pair w.log ≡ Some l.table
@@ -139,7 +139,7 @@ module _ {K V : Type 0} (same : K → K → Bool) (hash : ℕ → K → ℕ) (na
       by (inr both) = absurd (no_table l.table l.len t l.is_table both.1)
 
   -- so its pair is there still where the table is
-  pair_there : (n : ℕ) (t : Table) (l : LiesBehind known w n t) → IsSome (value_at w2.memory l.table) → IsSome (value_at w2.memory l.pair)
+  pair_there : (n : ℕ) (t : TableId) (l : LiesBehind known w n t) → IsSome (value_at w2.memory l.table) → IsSome (value_at w2.memory l.pair)
   pair_there n t l some =
       let good = kept_then.good in
       let handed = has_it deferred_word old.batch_size w2 kept_then l.pair l.table (log_waits l.pair l.table some (by_log n t l)) in
@@ -157,19 +157,19 @@ module _ {K V : Type 0} (same : K → K → Bool) (hash : ℕ → K → ℕ) (na
     abbrev v : Moment K V
     v = then_at (effects_of Row known x)
 
-    abbrev Waited : ℕ → Table → Type 0
+    abbrev Waited : ℕ → TableId → Type 0
     Waited n t = (m.place n ≡ Behind) × LiesBehind known w n t
 
-    abbrev WaitsThen : ℕ → Table → Type 0
+    abbrev WaitsThen : ℕ → TableId → Type 0
     WaitsThen n t = (v.place n ≡ Behind) × LiesBehind known2 w2 n t
 
-    table_there : (n : ℕ) (t : Table) (l : LiesBehind known w n t) → (x ≡ changed.Took l.table → ⊥) → IsSome (value_at w2.memory l.table)
+    table_there : (n : ℕ) (t : TableId) (l : LiesBehind known w n t) → (x ≡ changed.Took l.table → ⊥) → IsSome (value_at w2.memory l.table)
     table_there n t l apart =
         let has = subst (λ (r : Role). HasRole w m.stored l.table r) l.is_table (whole.all.shown.blocks.roles l.table) in
         let stays = there_still w.memory w2.memory x tells l2 l.table _ has.1 apart in
         subst (λ (o : Option (Node K V)). IsSome o) (sym stays.1) refl
 
-    lies_then : (n : ℕ) (t : Table) (l : LiesBehind known w n t) → (x ≡ changed.Took l.table → ⊥) → LiesBehind known2 w2 n t
+    lies_then : (n : ℕ) (t : TableId) (l : LiesBehind known w n t) → (x ≡ changed.Took l.table → ⊥) → LiesBehind known2 w2 n t
     lies_then n t l apart =
         let there = table_there n t l apart in
         let keeps = row_keeps known w2 w x tells l2 in
@@ -182,8 +182,8 @@ module _ {K V : Type 0} (same : K → K → Bool) (hash : ℕ → K → ℕ) (na
           waits = inl (log_waits l.pair l.table there (by_log n t l));
         }
 
-    all_wait : (fs : List Effect) → effects_of Row known x ≡ fs → (then_at fs).deferred ≡ m.deferred → ((n : ℕ) (t : Table) → LiesBehind known w n t → m.place n ≡ Behind → (then_at fs).place n ≡ Behind)
-        → ((n : ℕ) (t : Table) (l : LiesBehind known w n t) → x ≡ changed.Took l.table → ⊥) → EachWaits WaitsThen v.deferred
+    all_wait : (fs : List Effect) → effects_of Row known x ≡ fs → (then_at fs).deferred ≡ m.deferred → ((n : ℕ) (t : TableId) → LiesBehind known w n t → m.place n ≡ Behind → (then_at fs).place n ≡ Behind)
+        → ((n : ℕ) (t : TableId) (l : LiesBehind known w n t) → x ≡ changed.Took l.table → ⊥) → EachWaits WaitsThen v.deferred
     all_wait fs they deferred place apart =
         subst (EachWaits WaitsThen) (sym (ap (λ (gs : List Effect). (then_at gs).deferred) they ∙ deferred))
         (each_on Waited WaitsThen (λ n t p. (ap (λ (gs : List Effect). (then_at gs).place n) they ∙ place n t p.1 p.0, lies_then n t p.1 (apart n t p.1))) m.deferred waiting)
@@ -196,40 +196,40 @@ module _ {K V : Type 0} (same : K → K → Bool) (hash : ℕ → K → ℕ) (na
       this_one : (y : ℕ) → x ≡ changed.Took y → y ≡ b
       this_one y e = (let one : changed.Took y ≡ changed.Took b = sym e ∙ is in cc one)
 
-      no_table_taken : (r : Role) → known.roles b ≡ r → ((t : Table) (len : ℕ) → r ≡ role.Table t len → ⊥) → (n : ℕ) (t : Table) (l : LiesBehind known w n t) → x ≡ changed.Took l.table → ⊥
+      no_table_taken : (r : Role) → known.roles b ≡ r → ((t : TableId) (len : ℕ) → r ≡ role.Table t len → ⊥) → (n : ℕ) (t : TableId) (l : LiesBehind known w n t) → x ≡ changed.Took l.table → ⊥
       no_table_taken r e never n t l took = never t l.len (sym e ∙ ap known.roles (sym (this_one l.table took)) ∙ l.is_table)
 
       -- not that of a pair that waits, whose table is there still
-      took_pair : (k : ℕ) → known.roles b ≡ role.Pair k → (n : ℕ) (t : Table) (l : LiesBehind known w n t) → l.pair ≡ b → ⊥
+      took_pair : (k : ℕ) → known.roles b ≡ role.Pair k → (n : ℕ) (t : TableId) (l : LiesBehind known w n t) → l.pair ≡ b → ⊥
       took_pair k e n t l same_block =
           let there = pair_there n t l (table_there n t l (no_table_taken (role.Pair k) e (λ u len z. cc z) n t l)) in
           let gone : LeavesBy w.memory w2.memory (changed.Took b) = subst (LeavesBy w.memory w2.memory) is l2 in
           none_some (value_at w2.memory l.pair) there (ap (value_at w2.memory) same_block ∙ gone.1)
 
-      took_a_table : (u : Table) (len : ℕ) → known.roles b ≡ role.Table u len → EachWaits WaitsThen v.deferred
+      took_a_table : (u : TableId) (len : ℕ) → known.roles b ≡ role.Table u len → EachWaits WaitsThen v.deferred
       took_a_table u len e =
           subst (EachWaits WaitsThen) (sym (ap (λ (gs : List Effect). (then_at gs).deferred) (are (role.Table u len) e)))
           (each_kept (λ n t. Waited n t × Alone n t) WaitsThen (λ d. not (same_table d.behind u)) (λ d other p. kept_one d.pair d.behind other p.0 p.1) m.deferred
           (each_both Waited Alone m.deferred waiting once))
         where
-          Alone : ℕ → Table → Type 0
-          Alone n t = (y : Table) → is_among n (behind y m.deferred) ≡ true → same_table t y ≡ true
+          Alone : ℕ → TableId → Type 0
+          Alone n t = (y : TableId) → is_among n (behind y m.deferred) ≡ true → same_table t y ≡ true
 
-          apart : (n : ℕ) (t : Table) → not (same_table t u) ≡ true → (l : LiesBehind known w n t) → x ≡ changed.Took l.table → ⊥
+          apart : (n : ℕ) (t : TableId) → not (same_table t u) ≡ true → (l : LiesBehind known w n t) → x ≡ changed.Took l.table → ⊥
           apart n t other l took =
               let one : role.Table t l.len ≡ role.Table u len = sym l.is_table ∙ ap known.roles (this_one l.table took) ∙ e in
               let t_is : t ≡ u = cc one in
-              let none = ap not (ap (λ (y : Table). same_table y u) t_is ∙ same_itself u) in
+              let none = ap not (ap (λ (y : TableId). same_table y u) t_is ∙ same_itself u) in
               cc (other, none)
 
-          place_kept : (n : ℕ) (t : Table) → not (same_table t u) ≡ true → Alone n t → m.place n ≡ Behind → all_at IsHanded (behind u m.deferred) m.place n ≡ Behind
+          place_kept : (n : ℕ) (t : TableId) → not (same_table t u) ≡ true → Alone n t → m.place n ≡ Behind → all_at IsHanded (behind u m.deferred) m.place n ≡ Behind
           place_kept n t other alone was = by (is_among n (behind u m.deferred)) refl
             where
               by : (q : Bool) → is_among n (behind u m.deferred) ≡ q → (if q then IsHanded else m.place n) ≡ Behind
               by true among = absurd (let none = ap not (alone u among) in cc (other, none))
               by false among = was
 
-          kept_one : (n : ℕ) (t : Table) → not (same_table t u) ≡ true → Waited n t → Alone n t → WaitsThen n t
+          kept_one : (n : ℕ) (t : TableId) → not (same_table t u) ≡ true → Waited n t → Alone n t → WaitsThen n t
           kept_one n t other p alone = (
             ap (λ (gs : List Effect). (then_at gs).place n) (are (role.Table u len) e) ∙ place_kept n t other alone p.0,
             lies_then n t p.1 (apart n t other p.1),

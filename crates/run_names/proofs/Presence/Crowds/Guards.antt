@@ -1,26 +1,26 @@
 -- Guards on slots, where one is forgotten.
 use Rattle.std.specs.Prelude.{◌==◌, ◌&&◌, not, slice_set, Option, Some, None, if◌then◌else◌}
 use Rattle.std.proofs.Common.{◌≡◌, ℕ, ◌+◌, Bool, true, false, List, [], ◌∷◌, refl, sym, ap, arith}
-use Rattle.run_schedules.specs.declared.holders.Guard.{Guard}
+use Rattle.run_schedules.specs.declared.holders.NamedGuard.{NamedGuard}
 use Rattle.run_schedules.specs.Runs.Present.{guards_on, living_on, living_slot}
 use Rattle.run_names.specs.Presence.Crowd.{StandsAt, count_of, count_some, is_living, kept, weigh}
 use Rattle.run_names.proofs.Presence.Crowds.Weights.{weigh_changed}
 
-abbrev pub is_on : ℕ → Guard → ℕ
+abbrev pub is_on : ℕ → NamedGuard → ℕ
 is_on slot g = if g.slot == slot then 1 else 0
 
-abbrev pub lives_on : ℕ → Guard → ℕ
+abbrev pub lives_on : ℕ → NamedGuard → ℕ
 lives_on slot g = if (g.slot == slot) && not g.forgotten then 1 else 0
 
-pub on_weighed : (slot : ℕ) (guards : List Guard) → guards_on slot guards ≡ weigh (is_on slot) guards
+pub on_weighed : (slot : ℕ) (guards : List NamedGuard) → guards_on slot guards ≡ weigh (is_on slot) guards
 on_weighed slot [] = refl
 on_weighed slot (g ∷ guards) = ap (λ n. is_on slot g + n) (on_weighed slot guards)
 
-pub living_weighed : (slot : ℕ) (guards : List Guard) → living_on slot guards ≡ weigh (lives_on slot) guards
+pub living_weighed : (slot : ℕ) (guards : List NamedGuard) → living_on slot guards ≡ weigh (lives_on slot) guards
 living_weighed slot [] = refl
 living_weighed slot (g ∷ guards) = ap (λ n. lives_on slot g + n) (living_weighed slot guards)
 
-abbrev pub forgotten : Guard → Guard
+abbrev pub forgotten : NamedGuard → NamedGuard
 forgotten g = record g { forgotten = true }
 
 -- what a guard weighs that is on a slot or not, and was forgotten or not
@@ -41,8 +41,8 @@ all_weight : (was : Bool) (slot : ℕ) → (if was then 0 else 1) ≡ count_some
 all_weight true slot = refl
 all_weight false slot = refl
 
-module _ (comers : List (Option Guard)) (place : ℕ) (g : Guard) (here : StandsAt comers place g) where
-  abbrev after : List Guard
+module _ (comers : List (Option NamedGuard)) (place : ℕ) (g : NamedGuard) (here : StandsAt comers place g) where
+  abbrev after : List NamedGuard
   after = kept (slice_set comers place (Some (forgotten g)))
 
   pub forgotten_on : (slot : ℕ) → guards_on slot after ≡ guards_on slot (kept comers)

@@ -4,7 +4,7 @@ use Rattle.std.specs.Bool.{then_some}
 use Rattle.std.proofs.Common.{◌≡◌, ℕ, zero, suc, ◌+◌, ◌<◌, ◌≤◌, ◌⊎◌, inl, inr, true, false, List, [], ◌∷◌, ◌++◌, length, refl, sym, ap, subst, arith, ◌∙◌}
 use Rattle.run_names.specs.Presence.Places.{IsElsewhere, place_of}
 use Rattle.run_names.specs.Presence.Crowd.{IsAbsent, IsHome, LeadsHome, StandsAt, is_named, kept}
-use Rattle.run_names.specs.declared.places.Places.{Places}
+use Rattle.run_names.specs.declared.name_index.NameIndex.{NameIndex}
 use Rattle.run_names.proofs.Presence.Crowds.Kept.{IsAlone, home_found, home_left, others}
 use Rattle.run_names.proofs.Presence.Crowds.Weights.{counted_left}
 
@@ -55,25 +55,25 @@ module _ {T : Type 0} where
 
   module _ (name_of : T → List ℕ) where
     -- no item has a name that leads nowhere, out of the list, or to a place where none of that name stands
-    pub leads_nowhere : (comers : List (Option T)) (places : Places) (name : List ℕ) → LeadsHome name_of comers places → place_of name places ≡ None
+    pub leads_nowhere : (comers : List (Option T)) (places : NameIndex) (name : List ℕ) → LeadsHome name_of comers places → place_of name places ≡ None
         → IsAbsent name_of name comers
     leads_nowhere comers places name leads none p t s e =
         let led : place_of name places ≡ Some p = ap (λ (l : List ℕ). place_of l places) (sym e) ∙ leads.home p t s in
         cc (none, led)
 
-    leads_there : (comers : List (Option T)) (places : Places) (name : List ℕ) (place : ℕ) → LeadsHome name_of comers places
+    leads_there : (comers : List (Option T)) (places : NameIndex) (name : List ℕ) (place : ℕ) → LeadsHome name_of comers places
         → place_of name places ≡ Some place → ((t : T) → StandsAt comers place t → name_of t ≡ name → ⊥) → IsAbsent name_of name comers
     leads_there comers places name place leads told other p t s e =
         let led : place_of name places ≡ Some p = ap (λ (l : List ℕ). place_of l places) (sym e) ∙ leads.home p t s in
         let same : p ≡ place = cc (told, led) in
         other t (subst (λ (k : ℕ). StandsAt comers k t) same s) e
 
-    pub leads_out : (comers : List (Option T)) (places : Places) (name : List ℕ) (place : ℕ) → LeadsHome name_of comers places
+    pub leads_out : (comers : List (Option T)) (places : NameIndex) (name : List ℕ) (place : ℕ) → LeadsHome name_of comers places
         → place_of name places ≡ Some place → length comers ≤ place → IsAbsent name_of name comers
     leads_out comers places name place leads told out =
         leads_there comers places name place leads told (λ t s e. absurd (omega (arith, stands_within comers place t s, out)))
 
-    pub leads_to_other : (comers : List (Option T)) (places : Places) (name : List ℕ) (place : ℕ) (x : Option T) → LeadsHome name_of comers places
+    pub leads_to_other : (comers : List (Option T)) (places : NameIndex) (name : List ℕ) (place : ℕ) (x : Option T) → LeadsHome name_of comers places
         → place_of name places ≡ Some place → place < length comers → x ≡ slice_index_or comers place x → ((t : T) → x ≡ Some t → name_of t ≡ name → ⊥)
         → IsAbsent name_of name comers
     leads_to_other comers places name place x leads told within read other =
@@ -83,7 +83,7 @@ module _ {T : Type 0} where
         held t h = cc h
 
     -- whether the item to which a name leads has it tells where the item of this name stands
-    pub told_by_name : (comers : List (Option T)) (places : Places) (name : List ℕ) (place : ℕ) (x : Option T) (t : T) (told : List ℕ) (is : Bool)
+    pub told_by_name : (comers : List (Option T)) (places : NameIndex) (name : List ℕ) (place : ℕ) (x : Option T) (t : T) (told : List ℕ) (is : Bool)
         → LeadsHome name_of comers places → place_of name places ≡ Some place → place < length comers → x ≡ slice_index_or comers place x → Some t ≡ x
         → told ≡ name_of t → (IsTrue is ↔ (told ≡ name)) → MatchOption (then_some is place) (IsAbsent name_of name comers) (IsHome name_of name comers)
     told_by_name comers places name place x t told true leads led within read held names same =
@@ -97,7 +97,7 @@ module _ {T : Type 0} where
         one : (u : T) → Some t ≡ Some u → t ≡ u
         one u h = cc h
 
-    pub home_alone : (comers : List (Option T)) (places : Places) (name : List ℕ) (place : ℕ) → LeadsHome name_of comers places
+    pub home_alone : (comers : List (Option T)) (places : NameIndex) (name : List ℕ) (place : ℕ) → LeadsHome name_of comers places
         → IsHome name_of name comers place → IsAlone name_of name comers place
     home_alone comers places name place leads h p t s e =
         let one : place_of name places ≡ Some p = ap (λ (l : List ℕ). place_of l places) (sym e) ∙ leads.home p t s in
@@ -105,15 +105,15 @@ module _ {T : Type 0} where
         cc (one, two)
 
     -- the names of others lead where they did
-    abbrev pub OthersLead : List ℕ → Places → Places → Type 0
+    abbrev pub OthersLead : List ℕ → NameIndex → NameIndex → Type 0
     OthersLead name old new = (other : List ℕ) → IsElsewhere name other → place_of other new ≡ place_of other old
 
-    pub put_leads : (comers : List (Option T)) (old new : Places) (name : List ℕ) → LeadsHome name_of comers old → IsAbsent name_of name comers
+    pub put_leads : (comers : List (Option T)) (old new : NameIndex) (name : List ℕ) → LeadsHome name_of comers old → IsAbsent name_of name comers
         → OthersLead name old new → LeadsHome name_of comers new
     put_leads comers old new name leads absent others =
         record { home = λ p t s. others (name_of t) (λ e. absent p t s (sym e)) ∙ leads.home p t s }
 
-    pub come_leads : (comers : List (Option T)) (places : Places) (t : T) → LeadsHome name_of comers places
+    pub come_leads : (comers : List (Option T)) (places : NameIndex) (t : T) → LeadsHome name_of comers places
         → place_of (name_of t) places ≡ Some (length comers) → LeadsHome name_of (comers ++ (Some t ∷ [])) places
     come_leads comers places t leads here = record { home = λ p u s. at p u (more_stands comers (Some t) p u s) }
       where
@@ -123,7 +123,7 @@ module _ {T : Type 0} where
             ap (λ (x : T). place_of (name_of x) places) same ∙ here ∙ ap (λ (k : ℕ). Some k) (sym h.0)
         at p u (inr s) = leads.home p u s
 
-    pub left_leads : (comers : List (Option T)) (old new : Places) (name : List ℕ) (place : ℕ) → LeadsHome name_of comers old
+    pub left_leads : (comers : List (Option T)) (old new : NameIndex) (name : List ℕ) (place : ℕ) → LeadsHome name_of comers old
         → IsHome name_of name comers place → OthersLead name old new
         → LeadsHome name_of (slice_set comers place None) new
     left_leads comers old new name place leads h others = record { home = λ p u s. at p u (set_stands comers place None p u s) }
@@ -132,7 +132,7 @@ module _ {T : Type 0} where
         at p u (inl k) = let e = k.1 in absurd (cc e)
         at p u (inr k) = others (name_of u) (λ e. k.0 (home_alone comers old name place leads h p u k.1 (sym e))) ∙ leads.home p u k.1
 
-    pub changed_leads : (comers : List (Option T)) (places : Places) (place : ℕ) (t n : T) → LeadsHome name_of comers places → StandsAt comers place t
+    pub changed_leads : (comers : List (Option T)) (places : NameIndex) (place : ℕ) (t n : T) → LeadsHome name_of comers places → StandsAt comers place t
         → name_of n ≡ name_of t
         → LeadsHome name_of (slice_set comers place (Some n)) places
     changed_leads comers places place t n leads s same = record { home = λ p u k. at p u (set_stands comers place (Some n) p u k) }
@@ -157,7 +157,7 @@ pub some_told : (A : Type 0) {T : Type 0} (P : T → Type 0) (r : Option T) (t :
 some_told A {T} P r t e p = let Q : Option T → Type 0 = λ o. MatchOption o A P in subst Q (sym e) p
 
 -- the item of a name stands at this place of the list that is shown
-module _ {T : Type 0} (name_of : T → List ℕ) (shown comers : List (Option T)) (places : Places) (name : List ℕ) (place : ℕ) (same : shown ≡ comers)
+module _ {T : Type 0} (name_of : T → List ℕ) (shown comers : List (Option T)) (places : NameIndex) (name : List ℕ) (place : ℕ) (same : shown ≡ comers)
     (leads : LeadsHome name_of comers places) (home : IsHome name_of name shown place) where
   pub here : StandsAt comers place home.0
   here = ap (λ (l : List (Option T)). slice_get l place) (sym same) ∙ home.1
@@ -174,7 +174,7 @@ module _ {T : Type 0} (name_of : T → List ℕ) (shown comers : List (Option T)
   pub here_left : kept (slice_set comers place None) ≡ others name_of name (kept comers)
   here_left = home_left name_of name comers place home.0 here home.2 here_alone
 
-  pub here_leads : (new : Places) → OthersLead name_of name places new → LeadsHome name_of (slice_set comers place None) new
+  pub here_leads : (new : NameIndex) → OthersLead name_of name places new → LeadsHome name_of (slice_set comers place None) new
   here_leads new lead = left_leads name_of comers places new name place leads is_home lead
 
   pub here_counted : 1 + length (kept (slice_set comers place None)) ≡ length (kept comers)

@@ -3,13 +3,13 @@ use Rattle.std.proofs.Common.{◌≡◌, ℕ, true, List, [], ◌∷◌, refl, s
 use Rattle.seize_words.specs.declared.fault.Fault.TheVariants.{Memory}
 use Rattle.map_tables.specs.declared.resize_mode.ResizeMode.TheVariants.{Incremental}
 use Rattle.run_schedules.specs.declared.shapes.TableShape.{TableShape}
-use Rattle.run_schedules.specs.declared.call.Answer.TheVariants as answer
+use Rattle.run_schedules.specs.declared.call.Response.TheVariants as answer
 use Rattle.run_schedules.specs.declared.call.Call.TheVariants.{On}
 use Rattle.run_schedules.specs.declared.call.OneKey.TheVariants.{Insert}
 use Rattle.run_schedules.specs.declared.effect.Effect.{Effect}
 use Rattle.run_schedules.specs.declared.effect.Effect.TheVariants.{Asked, Ended, Linked, PairMade, Stored, TableMade, Taken}
 use Rattle.run_schedules.specs.declared.effect.Growth.TheVariants.{ABlock}
-use Rattle.run_schedules.specs.declared.effect.Table.{Table}
+use Rattle.run_schedules.specs.declared.effect.TableId.{TableId}
 use Rattle.run_schedules.specs.declared.outcome.Outcome.TheVariants.{Answered, Done, Goes, Refused}
 use Rattle.run_schedules.specs.Schedules.Terms.{Terms}
 use Rattle.run_schedules.specs.Deeds.Deeds.{Begins, Ends, Entry, Makes, MapComes, MapFails, MapGoes, Opens, Steps}
@@ -19,7 +19,7 @@ use Rattle.run_schedules.proofs.Deeds.Samples.{entry, one_none, spot, yes_no}
 abbrev pub terms : Terms
 terms = record { batch_size = 1; processors = 1; roots = 1 }
 
-abbrev first : Table
+abbrev first : TableId
 first = record { map = 0; turn = 0 }
 
 abbrev shape : TableShape

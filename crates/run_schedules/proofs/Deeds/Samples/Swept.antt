@@ -2,7 +2,7 @@
 use Rattle.std.specs.Prelude.{nat_eq}
 use Rattle.std.proofs.Common.{◌≡◌, ℕ, Bool, true, false, List, [], ◌∷◌, ◌⊎◌, inl, refl, sym, Some}
 use Rattle.seize_words.specs.declared.fault.Fault.TheVariants.{Memory}
-use Rattle.run_schedules.specs.declared.call.Answer.TheVariants as answer
+use Rattle.run_schedules.specs.declared.call.Response.TheVariants as answer
 use Rattle.run_schedules.specs.declared.call.Call.TheVariants.{Clear, Len, Reserve, Retain, Walk}
 use Rattle.run_schedules.specs.declared.call.Reply.TheVariants.{Decides}
 use Rattle.run_schedules.specs.declared.effect.Effect.TheVariants.{Removed}

@@ -7,7 +7,7 @@ use Rattle.run_schedules.specs.declared.call.Call.TheVariants.{On}
 use Rattle.run_schedules.specs.declared.call.OneKey.TheVariants.{Insert, Get, TryInsertWith, GetOrInsertWith, Update, UpdateOrInsert, UpdateOrInsertWith, Compute, Remove, RemoveIf}
 use Rattle.run_schedules.specs.declared.call.Reply.{Reply}
 use Rattle.run_schedules.specs.declared.call.Reply.TheVariants.{Gives, Removes, Aborts, Decides}
-use Rattle.run_schedules.specs.declared.call.Answer.TheVariants as answer
+use Rattle.run_schedules.specs.declared.call.Response.TheVariants as answer
 use Rattle.run_schedules.specs.declared.event.Event.TheVariants.{Begin, Replied}
 use Rattle.run_schedules.specs.declared.effect.Effect.TheVariants.{Asked, PairMade, Stored, Replaced, Removed, Counted, Retired}
 use Rattle.run_schedules.specs.declared.effect.Growth.TheVariants.{ABlock}

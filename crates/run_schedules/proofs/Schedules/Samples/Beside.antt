@@ -6,7 +6,7 @@ use Rattle.map_tables.specs.declared.resize_mode.ResizeMode.TheVariants.{Increme
 use Rattle.run_schedules.specs.declared.call.Call.TheVariants.{On}
 use Rattle.run_schedules.specs.declared.call.OneKey.TheVariants.{Get, Insert, Remove, Compute}
 use Rattle.run_schedules.specs.declared.call.Reply.TheVariants.{Gives}
-use Rattle.run_schedules.specs.declared.call.Answer.TheVariants as answer
+use Rattle.run_schedules.specs.declared.call.Response.TheVariants as answer
 use Rattle.run_schedules.specs.declared.event.Event.TheVariants.{Enter, DropGuard, MakeMap, EndMap, Begin, Step, Go, Replied, OneCall}
 use Rattle.run_schedules.specs.declared.effect.Effect.{Effect}
 use Rattle.run_schedules.specs.declared.effect.Effect.TheVariants.{Asked, PairMade, Promoted, Copied, Stored, Replaced, Removed, Counted, Deferred, Retired, Reclaimed}

@@ -6,7 +6,7 @@ use Rattle.map_tables.specs.declared.lengths.Reason.TheVariants.{Full, NoPlace}
 use Rattle.map_tables.specs.declared.resize_mode.ResizeMode.TheVariants.{Blocking}
 use Rattle.run_schedules.specs.declared.call.Call.TheVariants.{On}
 use Rattle.run_schedules.specs.declared.call.OneKey.TheVariants.{Get, Insert, Remove}
-use Rattle.run_schedules.specs.declared.call.Answer.TheVariants as answer
+use Rattle.run_schedules.specs.declared.call.Response.TheVariants as answer
 use Rattle.run_schedules.specs.declared.event.Event.TheVariants.{Enter, MakeMap, EndMap}
 use Rattle.run_schedules.specs.declared.effect.Effect.{Effect}
 use Rattle.run_schedules.specs.declared.effect.Effect.TheVariants.{Asked, PairGivenUp, Promoted, Copied, Stored, Removed, Counted, Retired, Ended, Taken}

@@ -9,7 +9,7 @@ use Rattle.run_schedules.specs.declared.event.Event.TheVariants.{Unregister, Rec
 use Rattle.run_schedules.specs.declared.effect.Effect.{Effect}
 use Rattle.run_schedules.specs.declared.effect.Effect.TheVariants.{Asked, Reclaimed, Ended, Taken}
 use Rattle.run_schedules.specs.declared.effect.Growth.TheVariants.{ABlock}
-use Rattle.run_schedules.specs.declared.effect.Table.{Table}
+use Rattle.run_schedules.specs.declared.effect.TableId.{TableId}
 use Rattle.run_schedules.specs.declared.effect.Thing.TheVariants.{APair}
 use Rattle.run_schedules.specs.declared.outcome.Outcome.TheVariants.{Done, Shape, Refused}
 use Rattle.run_schedules.specs.Schedules.Entry.{Entry}
@@ -71,7 +71,7 @@ keeps_pair h = next_zero 0 (h.whole.all)
 ends_waiting : MovesOn small removed (end_m (Ended 1 ∷ in_order_of_places)) → ⊥
 ends_waiting h = behind_there (h.finds.0)
 
-one_of_two : ◌≡◌ {A = List Table} (table 0 ∷ []) (table 0 ∷ table 1 ∷ []) → ⊥
+one_of_two : ◌≡◌ {A = List TableId} (table 0 ∷ []) (table 0 ∷ table 1 ∷ []) → ⊥
 one_of_two h = cc
 
 keeps_table : MovesOn small removed (entry (EndMap (codes "m")) Done 0 (in_order_of_places ++ Taken (table 0) ∷ [])) → ⊥

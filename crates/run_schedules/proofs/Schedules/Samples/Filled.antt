@@ -5,7 +5,7 @@ use Rattle.seize_words.specs.declared.fault.Fault.TheVariants.{Memory}
 use Rattle.map_tables.specs.declared.resize_mode.ResizeMode.TheVariants.{Incremental}
 use Rattle.run_schedules.specs.declared.call.Call.TheVariants.{On}
 use Rattle.run_schedules.specs.declared.call.OneKey.TheVariants.{Insert}
-use Rattle.run_schedules.specs.declared.call.Answer.TheVariants as answer
+use Rattle.run_schedules.specs.declared.call.Response.TheVariants as answer
 use Rattle.run_schedules.specs.declared.event.Event.TheVariants.{Enter, MakeMap}
 use Rattle.run_schedules.specs.declared.effect.Effect.TheVariants.{Asked, TableMade, Stored, Counted}
 use Rattle.run_schedules.specs.declared.effect.Growth.TheVariants.{ABlock}

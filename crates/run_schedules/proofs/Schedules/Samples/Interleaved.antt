@@ -5,7 +5,7 @@ use Rattle.map_tables.specs.declared.lengths.Reason.TheVariants.{Full}
 use Rattle.run_schedules.specs.declared.call.Call.TheVariants.{On, Walk}
 use Rattle.run_schedules.specs.declared.call.OneKey.TheVariants.{Insert, Compute}
 use Rattle.run_schedules.specs.declared.call.Reply.TheVariants.{Gives}
-use Rattle.run_schedules.specs.declared.call.Answer.TheVariants as answer
+use Rattle.run_schedules.specs.declared.call.Response.TheVariants as answer
 use Rattle.run_schedules.specs.declared.event.Event.TheVariants.{Register, Enter, DropGuard, Begin, Go, Replied, OneCall, Stop}
 use Rattle.run_schedules.specs.declared.effect.Effect.{Effect}
 use Rattle.run_schedules.specs.declared.effect.Effect.TheVariants.{Copied, Stored, Replaced, Deferred, Reclaimed}

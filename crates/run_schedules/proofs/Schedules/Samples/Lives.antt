@@ -3,12 +3,12 @@ use Rattle.std.specs.Prelude.{codes, nat_eq, ◌+◌}
 use Rattle.std.proofs.Common.{◌≡◌, ℕ, zero, suc, List, [], ◌∷◌, arith, Some, None}
 use Rattle.run_schedules.specs.declared.call.Call.TheVariants.{On}
 use Rattle.run_schedules.specs.declared.call.OneKey.TheVariants.{Insert}
-use Rattle.run_schedules.specs.declared.call.Answer.TheVariants as answer
+use Rattle.run_schedules.specs.declared.call.Response.TheVariants as answer
 use Rattle.run_schedules.specs.declared.event.Event.TheVariants.{Refresh, Flush}
 use Rattle.run_schedules.specs.declared.effect.Effect.{Effect}
 use Rattle.run_schedules.specs.declared.effect.Effect.TheVariants.{Asked, TableMade, TableGivenUp, Linked, Promoted, Stored, Counted, Deferred, Retired, Reclaimed}
 use Rattle.run_schedules.specs.declared.effect.Growth.TheVariants.{ABlock}
-use Rattle.run_schedules.specs.declared.effect.Table.{Table}
+use Rattle.run_schedules.specs.declared.effect.TableId.{TableId}
 use Rattle.run_schedules.specs.declared.effect.Thing.TheVariants.{APair, ATable}
 use Rattle.run_schedules.specs.declared.outcome.Outcome.TheVariants.{Done, Answered}
 use Rattle.run_schedules.specs.Schedules.Entry.{Entry}
@@ -113,7 +113,7 @@ keeps_table h = some_table (table 1) (h.leaves.0.table)
 gives_up_first : MovesOn small inserted (grow (Asked ABlock ∷ TableMade (table 1) ∷ TableGivenUp (table 1) ∷ Stored 2 (spot 0 2) ∷ Counted 0 ∷ [])) → ⊥
 gives_up_first h = nothing_between (h.finds.1.1.1.1.0.1.1)
 
-no_table : (t : Table) → None ≡ Some t → ⊥
+no_table : (t : TableId) → None ≡ Some t → ⊥
 no_table t h = cc
 
 links_unmade : MovesOn small inserted (grow (Linked (table 1) (shape 64 30) ∷ Stored 2 (spot 0 2) ∷ Counted 0 ∷ [])) → ⊥

@@ -6,12 +6,12 @@ use Rattle.map_tables.specs.declared.resize_mode.ResizeMode.TheVariants.{Increme
 use Rattle.run_schedules.specs.declared.call.Call.{Call}
 use Rattle.run_schedules.specs.declared.call.Call.TheVariants.{On}
 use Rattle.run_schedules.specs.declared.call.OneKey.TheVariants.{Get, Insert, Remove}
-use Rattle.run_schedules.specs.declared.call.Answer.TheVariants as answer
+use Rattle.run_schedules.specs.declared.call.Response.TheVariants as answer
 use Rattle.run_schedules.specs.declared.event.Event.TheVariants.{Enter, Own, Refresh, DropGuard, MakeMap, OneCall}
 use Rattle.run_schedules.specs.declared.effect.Effect.{Effect}
 use Rattle.run_schedules.specs.declared.effect.Effect.TheVariants.{Asked, TableMade, Linked, Stored, Removed, Counted, Retired, Reclaimed}
 use Rattle.run_schedules.specs.declared.effect.Growth.TheVariants.{ABlock}
-use Rattle.run_schedules.specs.declared.effect.Table.{Table}
+use Rattle.run_schedules.specs.declared.effect.TableId.{TableId}
 use Rattle.run_schedules.specs.declared.effect.Thing.TheVariants.{APair}
 use Rattle.run_schedules.specs.declared.outcome.Outcome.{Outcome}
 use Rattle.run_schedules.specs.declared.outcome.Outcome.TheVariants.{Done, Slot, Answered, Refused}
@@ -41,7 +41,7 @@ abbrev on : List ℕ → List ℕ → Call ℕ ℕ → Outcome ℕ → List Effe
 on map guard called outcome effects = entry (OneCall guard map called) outcome 12 effects
 
 -- one pair comes into each map, and with it a table
-abbrev other_table : Table
+abbrev other_table : TableId
 other_table = record { map = 1; turn = 0 }
 
 abbrev stored : List (Entry ℕ ℕ)

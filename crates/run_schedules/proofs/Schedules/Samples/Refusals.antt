@@ -13,7 +13,7 @@ use Rattle.run_schedules.specs.Schedules.Beginning.{fresh_call}
 use Rattle.run_schedules.specs.Schedules.Moment.{UnderWay, TableThere, IsLinked, Moment, start}
 use Rattle.run_schedules.specs.declared.call.Call.TheVariants.{On, Reserve, Len}
 use Rattle.run_schedules.specs.declared.call.OneKey.TheVariants.{Get, Insert, Remove}
-use Rattle.run_schedules.specs.declared.call.Answer.TheVariants as answer
+use Rattle.run_schedules.specs.declared.call.Response.TheVariants as answer
 use Rattle.run_schedules.specs.declared.event.Event.TheVariants.{Register, Own, Go}
 use Rattle.run_schedules.specs.declared.effect.Effect.{Effect}
 use Rattle.run_schedules.specs.declared.effect.Effect.TheVariants.{Asked, Promoted, Copied, Stored, Counted, Retired}

@@ -4,7 +4,7 @@ use Rattle.std.proofs.Common.{ℕ, List, [], ◌∷◌, inl, inr, refl, arith}
 use Rattle.map_tables.specs.declared.lengths.Reason.TheVariants.{Full}
 use Rattle.run_schedules.specs.declared.call.Call.TheVariants.{On, Walk}
 use Rattle.run_schedules.specs.declared.call.OneKey.TheVariants.{Insert, Remove}
-use Rattle.run_schedules.specs.declared.call.Answer.TheVariants as answer
+use Rattle.run_schedules.specs.declared.call.Response.TheVariants as answer
 use Rattle.run_schedules.specs.declared.event.Event.TheVariants.{Enter, DropGuard, OneCall, Stop}
 use Rattle.run_schedules.specs.declared.effect.Effect.{Effect}
 use Rattle.run_schedules.specs.declared.effect.Effect.TheVariants.{Promoted, Copied, Stored, Removed, Counted, Deferred, Retired, Reclaimed}

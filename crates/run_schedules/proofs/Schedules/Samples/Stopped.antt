@@ -4,7 +4,7 @@ use Rattle.std.proofs.Common.{◌≡◌, ℕ, false, List, [], ◌∷◌, inl, i
 use Rattle.seize_words.specs.declared.fault.Fault.TheVariants.{Busy, Memory}
 use Rattle.run_schedules.specs.declared.call.Call.TheVariants.{On, Clear}
 use Rattle.run_schedules.specs.declared.call.OneKey.TheVariants.{Get, Insert}
-use Rattle.run_schedules.specs.declared.call.Answer.TheVariants as answer
+use Rattle.run_schedules.specs.declared.call.Response.TheVariants as answer
 use Rattle.run_schedules.specs.declared.event.Event.TheVariants.{DropGuard, Enter, Go, OneCall}
 use Rattle.run_schedules.specs.declared.effect.Effect.{Effect}
 use Rattle.run_schedules.specs.declared.effect.Effect.TheVariants.{Asked, PairMade, Stored, Replaced, Removed, Counted, Retired}

@@ -7,15 +7,15 @@ use Rattle.run_schedules.specs.declared.shapes.TableShape.{TableShape}
 use Rattle.run_schedules.specs.declared.call.Call.{Call}
 use Rattle.run_schedules.specs.declared.call.Call.TheVariants.{On}
 use Rattle.run_schedules.specs.declared.call.OneKey.TheVariants.{Insert}
-use Rattle.run_schedules.specs.declared.call.Answer.{Answer}
-use Rattle.run_schedules.specs.declared.call.Answer.TheVariants as answer
+use Rattle.run_schedules.specs.declared.call.Response.{Response}
+use Rattle.run_schedules.specs.declared.call.Response.TheVariants as answer
 use Rattle.run_schedules.specs.declared.event.Event.{Event}
 use Rattle.run_schedules.specs.declared.event.Event.TheVariants.{Collector, Register, Enter, DropGuard, MakeMap, Begin, Go, OneCall}
 use Rattle.run_schedules.specs.declared.effect.Effect.{Effect}
 use Rattle.run_schedules.specs.declared.effect.Effect.TheVariants.{Asked, PairMade, TableMade, Linked, Stored, Counted}
 use Rattle.run_schedules.specs.declared.effect.Growth.TheVariants.{ABlock, ABucket}
 use Rattle.run_schedules.specs.declared.effect.Spot.{Spot}
-use Rattle.run_schedules.specs.declared.effect.Table.{Table}
+use Rattle.run_schedules.specs.declared.effect.TableId.{TableId}
 use Rattle.run_schedules.specs.declared.effect.Thing.{Thing}
 use Rattle.run_schedules.specs.declared.outcome.Outcome.{Outcome}
 use Rattle.run_schedules.specs.declared.outcome.Outcome.TheVariants.{Done, Slot, Goes, Answered, Refused}
@@ -51,21 +51,21 @@ pub found_none : (n : ℕ) → found n ≡ Answers answer.Absent Leaves → ⊥
 found_none n h = cc
 
 -- an answer that is owed is no reason to ask
-pub owes_one : (a : Answer ℕ) → Some a ≡ None → ⊥
+pub owes_one : (a : Response ℕ) → Some a ≡ None → ⊥
 owes_one a h = cc
 
 -- nor that a call means to do a thing is not that it does nothing, is refused, or wants a reply
-pub puts_leaves : (a : Answer ℕ) (v : ℕ) → Answers a (Puts v) ≡ Answers a Leaves → ⊥
+pub puts_leaves : (a : Response ℕ) (v : ℕ) → Answers a (Puts v) ≡ Answers a Leaves → ⊥
 puts_leaves a v h = cc
 
-pub answers_refuses : (a : Answer ℕ) (d : Deed ℕ) → Answers a d ≡ Refuses → ⊥
+pub answers_refuses : (a : Response ℕ) (d : Deed ℕ) → Answers a d ≡ Refuses → ⊥
 answers_refuses a d h = cc
 
-pub answers_wants : (a : Answer ℕ) (d : Deed ℕ) → Answers a d ≡ Wants → ⊥
+pub answers_wants : (a : Response ℕ) (d : Deed ℕ) → Answers a d ≡ Wants → ⊥
 answers_wants a d h = cc
 
 -- an answer that there is no pair is none that there is one
-pub absent_found : (n : ℕ) → ◌≡◌ {A = Answer ℕ} answer.Absent (answer.Found n) → ⊥
+pub absent_found : (n : ℕ) → ◌≡◌ {A = Response ℕ} answer.Absent (answer.Found n) → ⊥
 absent_found n h = cc
 
 -- what an event comes to is not that it is busy
@@ -75,7 +75,7 @@ goes_busy h = cc
 pub done_busy : ◌≡◌ {A = Outcome ℕ} Done (Refused Busy) → ⊥
 done_busy h = cc
 
-pub answered_busy : (a : Answer ℕ) → ◌≡◌ {A = Outcome ℕ} (Answered a) (Refused Busy) → ⊥
+pub answered_busy : (a : Response ℕ) → ◌≡◌ {A = Outcome ℕ} (Answered a) (Refused Busy) → ⊥
 answered_busy a h = cc
 
 -- a change is not none
@@ -83,14 +83,14 @@ pub one_shift : (shift : Shift) (shifts : List Shift) → shift ∷ shifts ≡ [
 one_shift shift shifts h = cc
 
 -- A call has made these changes: it owes no answer, and does what it means to do, where its key has this pair or none, and the next one gets this number.
-abbrev pub Changed : Option (Answer ℕ) → Meaning ℕ → Option ℕ → ℕ → List Shift → Type 0
-Changed due meaning old new done = (due ≡ None) × (a : Answer ℕ) × (d : Deed ℕ) × (meaning ≡ Answers a d) × (done ≡ shifts old new d)
+abbrev pub Changed : Option (Response ℕ) → Meaning ℕ → Option ℕ → ℕ → List Shift → Type 0
+Changed due meaning old new done = (due ≡ None) × (a : Response ℕ) × (d : Deed ℕ) × (meaning ≡ Answers a d) × (done ≡ shifts old new d)
 
 -- wrong: it wants a reply, or owes an answer
 pub wants_no : (old : Option ℕ) (new : ℕ) (done : List Shift) → Changed None Wants old new done → ⊥
 wants_no old new done (owes, a, d, means, same) = cc means
 
-pub owes_still : (a : Answer ℕ) (meaning : Meaning ℕ) (old : Option ℕ) (new : ℕ) (done : List Shift) → Changed (Some a) meaning old new done → ⊥
+pub owes_still : (a : Response ℕ) (meaning : Meaning ℕ) (old : Option ℕ) (new : ℕ) (done : List Shift) → Changed (Some a) meaning old new done → ⊥
 owes_still a meaning old new done changed = owes_one a changed.0
 
 -- It asks about a pair, or about none, where its key has this pair or none, by what it means there.
@@ -98,7 +98,7 @@ abbrev pub AsksThere : Option ℕ → Option ℕ → Meaning ℕ → Type 0
 AsksThere old question meaning = (old ≡ question) × (meaning ≡ Wants)
 
 -- wrong: it has its answer
-pub asks_answered : (old question : Option ℕ) (a : Answer ℕ) (d : Deed ℕ) → AsksThere old question (Answers a d) → ⊥
+pub asks_answered : (old question : Option ℕ) (a : Response ℕ) (d : Deed ℕ) → AsksThere old question (Answers a d) → ⊥
 asks_answered old question a d asks = answers_wants a d asks.1
 
 -- a thing that is owed is not none
@@ -110,7 +110,7 @@ pub behind_there : ◌≡◌ {A = Place} Behind (InMap 0) → ⊥
 behind_there h = cc
 
 -- a table that was made is not none
-pub some_table : (t : Table) → Some t ≡ None → ⊥
+pub some_table : (t : TableId) → Some t ≡ None → ⊥
 some_table t h = cc
 
 -- numbers that are not the same, or in the wrong order
@@ -156,7 +156,7 @@ abbrev pub entry : Event ℕ ℕ → Outcome ℕ → ℕ → List Effect → Ent
 entry event outcome steps effects = record { event = event; outcome = outcome; steps = steps; effects = effects }
 
 -- the table of this turn of the first map, and a place in it
-abbrev pub table : ℕ → Table
+abbrev pub table : ℕ → TableId
 table turn = record { map = 0; turn = turn }
 
 abbrev pub spot : ℕ → ℕ → Spot

@@ -6,8 +6,8 @@ use Rattle.seize_words.specs.OneMemory.Word.{block_in}
 use Rattle.seize_words.specs.declared.fault.Fault.{Fault}
 use Rattle.seize_words.specs.declared.at.At.TheVariants.{Root, Used}
 use Rattle.seize_words.specs.OneMemory.Mem.{Mem, value_at, word_at}
-use Rattle.seize.specs.declared.progress.Progress.{Progress}
-use Rattle.seize.specs.declared.progress.Progress.TheVariants as progress
+use Rattle.seize.specs.declared.advance.Advance.{Advance}
+use Rattle.seize.specs.declared.advance.Advance.TheVariants as progress
 use Rattle.seize.specs.World.{World, times, with_at}
 use Rattle.seize_acts.proofs.Given.SeizeMemoryWords.Named.{link-block}
 use Rattle.run_effects.specs.Given.TablesNodes.{was_left}
@@ -79,7 +79,7 @@ module _ {K Q : Type 0} (V : Type 0) (same : K → K → Bool) (asks : Q → K �
       before r (inr (inr is)) = inr (inr is)
 
   module _ (lists : ℕ → List ℕ) (all : EndingsTogether V same asks batch_size roots slot w maps calls makers enders) (left : LeftAmong roots w maps makers enders lists) (i : ℕ) (b : Beginning K)
-      (makes : makers i ≡ Some b) (w2 : World (Node K V)) (end : NewMap × Progress Setting) (rest : LeavesRest {Q = Q} V same asks batch_size roots slot w w2 b.machine end)
+      (makes : makers i ≡ Some b) (w2 : World (Node K V)) (end : NewMap × Advance Setting) (rest : LeavesRest {Q = Q} V same asks batch_size roots slot w w2 b.machine end)
       (keeps : KeepsIts {Q = Q} V same asks batch_size roots slot w w2 b.machine end) where
     -- the root that it has is its own
     own_taken : HasTaken b.machine.stands → IsTakenRoot w b.machine.setting.root

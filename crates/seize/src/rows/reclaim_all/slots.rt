@@ -4,7 +4,7 @@ ghost use Rattle.seize_words.specs.OneMemory.Plan.{May, Steps};
 ghost use Rattle.seize.specs.ReclaimAll.{standing, next_head, next_batch, within, heads, retakes, batches, frees, reclaim_all_plan};
 ghost use Rattle.seize.specs.declared.rows.reclaim_all.Reclaiming.TheVariants as at;
 
-use crate::machine::Machine;
+use crate::machine::StepMachine;
 use crate::rows::enter::Unregister;
 use crate::rows::leave::Leave;
 use crate::rows::reclaim_all::{ReclaimAll, Reclaiming};

@@ -8,8 +8,8 @@ use Rattle.seize_words.specs.OneMemory.Op.{Op, Out, Room, Found, Exchanged, Room
 use Rattle.seize_words.specs.OneMemory.Place.{capacity}
 use Rattle.seize_words.specs.OneMemory.Plan.{Then, Do, Ends}
 use Rattle.seize.specs.declared.states.TheConstants.{LAST_SLOT}
-use Rattle.seize.specs.declared.progress.Progress.{Progress}
-use Rattle.seize.specs.declared.progress.Progress.TheVariants.{Goes, Refused}
+use Rattle.seize.specs.declared.advance.Advance.{Advance}
+use Rattle.seize.specs.declared.advance.Advance.TheVariants.{Goes, Refused}
 use Rattle.seize.specs.declared.rows.register.Register.{Register}
 use Rattle.seize.specs.declared.rows.register.Registering.{Registering}
 use Rattle.seize.specs.declared.rows.register.Registering.TheVariants as at
@@ -31,19 +31,19 @@ use Rattle.seize_acts.specs.Acts.Refused.{IsRegistering, Refuses}
 use Rattle.seize_acts.proofs.Acts.Answers.{some, same_some, answer_gives, ended, was_stepped}
 
 -- it is not refused
-abbrev IsNoFault : {A : Type 0} → Progress A → Type 0
+abbrev IsNoFault : {A : Type 0} → Advance A → Type 0
 IsNoFault (Refused fault) = ⊥
 IsNoFault _ = Unit {0}
 
-abbrev NoFault : {S A : Type 0} → S × Progress A → Type 0
+abbrev NoFault : {S A : Type 0} → S × Advance A → Type 0
 NoFault e = IsNoFault e.1
 
 -- or only as this
-abbrev IsUsedUp : Progress ℕ → Type 0
+abbrev IsUsedUp : Advance ℕ → Type 0
 IsUsedUp (Refused fault) = fault ≡ SlotsUsedUp
 IsUsedUp _ = Unit {0}
 
-abbrev OnlyUsedUp : Register × Progress ℕ → Type 0
+abbrev OnlyUsedUp : Register × Advance ℕ → Type 0
 OnlyUsedUp e = IsUsedUp e.1
 
 further_so : (c : Register) → OnlyUsedUp (further c)
@@ -105,7 +105,7 @@ module _ {T : Type 0} (m : Mem T) (g : Grant) where
   abbrev pub NoRoom : Option (Out T) → Fault → Type 0
   NoRoom told fault = (fault ≡ SlotsUsedUp) ⊎ ((fault ≡ Memory) × (told ≡ Some (Roomed (Err Memory))) × (bucket : ℕ) × (length m.slots + 32 ≡ capacity bucket))
 
-  same_fault : (a b : Fault) (x y : Progress ℕ) → x ≡ Refused a → y ≡ Refused b → x ≡ y → a ≡ b
+  same_fault : (a b : Fault) (x y : Advance ℕ) → x ≡ Refused a → y ≡ Refused b → x ≡ y → a ≡ b
   same_fault a b x y e f g = let k = sym e ∙ g ∙ f in cc k
 
   no_room : (bucket : ℕ) (out : Out T) (f fault : Fault) → out ≡ Roomed (Err f) → Gives m (Room bucket) (Roomed (Err f))
@@ -115,15 +115,15 @@ module _ {T : Type 0} (m : Mem T) (g : Grant) where
       inr (same ∙ gives.0, e ∙ ap Some (is ∙ ap (λ (x : Fault). Roomed (Err x)) gives.0), bucket, gives.1)
 
   module _ (c d : Register) (fault : Fault) where
-    goes_on : (e : Register × Progress ℕ) → IsNoFault e.1 → (d, Refused fault) ≡ e → ⊥
-    goes_on e free is = subst (λ (q : Register × Progress ℕ). IsNoFault q.1 → ⊥) is (λ n. n) free
+    goes_on : (e : Register × Advance ℕ) → IsNoFault e.1 → (d, Refused fault) ≡ e → ⊥
+    goes_on e free is = subst (λ (q : Register × Advance ℕ). IsNoFault q.1 → ⊥) is (λ n. n) free
 
     begun_fault : (out : Out T) → answer m g (Room 0) ≡ Some out → Ends (value_at (after m (Room 0) out)) (begun c out) (d, Refused fault)
         → NoRoom (answer m g (Room 0)) fault
     begun_fault (Roomed (Ok made)) e is = absurd (goes_on (going c at.Look) tt is)
     begun_fault (Roomed (Err f)) e is =
         no_room 0 (Roomed (Err f)) f fault refl (answer_gives m g (Room 0) (Roomed (Err f)) e) e
-        (same_fault fault f (Refused fault) (Refused f) refl refl (ap (λ (q : Register × Progress ℕ). q.1) is))
+        (same_fault fault f (Refused fault) (Refused f) refl refl (ap (λ (q : Register × Advance ℕ). q.1) is))
     begun_fault _ e is = absurd (goes_on (c, Goes) tt is)
 
     widened_fault : (bucket seen : ℕ) (out : Out T) → answer m g (Room bucket) ≡ Some out
@@ -132,7 +132,7 @@ module _ {T : Type 0} (m : Mem T) (g : Grant) where
     widened_fault bucket seen (Roomed (Ok made)) e is = absurd (goes_on (going c (at.Take seen)) tt is)
     widened_fault bucket seen (Roomed (Err f)) e is =
         no_room bucket (Roomed (Err f)) f fault refl (answer_gives m g (Room bucket) (Roomed (Err f)) e) e
-        (same_fault fault f (Refused fault) (Refused f) refl refl (ap (λ (q : Register × Progress ℕ). q.1) is))
+        (same_fault fault f (Refused fault) (Refused f) refl refl (ap (λ (q : Register × Advance ℕ). q.1) is))
     widened_fault bucket seen _ e is = absurd (goes_on (c, Goes) tt is)
 
   module _ (defers : T → Option ℕ) (n i : ℕ) (f : View) (x : State) (extra : Extra) (k : ℕ) (fault : Fault) where

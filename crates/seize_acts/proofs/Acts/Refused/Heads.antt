@@ -7,8 +7,8 @@ use Rattle.seize_words.specs.OneMemory.Op.{Out, Room, Roomed}
 use Rattle.seize_words.specs.OneMemory.Plan.{Plan, Steps, May, Now}
 use Rattle.seize_words.proofs.OneMemory.OneOwner.Operations.{stored, swapped, exchanged}
 use Rattle.seize.specs.declared.states.TheConstants.{HEAD, FREE, IDLE, ACTIVE, LAST_SLOT}
-use Rattle.seize.specs.declared.progress.Progress.{Progress}
-use Rattle.seize.specs.declared.progress.Progress.TheVariants.{Done}
+use Rattle.seize.specs.declared.advance.Advance.{Advance}
+use Rattle.seize.specs.declared.advance.Advance.TheVariants.{Done}
 use Rattle.seize.specs.declared.rows.settle.Settle.{Settle}
 use Rattle.seize.specs.declared.rows.settle.Settling.{Settling}
 use Rattle.seize.specs.declared.rows.settle.Settling.TheVariants as settling
@@ -121,7 +121,7 @@ module _ {T : Type 0} {size : ℕ} (defers : T → Option ℕ) (w : World T) (go
       same_heads w.memory (after w.memory (Room bucket) (Roomed (Ok made))) (λ s. ap (λ (g : View). g.heads s) (room_view defers w.memory bucket))
   room_heads bucket _ = same_heads w.memory w.memory (λ s. refl)
 
-  register_heads : (c : Register) (p : Registering) → May Can Took value_at w.memory (registers.plan_at c p) → (m2 : Mem T) (end : Register × Progress ℕ)
+  register_heads : (c : Register) (p : Registering) → May Can Took value_at w.memory (registers.plan_at c p) → (m2 : Mem T) (end : Register × Advance ℕ)
       → Steps Took value_at w.memory (registers.plan_at c p) m2 end → TakenOrSame w.memory m2
   register_heads c registering.Begin may m2 end st = by_memory w.memory (after w.memory (Room 0) st.0) m2 st.1.1 (room_heads 0 st.0)
   register_heads c registering.Look may m2 end st = spared (registers.plan_at c registering.Look) m2 end tt refl may st
@@ -132,7 +132,7 @@ module _ {T : Type 0} {size : ℕ} (defers : T → Option ℕ) (w : World T) (go
         | inr d ↦ no_change w.memory m2 d.2
       ]
   register_heads c registering.Enter may m2 end st =
-      let d = stored {R = Register × Progress ℕ} w.memory (λ out. Now (registers.registered c)) (Slot c.slot HEAD) ACTIVE m2 end st in
+      let d = stored {R = Register × Advance ℕ} w.memory (λ out. Now (registers.registered c)) (Slot c.slot HEAD) ACTIVE m2 end st in
       by_memory w.memory (with_word w.memory (Slot c.slot HEAD) ACTIVE) m2 d.0 (written w.memory c.slot ACTIVE may.0 (inl refl))
   register_heads c registering.Registered may m2 end st = no_change w.memory m2 st.0
   register_heads c (registering.Refused fault) may m2 end st = no_change w.memory m2 st.0
@@ -171,7 +171,7 @@ module _ {T : Type 0} {size : ℕ} (defers : T → Option ℕ) (w : World T) (go
   leave_heads c leaving.Over r may m2 end st = no_change w.memory m2 st.0
 
   defer_heads : (s : ℕ) (c : Defer) (p : Deferring) → FitsDefer (LAST_SLOT + 1) i (view defers w.memory) good.state good.extra s c.block c.table_word p
-      → May Can Took value_at w.memory (defer.plan_at c p) → (m2 : Mem T) (end : Defer × Progress Unit)
+      → May Can Took value_at w.memory (defer.plan_at c p) → (m2 : Mem T) (end : Defer × Advance Unit)
       → Steps Took value_at w.memory (defer.plan_at c p) m2 end
       → TakenOrSame w.memory m2
   defer_heads s c deferring.Reads r may m2 end st = spared (defer.plan_at c deferring.Reads) m2 end tt refl may st
@@ -190,7 +190,7 @@ module _ {T : Type 0} {size : ℕ} (defers : T → Option ℕ) (w : World T) (go
       (register_heads c c.stands (registers_may defers (LAST_SLOT + 1) refl w good i c is) st.0 st.1 st.2)
   step_heads (Enters c) v is st =
       let may = enters_may defers (LAST_SLOT + 1) w good i c is in
-      let d = stored {R = Enter × Progress Unit} w.memory (λ out. Now (c, Done tt)) (Slot c.slot HEAD) ACTIVE st.0 st.1 st.2 in
+      let d = stored {R = Enter × Advance Unit} w.memory (λ out. Now (c, Done tt)) (Slot c.slot HEAD) ACTIVE st.0 st.1 st.2 in
       by_memory w.memory (with_word w.memory (Slot c.slot HEAD) ACTIVE) v.memory (ap (λ (x : World T). x.memory) st.3 ∙ d.0)
       (written w.memory c.slot ACTIVE may.0 (inl refl))
   step_heads (Settles c) v is st =
@@ -204,6 +204,6 @@ module _ {T : Type 0} {size : ℕ} (defers : T → Option ℕ) (w : World T) (go
       (defer_heads s c c.stands (fits_at (Defers s c) is) (defers_may defers (LAST_SLOT + 1) w good i s c is) st.0 st.1 st.2)
   step_heads (Frees c) v is st =
       let may = frees_may defers (LAST_SLOT + 1) w good i c is in
-      let d = stored {R = Unregister × Progress Unit} w.memory (λ out. Now (c, Done tt)) (Slot c.slot HEAD) FREE st.0 st.1 st.2 in
+      let d = stored {R = Unregister × Advance Unit} w.memory (λ out. Now (c, Done tt)) (Slot c.slot HEAD) FREE st.0 st.1 st.2 in
       by_memory w.memory (with_word w.memory (Slot c.slot HEAD) FREE) v.memory (ap (λ (x : World T). x.memory) st.3 ∙ d.0)
       (written w.memory c.slot FREE may.0 (inr (idle_had c.slot (fits_at (Frees c) is))))

@@ -8,8 +8,8 @@ use Rattle.seize_words.specs.OneMemory.Mem.{Mem, Took, value_at, word_at, with_r
 use Rattle.seize_words.specs.OneMemory.Plan.{Steps, Now}
 use Rattle.seize_words.proofs.OneMemory.OneOwner.Operations.{loaded, stored, exchanged, roomed}
 use Rattle.seize.specs.declared.states.TheConstants.{HEAD, IDLE, ACTIVE, LAST_SLOT}
-use Rattle.seize.specs.declared.progress.Progress.{Progress}
-use Rattle.seize.specs.declared.progress.Progress.TheVariants.{Goes, Waits, Done, Refused}
+use Rattle.seize.specs.declared.advance.Advance.{Advance}
+use Rattle.seize.specs.declared.advance.Advance.TheVariants.{Goes, Waits, Done, Refused}
 use Rattle.seize.specs.declared.rows.register.Register.{Register}
 use Rattle.seize.specs.declared.rows.register.Registering.{Registering}
 use Rattle.seize.specs.declared.rows.register.Registering.TheVariants as at
@@ -48,7 +48,7 @@ module _ {T : Type 0} where
   Known K m s (at.Refused fault) = fault ≡ SlotsUsedUp → (t : ℕ) → t ≤ LAST_SLOT → K t
 
   -- what a step comes to
-  abbrev pub KnownEnd : (ℕ → Type 0) → Mem T → Register × Progress ℕ → Type 0
+  abbrev pub KnownEnd : (ℕ → Type 0) → Mem T → Register × Advance ℕ → Type 0
   KnownEnd K m (d, Goes) = Known K m d.slot d.stands
   KnownEnd K m (d, Waits) = Known K m d.slot d.stands
   KnownEnd K m (d, Done s) = Unit {0}
@@ -58,8 +58,8 @@ module _ {T : Type 0} (defers : T → Option ℕ) (m m2 : Mem T) (c : Register) 
   no_memory : Memory ≡ SlotsUsedUp → (t : ℕ) → t ≤ LAST_SLOT → K t
   no_memory e = absurd (cc e)
 
-  as_end : (end want : Register × Progress ℕ) → end ≡ want → KnownEnd K m2 want → KnownEnd K m2 end
-  as_end end want e h = subst (λ (q : Register × Progress ℕ). KnownEnd K m2 q) (sym e) h
+  as_end : (end want : Register × Advance ℕ) → end ≡ want → KnownEnd K m2 want → KnownEnd K m2 end
+  as_end end want e h = subst (λ (q : Register × Advance ℕ). KnownEnd K m2 q) (sym e) h
 
   -- this slot was had, too
   one_more : ((t : ℕ) → t < c.slot → K t) → K c.slot → (t : ℕ) → t < c.slot + 1 → K t
@@ -95,7 +95,7 @@ module _ {T : Type 0} (defers : T → Option ℕ) (m m2 : Mem T) (c : Register) 
   was_had seen found (inr k) e ne = k
 
   -- the step of a row that knows this
-  pub ends_known : (p : Registering) → Known K m c.slot p → (p ≡ at.Look → IsHad c.slot m → K c.slot) → (end : Register × Progress ℕ)
+  pub ends_known : (p : Registering) → Known K m c.slot p → (p ≡ at.Look → IsHad c.slot m → K c.slot) → (end : Register × Advance ℕ)
       → Steps Took value_at m (plan_at c p) m2 end
       → KnownEnd K m2 end
   ends_known at.Begin h look end st = elim (roomed m (begun c) 0 m2 end st) as (λ _. KnownEnd K m2 end) [
@@ -120,6 +120,6 @@ module _ {T : Type 0} (defers : T → Option ℕ) (m m2 : Mem T) (c : Register) 
     | inr d ↦ as_end end (further c) d.3 (further_known (one_more h.0 (was_had seen d.0 h.2 d.1.0 d.1.1)) (nat_lt c.slot LAST_SLOT) refl)
   ]
   ends_known at.Enter h look end st =
-      let d = stored {R = Register × Progress ℕ} m (λ out. Now (registered c)) (Slot c.slot HEAD) ACTIVE m2 end st in as_end end (registered c) d.1 tt
+      let d = stored {R = Register × Advance ℕ} m (λ out. Now (registered c)) (Slot c.slot HEAD) ACTIVE m2 end st in as_end end (registered c) d.1 tt
   ends_known at.Registered h look end st = as_end end (c, Done c.slot) st.1 tt
   ends_known (at.Refused fault) h look end st = as_end end (c, Refused fault) st.1 h

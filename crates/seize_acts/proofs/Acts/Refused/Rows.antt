@@ -5,8 +5,8 @@ use Rattle.seize_words.specs.declared.at.At.TheVariants as name
 use Rattle.seize_words.specs.OneMemory.Mem.{Mem, Took, value_at}
 use Rattle.seize_words.specs.OneMemory.Plan.{Plan, Steps, Turn, Do}
 use Rattle.seize.specs.declared.states.TheConstants.{HEAD}
-use Rattle.seize.specs.declared.progress.Progress.{Progress}
-use Rattle.seize.specs.declared.progress.Progress.TheVariants as progress
+use Rattle.seize.specs.declared.advance.Advance.{Advance}
+use Rattle.seize.specs.declared.advance.Advance.TheVariants as progress
 use Rattle.seize.specs.declared.rows.settle.Settle.{Settle}
 use Rattle.seize.specs.declared.rows.settle.Settled.{Settled}
 use Rattle.seize.specs.declared.rows.settle.Settled.TheVariants as settled
@@ -125,7 +125,7 @@ module _ {T : Type 0} where
   KnownIn K i w = KnownRow K w.memory (w.row i)
 
   -- a step of a row that registers
-  registers_known : (K : ℕ → Type 0) (w : World T) (i : ℕ) (c d : Register) (m : Mem T) (o : Progress ℕ) → KnownEnd K m (d, o)
+  registers_known : (K : ℕ → Type 0) (w : World T) (i : ℕ) (c d : Register) (m : Mem T) (o : Advance ℕ) → KnownEnd K m (d, o)
       → KnownIn K i (registers_on w i c m (d, o))
   registers_known K w i c d m progress.Goes h = subst (λ (r : Row). KnownRow K m r) (sym (with_here w.row i (Registers d))) h
   registers_known K w i c d m progress.Waits h = subst (λ (r : Row). KnownRow K m r) (sym (with_here w.row i (Registers d))) h
@@ -148,7 +148,7 @@ module _ {T : Type 0} where
   left_off d (settled.Gave value) = tt
   left_off d settled.Done = tt
 
-  defers_off : (w : World T) (i s : ℕ) (d : Defer) (m : Mem T) (o : Progress Unit) → Off ((defers_on w i s m (d, o)).row i)
+  defers_off : (w : World T) (i s : ℕ) (d : Defer) (m : Mem T) (o : Advance Unit) → Off ((defers_on w i s m (d, o)).row i)
   defers_off w i s d m progress.Goes = off_here w i (Defers s d) tt
   defers_off w i s d m progress.Waits = off_here w i (Defers s d) tt
   defers_off w i s d m (progress.Done u) = off_here w i Rests tt
@@ -180,7 +180,7 @@ module _ {T : Type 0} (defers : T → Option ℕ) (size i : ℕ) where
       subst (λ (x : World T). KnownIn K i x) (sym st.3)
       (registers_in st.1.0 st.1.1 (ends_known defers w.memory st.0 c K c.stands h look st.1 st.2))
     where
-      registers_in : (d : Register) (o : Progress ℕ) → KnownEnd K st.0 (d, o) → KnownIn K i (registers_on w i c st.0 (d, o))
+      registers_in : (d : Register) (o : Advance ℕ) → KnownEnd K st.0 (d, o) → KnownIn K i (registers_on w i c st.0 (d, o))
       registers_in d o e = registers_known K w i c d st.0 o e
   row_known K w u row h look st = off_known K u.memory (u.row i) (off_steps row w u tt st)
 

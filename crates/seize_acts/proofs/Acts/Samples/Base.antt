@@ -5,7 +5,7 @@ use Rattle.seize_words.specs.OneMemory.Word.{link_to}
 use Rattle.seize_words.specs.declared.at.At.TheVariants.{Root}
 use Rattle.seize_words.specs.OneMemory.Op.{Store, Make}
 use Rattle.seize_words.specs.OneMemory.Plan.{Plan}
-use Rattle.seize.specs.declared.progress.Progress.{Progress}
+use Rattle.seize.specs.declared.advance.Advance.{Advance}
 use Rattle.seize.specs.declared.rows.settle.Settle.{Settle}
 use Rattle.seize.specs.declared.rows.settle.Settled.{Settled}
 use Rattle.seize.specs.declared.rows.defer.Defer.{Defer}
@@ -53,6 +53,6 @@ abbrev pub settle_by : (Settle → Plan ℕ (Settle × Settled ℕ)) → Row →
 settle_by plan (Settles c) w = then_on (stepped w.memory None (plan c)) (λ p. Some (settles_on w 0 c p.0 p.1))
 settle_by plan _ w = None
 
-abbrev pub defer_by : (Defer → Plan ℕ (Defer × Progress Unit)) → Row → World ℕ → Option (World ℕ)
+abbrev pub defer_by : (Defer → Plan ℕ (Defer × Advance Unit)) → Row → World ℕ → Option (World ℕ)
 defer_by plan (Defers s c) w = then_on (stepped w.memory None (plan c)) (λ p. Some (defers_on w 0 s p.0 p.1))
 defer_by plan _ w = None

@@ -7,8 +7,8 @@ use Rattle.seize_words.specs.OneMemory.Mem.{Mem, word_at}
 use Rattle.seize_words.specs.OneMemory.Op.{Out, Load, Store, Exchange, Make, Take, Exchanged}
 use Rattle.seize_words.specs.OneMemory.Plan.{Plan, Then, Do, Now}
 use Rattle.seize.specs.declared.states.TheConstants.{BATCH, HELD}
-use Rattle.seize.specs.declared.progress.Progress.{Progress}
-use Rattle.seize.specs.declared.progress.Progress.TheVariants as progress
+use Rattle.seize.specs.declared.advance.Advance.{Advance}
+use Rattle.seize.specs.declared.advance.Advance.TheVariants as progress
 use Rattle.seize.specs.declared.rows.settle.Settle.{Settle}
 use Rattle.seize.specs.declared.rows.settle.Settling.TheVariants as settling
 use Rattle.seize.specs.declared.rows.settle.Settled.{Settled}
@@ -73,11 +73,11 @@ right_retires = inl refl
 
 -- A deferral that loses its exchange ends, and drops its block: refused by `NothingIsLost`.
 
-abbrev dropped : Defer → Out ℕ → Then ℕ (Defer × Progress Unit)
+abbrev dropped : Defer → Out ℕ → Then ℕ (Defer × Advance Unit)
 dropped c (Exchanged (Err head)) = Now (c, progress.Done tt)
 dropped c out = push_told c out
 
-abbrev drops : Defer → Plan ℕ (Defer × Progress Unit)
+abbrev drops : Defer → Plan ℕ (Defer × Advance Unit)
 drops c = Do (Exchange c.table_word 0 c.block) (dropped c)
 
 -- Block 1 has a list, and callers 0 and 1 defer blocks 2 and 3 on it: both have seen it empty, and caller 1 was faster.
@@ -86,7 +86,7 @@ deferred = after lists 1 (enters
     ++ Operate 0 (Make 5 1) (Some 1) (Links 1 3 ∷ []) ∷ Operate 0 (Make 7 0) (Some 2) (Links 2 3 ∷ []) ∷ Operate 0 (Make 8 0) (Some 3) (Links 3 3 ∷ [])
     ∷ Begin 0 (Defer' 0 2 1) None ∷ Begin 1 (Defer' 0 3 1) None ∷ Step 0 None ∷ Step 1 None ∷ Step 1 None ∷ []) (at_start lists 1)
 
-abbrev deferred_by : (Defer → Plan ℕ (Defer × Progress Unit)) → World ℕ
+abbrev deferred_by : (Defer → Plan ℕ (Defer × Advance Unit)) → World ℕ
 deferred_by plan = on lists 1 9 0 (or_start (defer_by plan (deferred.row 0) deferred))
 
 drops_rests : (i : ℕ) → (deferred_by drops).row i ≡ Rests

@@ -6,8 +6,8 @@ use Rattle.seize_words.specs.declared.fault.Fault.TheVariants.{SlotsUsedUp, Memo
 use Rattle.seize_words.specs.OneMemory.Op.{Out, Exchange, Exchanged}
 use Rattle.seize_words.specs.OneMemory.Plan.{Plan, Then, Do, Now}
 use Rattle.seize.specs.declared.states.TheConstants.{HEAD, IDLE}
-use Rattle.seize.specs.declared.progress.Progress.{Progress}
-use Rattle.seize.specs.declared.progress.Progress.TheVariants as progress
+use Rattle.seize.specs.declared.advance.Advance.{Advance}
+use Rattle.seize.specs.declared.advance.Advance.TheVariants as progress
 use Rattle.seize.specs.declared.rows.register.Register.{Register}
 use Rattle.seize.specs.declared.rows.register.Registering.TheVariants as at
 use Rattle.seize.specs.Register.{register_plan, taken, going, refused, can_be_taken}
@@ -20,11 +20,11 @@ use Rattle.seize_acts.proofs.Acts.Answers.{same_some}
 use Rattle.seize_acts.proofs.Acts.Samples.Base.{plain, after}
 
 -- Whoever loses one exchange is refused, as if no slot were left: refused by `UsedUpIfAllAreHad`.
-abbrev gave_up : Register → Out ℕ → Then ℕ (Register × Progress ℕ)
+abbrev gave_up : Register → Out ℕ → Then ℕ (Register × Advance ℕ)
 gave_up c (Exchanged (Err found)) = Now (refused c SlotsUsedUp)
 gave_up c out = taken c out
 
-abbrev gives_up : Register → Plan ℕ (Register × Progress ℕ)
+abbrev gives_up : Register → Plan ℕ (Register × Advance ℕ)
 gives_up c = Do (Exchange (Slot c.slot HEAD) 0 IDLE) (gave_up c)
 
 -- caller 1 has seen that slot 0 was never taken
@@ -83,11 +83,11 @@ right_looks_on : stepped late.memory None (register_plan loser) ≡ Some (late.m
 right_looks_on = refl
 
 -- Whoever loses one exchange waits for that slot: refused by `RowsWaitForAHolder`, since a registration waits for nobody.
-abbrev stayed : Register → Out ℕ → Then ℕ (Register × Progress ℕ)
+abbrev stayed : Register → Out ℕ → Then ℕ (Register × Advance ℕ)
 stayed c (Exchanged (Err found)) = Now (c, progress.Waits)
 stayed c out = taken c out
 
-abbrev stays : Register → Plan ℕ (Register × Progress ℕ)
+abbrev stays : Register → Plan ℕ (Register × Advance ℕ)
 stays c = Do (Exchange (Slot c.slot HEAD) 0 IDLE) (stayed c)
 
 would_wait : stepped late.memory None (stays loser) ≡ Some (late.memory, (loser, progress.Waits))

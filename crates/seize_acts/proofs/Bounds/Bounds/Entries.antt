@@ -8,7 +8,7 @@ use Rattle.seize_words.specs.OneMemory.Mem.{Mem, Took, Gives, after, same_at, va
 use Rattle.seize_words.specs.OneMemory.Op.{Op, Out, Load, Store, Swap, Add, Or, Exchange, Make, Take, Rewrite, Room, Found, Stored, Exchanged, Made, Taken, Roomed}
 use Rattle.seize_words.specs.OneMemory.Plan.{Steps}
 use Rattle.seize.specs.declared.states.TheConstants.{NEXT}
-use Rattle.seize.specs.declared.progress.Progress.{Progress}
+use Rattle.seize.specs.declared.advance.Advance.{Advance}
 use Rattle.seize.specs.declared.rows.register.Register.{Register}
 use Rattle.seize.specs.declared.rows.register.Registering.{Registering}
 use Rattle.seize.specs.declared.rows.register.Registering.TheVariants as registering
@@ -177,7 +177,7 @@ module _ {T : Type 0} (defers : T → Option ℕ) (size field : ℕ) (w v : Worl
   exchanges s f old new (Made r) m2 e = subst So (sym e) (λ c h. refl)
   exchanges s f old new (Taken a) m2 e = subst So (sym e) (λ c h. refl)
 
-  register_entries : (c : Register) (p : Registering) → IsLooking p → (m2 : Mem T) (end : Register × Progress ℕ)
+  register_entries : (c : Register) (p : Registering) → IsLooking p → (m2 : Mem T) (end : Register × Advance ℕ)
       → Steps Took value_at w.memory (register.plan_at c p) m2 end → So m2
   register_entries c registering.Begin looks m2 end st = rooms 0 st.0 m2 st.1.1
   register_entries c registering.Look looks m2 end st = subst So (sym st.1.1) (λ c h. refl)
@@ -194,7 +194,7 @@ module _ {T : Type 0} (defers : T → Option ℕ) (size field : ℕ) (w v : Worl
   leave_entries c leaving.Frees is m2 end st = subst So (sym st.1.1) (λ c h. refl)
   leave_entries c leaving.Over is m2 end st = subst So (sym st.0) (λ c h. refl)
 
-  defer_entries : (c : Defer) → c.stands ≡ deferring.Over → (m2 : Mem T) (end : Defer × Progress Unit)
+  defer_entries : (c : Defer) → c.stands ≡ deferring.Over → (m2 : Mem T) (end : Defer × Advance Unit)
       → Steps Took value_at w.memory (defer.defer_plan c) m2 end → So m2
   defer_entries c is m2 end st =
       let s = subst (λ (p : Deferring). Steps Took value_at w.memory (defer.plan_at c p) m2 end) is st in subst So (sym s.0) (λ c h. refl)

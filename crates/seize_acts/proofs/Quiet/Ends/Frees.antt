@@ -3,7 +3,7 @@ use Rattle.std.specs.Prelude.{Option, nat_lt, ◌==◌, if◌then◌else◌}
 use Rattle.std.proofs.Common.{◌≡◌, ℕ, ◌+◌, ◌-◌, ◌<◌, ◌≤◌, ◌^◌, Bool, true, false, ◌⊎◌, inl, inr, refl, arith, ap, sym, subst}
 use Rattle.seize_words.specs.OneMemory.Mem.{Mem, Took, value_at}
 use Rattle.seize_words.specs.OneMemory.Plan.{Steps}
-use Rattle.seize.specs.declared.progress.Progress.{Progress}
+use Rattle.seize.specs.declared.advance.Advance.{Advance}
 use Rattle.seize.specs.declared.rows.enter.Unregister.{Unregister}
 use Rattle.seize.specs.declared.rows.settle.Settled.{Settled}
 use Rattle.seize.specs.declared.rows.settle.Settled.TheVariants as settled
@@ -66,7 +66,7 @@ module _ {T : Type 0} (defers : T → Option ℕ) (left_over : T → Bool) where
       → (weight c2 < weight_at c p) × (IsFreeing c2 c2.stands ⊎ IsPast c2.stands)
   free_falls c (at.Frees s) m m2 c2 told lt st =
       let row : Unregister = record { slot = s } in
-      let goes : Unregister × Progress Unit → ReclaimAll × Settled T = λ k. (next_free c s, settled.Goes) in
+      let goes : Unregister × Advance Unit → ReclaimAll × Settled T = λ k. (next_free c s, settled.Goes) in
       let back = steps_back goes m m2 (unregister_plan row) (c2, told) st in
       subst (λ (d : ReclaimAll). (weight d < weight_at c (at.Frees s)) × (IsFreeing d d.stands ⊎ IsPast d.stands)) (sym (ap (λ (p : ReclaimAll × Settled T). p.0) back.2))
       ((at_next_free c s lt).0, freed_on c s lt)

@@ -8,7 +8,7 @@ use Rattle.seize_words.specs.OneMemory.Plan.{Ends, May, Steps}
 use Rattle.seize_words.proofs.OneMemory.OneOwner.Operations.{may_load, loaded}
 use Rattle.seize_words.proofs.OneMemory.Plans.{see_if, as_may}
 use Rattle.seize.specs.declared.states.TheConstants.{BATCH, LAST_SLOT}
-use Rattle.seize.specs.declared.progress.Progress.{Progress}
+use Rattle.seize.specs.declared.advance.Advance.{Advance}
 use Rattle.seize.specs.declared.rows.enter.Unregister.{Unregister}
 use Rattle.seize.specs.declared.rows.settle.Settle.{Settle}
 use Rattle.seize.specs.declared.rows.settle.Settled.{Settled}
@@ -222,7 +222,7 @@ module _ {T : Type 0} (defers : T → Option ℕ) (left_over : T → Bool) (size
       abbrev gives : Unregister
       gives = record { slot = s }
 
-      abbrev goes : Unregister × Progress Unit → ReclaimAll × Settled T
+      abbrev goes : Unregister × Advance Unit → ReclaimAll × Settled T
       goes end = (next_free free_c s, settled.Goes)
 
       abbrev freeing : World T
@@ -244,13 +244,13 @@ module _ {T : Type 0} (defers : T → Option ℕ) (left_over : T → Bool) (size
         abbrev freed_world : World T
         freed_world = with_use (after_step freeing i m2 Rests []) s Vacant
 
-        free_call : (e : Unregister × Progress Unit) → Steps Took value_at w.memory (unregister_plan gives) m2 e → Calls defers size i (Unregister' s) w freed_world
+        free_call : (e : Unregister × Advance Unit) → Steps Took value_at w.memory (unregister_plan gives) m2 e → Calls defers size i (Unregister' s) w freed_world
         free_call e st =
             let step : Steps' defers i (freeing.row i) freeing freed_world =
             subst (λ (row : Row). Steps' defers i row freeing freed_world) (sym (with_here w.row i (Frees gives))) (m2, e, st, refl) in
             (freeing, 1, f.rests i, (idle_now, refl), (freed_world, step, (with_here freeing.row i Rests, refl)))
 
-        free_by : (e : Unregister × Progress Unit) → Steps Took value_at w.memory (unregister_plan gives) m2 e → Leads (at.Frees s) m2 (next_free free_c s, settled.Goes)
+        free_by : (e : Unregister × Advance Unit) → Steps Took value_at w.memory (unregister_plan gives) m2 e → Leads (at.Frees s) m2 (next_free free_c s, settled.Goes)
         free_by e st =
             let call = free_call e st in
             let run = calls_run defers size i (Unregister' s) tt w freed_world call in

@@ -5,7 +5,7 @@ use Rattle.seize_words.specs.declared.at.At.TheVariants.{Slot}
 use Rattle.seize_words.specs.OneMemory.Mem.{Mem, Took, value_at, word_at, with_word}
 use Rattle.seize_words.specs.OneMemory.Plan.{Steps}
 use Rattle.seize.specs.declared.states.TheConstants.{HEAD, FREE, IDLE}
-use Rattle.seize.specs.declared.progress.Progress.{Progress}
+use Rattle.seize.specs.declared.advance.Advance.{Advance}
 use Rattle.seize.specs.declared.rows.enter.Unregister.{Unregister}
 use Rattle.seize.specs.Enter.{unregister_plan}
 use Rattle.seize.specs.Law.{is_somewhere}
@@ -74,7 +74,7 @@ module _ {T : Type 0} where
 
   -- and one is given up
   pub only_given_up : (defers : T → Option ℕ) (batch_size roots : ℕ) (m : Mem T) (h : History) → IsHistory defers batch_size roots m h → (s : ℕ) → h.uses s ≡ Outside 0
-      → (m2 : Mem T) (end : Unregister × Progress Unit) → Steps Took value_at m (unregister_plan (record { slot = s })) m2 end → OnlyReclaims m h m2 (given_up s h) []
+      → (m2 : Mem T) (end : Unregister × Advance Unit) → Steps Took value_at m (unregister_plan (record { slot = s })) m2 end → OnlyReclaims m h m2 (given_up s h) []
   only_given_up defers batch_size roots m h had s out m2 end st =
       let may = unregister_may defers batch_size roots m h had s out in
       record {

@@ -8,7 +8,7 @@ use Rattle.seize_words.specs.OneMemory.Plan.{May, MaySee}
 use Rattle.seize_words.proofs.OneMemory.OneOwner.Operations.{may_load, may_store}
 use Rattle.seize_words.proofs.OneMemory.Plans.{as_may}
 use Rattle.seize.specs.declared.states.TheConstants.{HEAD, BATCH, NEVER, FREE, IDLE, ACTIVE, LAST_SLOT}
-use Rattle.seize.specs.declared.progress.Progress.{Progress}
+use Rattle.seize.specs.declared.advance.Advance.{Advance}
 use Rattle.seize.specs.declared.rows.enter.Unregister.{Unregister}
 use Rattle.seize.specs.declared.rows.settle.Settle.{Settle}
 use Rattle.seize.specs.declared.rows.settle.Settled.{Settled}
@@ -259,7 +259,7 @@ module _ {T : Type 0} (defers : T → Option ℕ) (left_over : T → Bool) (batc
           as_may (within (λ d. standing c (at.Flushes s d)) (next_batch (record c { again = true }) s)) Can Took value_at m2 (settle_plan defers settle)
           (call_may defers batch_size roots x.m1 x.h1 (Flush s) (Settles settle) m2 x.more x.row)
       may_slots (at.Frees s) x =
-          as_may {B = ReclaimAll × Settled T} (λ (end : Unregister × Progress Unit). (next_free c s, Goes)) Can Took value_at m2 (unregister_plan (record { slot = s }))
+          as_may {B = ReclaimAll × Settled T} (λ (end : Unregister × Advance Unit). (next_free c s, Goes)) Can Took value_at m2 (unregister_plan (record { slot = s }))
           (subst (λ (k : Mem T). May Can Took value_at k (unregister_plan {T = T} (record { slot = s }))) (sym x.row.0)
           (unregister_may defers batch_size roots x.m1 x.h1 x.so_far.now s (x.here.1.idle s (omega arith) x.here.0)))
       may_slots (at.Roots root) x = absurd x.row

@@ -7,8 +7,8 @@ use Rattle.seize_words.specs.OneMemory.Mem.{Mem, Took, value_at, word_at, with_w
 use Rattle.seize_words.specs.OneMemory.Plan.{Now, Steps}
 use Rattle.seize_words.proofs.OneMemory.OneOwner.Operations.{stored}
 use Rattle.seize.specs.declared.states.TheConstants.{HEAD, FREE, IDLE, LAST_SLOT}
-use Rattle.seize.specs.declared.progress.Progress.{Progress}
-use Rattle.seize.specs.declared.progress.Progress.TheVariants as progress
+use Rattle.seize.specs.declared.advance.Advance.{Advance}
+use Rattle.seize.specs.declared.advance.Advance.TheVariants as progress
 use Rattle.seize.specs.declared.rows.enter.Unregister.{Unregister}
 use Rattle.seize.specs.declared.rows.settle.Settle.{Settle}
 use Rattle.seize.specs.declared.rows.settle.Settled.{Settled}
@@ -226,7 +226,7 @@ module _ {T : Type 0} (defers : T → Option ℕ) (left_over : T → Bool) (batc
     walks_on (at.Flushes s d) o x st = absurd (cc o)
     walks_on (at.Frees s) o x st =
         let row : Unregister = record { slot = s } in
-        let goes : Unregister × Progress Unit → ReclaimAll × Settled T = λ k. (next_free c s, Goes) in
+        let goes : Unregister × Advance Unit → ReclaimAll × Settled T = λ k. (next_free c s, Goes) in
         let back = steps_back goes m2 m3 (unregister_plan row) end st in
         let st1 = subst (λ (k : Mem T). Steps Took value_at k (unregister_plan row) m3 back.0) x.row.0 back.1 in
         let out = x.here.1.idle s (omega arith) x.here.0 in

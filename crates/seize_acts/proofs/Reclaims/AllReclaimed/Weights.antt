@@ -6,7 +6,7 @@ use Rattle.seize_words.specs.OneMemory.Mem.{Mem, Took, value_at}
 use Rattle.seize_words.specs.OneMemory.Plan.{Ends, Steps}
 use Rattle.seize_words.proofs.OneMemory.OneOwner.Operations.{loaded, stored}
 use Rattle.seize.specs.declared.states.TheConstants.{HEAD, BATCH, NEVER, FREE, IDLE, ACTIVE, LAST_SLOT}
-use Rattle.seize.specs.declared.progress.Progress.{Progress}
+use Rattle.seize.specs.declared.advance.Advance.{Advance}
 use Rattle.seize.specs.declared.rows.enter.Unregister.{Unregister}
 use Rattle.seize.specs.declared.rows.settle.Settle.{Settle}
 use Rattle.seize.specs.declared.rows.settle.Settled.{Settled}
@@ -177,7 +177,7 @@ module _ {T : Type 0} (defers : T → Option ℕ) (left_over : T → Bool) (batc
   slots_lower (at.Batches s) o x st = let d = loaded m2 (batch_read c s) (name.Slot s BATCH) m3 end st in batch_lower c end s x.here.0 (d.0 == 0) (value_at m2) d.3
   slots_lower (at.Frees s) o x st =
       let row : Unregister = record { slot = s } in
-      let goes : Unregister × Progress Unit → ReclaimAll × Settled T = λ k. (next_free c s, Goes) in
+      let goes : Unregister × Advance Unit → ReclaimAll × Settled T = λ k. (next_free c s, Goes) in
       let back = steps_back goes m2 m3 (unregister_plan row) end st in
       lower c end (weight_at c (at.Frees s)) (next_free c s) back.2 (at_next_free c s x.here.0).0
   slots_lower (at.Leaves s l) o x st = absurd (cc o)

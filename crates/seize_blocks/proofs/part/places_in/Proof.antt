@@ -29,7 +29,7 @@ use Rattle.std.proofs.raw_atomic.Walks.{proved, leaves}
 use Rattle.seize_seats.specs.Seats.Owned.{BaseId, strip_told}
 use Rattle.seize_seats.specs.contracts.kept.Kept as kept_of
 use Rattle.seize_atoms.specs.contracts.strip.Strip as strip
-use Rattle.seize_seats.specs.contracts.place.Place as place
+use Rattle.seize_seats.specs.contracts.place.ValuePlaces as place
 use Rattle.seize_atoms.proofs.Fields.{hand_of, one_of, one_good, StripData, strip_data_told, strip_opened, place_made}
 use Rattle.seize_blocks.specs.contracts.part.places_in.{ended, clauses}
 use Rattle.seize_blocks.specs.contracts.part.places_in.Key.{name as #self}

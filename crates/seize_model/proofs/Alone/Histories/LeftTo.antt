@@ -3,8 +3,8 @@ use Rattle.std.specs.Prelude.{Option}
 use Rattle.std.proofs.Common.{◌≡◌, ℕ, ◌+◌, List, [], ◌∷◌, ◌++◌, length, refl, ap, subst, ◌∙◌}
 use Rattle.seize_words.specs.declared.at.At.TheVariants.{Entry}
 use Rattle.seize_words.specs.OneMemory.Mem.{Mem, word_at}
-use Rattle.seize.specs.declared.progress.Progress.{Progress}
-use Rattle.seize.specs.declared.progress.Progress.TheVariants as progress
+use Rattle.seize.specs.declared.advance.Advance.{Advance}
+use Rattle.seize.specs.declared.advance.Advance.TheVariants as progress
 use Rattle.seize.specs.declared.rows.settle.Settle.{Settle}
 use Rattle.seize.specs.declared.rows.settle.Settled.{Settled}
 use Rattle.seize.specs.declared.rows.settle.Settled.TheVariants.{Goes, Waits, Gave, Done}
@@ -68,13 +68,13 @@ module _ {T : Type 0} (defers : T → Option ℕ) (size : ℕ) (w : World T) (r 
   settles_memory c d m (Gave value) = refl
   settles_memory c d m Done = refl
 
-  registers_memory : (c d : Register) (m : Mem T) (p : Progress ℕ) → (registers_on w i c m (d, p)).memory ≡ m
+  registers_memory : (c d : Register) (m : Mem T) (p : Advance ℕ) → (registers_on w i c m (d, p)).memory ≡ m
   registers_memory c d m progress.Goes = refl
   registers_memory c d m progress.Waits = refl
   registers_memory c d m (progress.Done s) = refl
   registers_memory c d m (progress.Refused fault) = refl
 
-  defers_memory : (s : ℕ) (d : Defer) (m : Mem T) (p : Progress Unit) → (defers_on w i s m (d, p)).memory ≡ m
+  defers_memory : (s : ℕ) (d : Defer) (m : Mem T) (p : Advance Unit) → (defers_on w i s m (d, p)).memory ≡ m
   defers_memory s d m progress.Goes = refl
   defers_memory s d m progress.Waits = refl
   defers_memory s d m (progress.Done u) = refl

@@ -4,8 +4,8 @@ use Rattle.std.proofs.Common.{◌≡◌, ℕ, ◌+◌, Bool, true, false, cond, 
 use Rattle.std.proofs.lemmas.Bool.{cases_eq}
 use Rattle.seize_words.specs.OneMemory.Mem.{Mem}
 use Rattle.seize.specs.declared.states.TheConstants.{LAST_SLOT, ACTIVE}
-use Rattle.seize.specs.declared.progress.Progress.{Progress}
-use Rattle.seize.specs.declared.progress.Progress.TheVariants as progress
+use Rattle.seize.specs.declared.advance.Advance.{Advance}
+use Rattle.seize.specs.declared.advance.Advance.TheVariants as progress
 use Rattle.seize.specs.declared.rows.settle.Settle.{Settle}
 use Rattle.seize.specs.declared.rows.settle.Settled.{Settled}
 use Rattle.seize.specs.declared.rows.settle.Settled.TheVariants.{Goes, Waits, Gave, Done}
@@ -97,7 +97,7 @@ module _ {T : Type 0} (defers : T → Option ℕ) (size : ℕ) (w : World T) (r 
   settles_uses t c d m (Gave value) apart = refl
   settles_uses t c d m Done apart = with_other w.uses c.slot t (one_less (w.uses c.slot)) (λ q. apart (ap (λ (k : ℕ). k + 1) (sym q)))
 
-  defers_uses : (t s : ℕ) (d : Defer) (m : Mem T) (p : Progress Unit) → (s + 1 ≡ t + 1 → ⊥) → (defers_on w i s m (d, p)).uses t ≡ w.uses t
+  defers_uses : (t s : ℕ) (d : Defer) (m : Mem T) (p : Advance Unit) → (s + 1 ≡ t + 1 → ⊥) → (defers_on w i s m (d, p)).uses t ≡ w.uses t
   defers_uses t s d m progress.Goes apart = refl
   defers_uses t s d m progress.Waits apart = refl
   defers_uses t s d m (progress.Done u) apart = with_other w.uses s t (one_less (w.uses s)) (λ q. apart (ap (λ (k : ℕ). k + 1) (sym q)))
@@ -151,7 +151,7 @@ module _ {T : Type 0} (defers : T → Option ℕ) (size : ℕ) (w : World T) (r 
   settles_inside c d m (Gave value) h = h
   settles_inside c d m Done h = subst (λ (u : Use). IsInside u) (sym (with_here w.uses c.slot (one_less (w.uses c.slot)))) (inside_less (w.uses c.slot) h)
 
-  defers_inside : (s : ℕ) (d : Defer) (m : Mem T) (p : Progress Unit) → IsInside (w.uses s) → IsInside ((defers_on w i s m (d, p)).uses s)
+  defers_inside : (s : ℕ) (d : Defer) (m : Mem T) (p : Advance Unit) → IsInside (w.uses s) → IsInside ((defers_on w i s m (d, p)).uses s)
   defers_inside s d m progress.Goes h = h
   defers_inside s d m progress.Waits h = h
   defers_inside s d m (progress.Done u) h = subst (λ (u : Use). IsInside u) (sym (with_here w.uses s (one_less (w.uses s)))) (inside_less (w.uses s) h)

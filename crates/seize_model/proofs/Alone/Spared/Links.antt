@@ -16,7 +16,7 @@ use Rattle.seize.specs.declared.rows.settle.Settled.{Settled}
 use Rattle.seize.specs.declared.rows.leave.Leave.{Leave}
 use Rattle.seize.specs.declared.rows.leave.Leaving.{Leaving}
 use Rattle.seize.specs.declared.rows.leave.Leaving.TheVariants as leaving
-use Rattle.seize.specs.declared.progress.Progress.{Progress}
+use Rattle.seize.specs.declared.advance.Advance.{Advance}
 use Rattle.seize.specs.declared.rows.register.Register.{Register}
 use Rattle.seize.specs.declared.rows.register.Registering.{Registering}
 use Rattle.seize.specs.declared.rows.register.Registering.TheVariants as registering
@@ -265,7 +265,7 @@ module _ {T : Type 0} (defers : T → Option ℕ) (n i : ℕ) (mem mem2 : Mem T)
   defer_apart s c (deferring.Pushes head) r = subst (IsApart b) (sym r.on.at_is) tt
   defer_apart s c deferring.Over r = tt
 
-  pub defer_next : (s : ℕ) (c : Defer) (end : Defer × Progress Unit) → FitsDefer n i (view defers mem) m x s c.block c.table_word c.stands → May Can Took value_at mem (defer.defer_plan {T = T} c)
+  pub defer_next : (s : ℕ) (c : Defer) (end : Defer × Advance Unit) → FitsDefer n i (view defers mem) m x s c.block c.table_word c.stands → May Can Took value_at mem (defer.defer_plan {T = T} c)
       → Steps Took value_at mem (defer.defer_plan c) mem2 end → SameNext b mem mem2
   defer_next s c end fits may st = plan_apart b mem (defer.defer_plan c) mem2 end (defer_apart s c c.stands fits) may st
 
@@ -280,11 +280,11 @@ module _ {T : Type 0} (m m2 : Mem T) where
   register_apart b c registering.Registered = tt
   register_apart b c (registering.Refused fault) = tt
 
-  pub register_links : (c : Register) (end : Register × Progress ℕ) → May Can Took value_at m (register.register_plan c) → Steps Took value_at m (register.register_plan c) m2 end → SameLinks m m2
+  pub register_links : (c : Register) (end : Register × Advance ℕ) → May Can Took value_at m (register.register_plan c) → Steps Took value_at m (register.register_plan c) m2 end → SameLinks m m2
   register_links c end may st b = plan_apart b m (register.register_plan c) m2 end (register_apart b c c.stands) may st
 
-  pub enter_links : (c : Enter) (end : Enter × Progress Unit) → May Can Took value_at m (enter_plan c) → Steps Took value_at m (enter_plan c) m2 end → SameLinks m m2
+  pub enter_links : (c : Enter) (end : Enter × Advance Unit) → May Can Took value_at m (enter_plan c) → Steps Took value_at m (enter_plan c) m2 end → SameLinks m m2
   enter_links c end may st b = plan_apart b m (enter_plan c) m2 end tt may st
 
-  pub unregister_links : (c : Unregister) (end : Unregister × Progress Unit) → May Can Took value_at m (unregister_plan c) → Steps Took value_at m (unregister_plan c) m2 end → SameLinks m m2
+  pub unregister_links : (c : Unregister) (end : Unregister × Advance Unit) → May Can Took value_at m (unregister_plan c) → Steps Took value_at m (unregister_plan c) m2 end → SameLinks m m2
   unregister_links c end may st b = plan_apart b m (unregister_plan c) m2 end tt may st

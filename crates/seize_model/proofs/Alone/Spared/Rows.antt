@@ -13,8 +13,8 @@ use Rattle.seize.specs.World.{Hand, Making, times, World, Row, Rests, Registers,
 use Rattle.seize_words.specs.OneMemory.Plan.{May, Steps}
 use Rattle.seize_words.proofs.OneMemory.OneOwner.Operations.{exchanged}
 use Rattle.seize.specs.declared.states.TheConstants.{LAST_SLOT}
-use Rattle.seize.specs.declared.progress.Progress.{Progress}
-use Rattle.seize.specs.declared.progress.Progress.TheVariants as progress
+use Rattle.seize.specs.declared.advance.Advance.{Advance}
+use Rattle.seize.specs.declared.advance.Advance.TheVariants as progress
 use Rattle.seize.specs.declared.rows.settle.Settle.{Settle}
 use Rattle.seize.specs.declared.rows.settle.Settled.{Settled}
 use Rattle.seize.specs.declared.rows.settle.Settled.TheVariants.{Goes, Waits, Gave, Done}
@@ -86,14 +86,14 @@ module _ {T : Type 0} {size : ℕ} (defers : T → Option ℕ) (w : World T) (go
       spared m2 (leave_effects c c.stands) (taken_in (leave_effects c c.stands)) refl
       (leave_spares defers (LAST_SLOT + 1) i w.memory m2 good.state good.extra good.inv good.shows c end (fits_at (Leaves c) is) (row_may defers (LAST_SLOT + 1) size refl w good i (Leaves c) is) st)
 
-  register_framed : (c : Register) → w.row i ≡ Registers c → (m2 : Mem T) (end : Register × Progress ℕ) → Steps Took value_at w.memory (register_plan c) m2 end
+  register_framed : (c : Register) → w.row i ≡ Registers c → (m2 : Mem T) (end : Register × Advance ℕ) → Steps Took value_at w.memory (register_plan c) m2 end
       → Framed m2 (taken_in (register_effects c c.stands))
   register_framed c is m2 end st =
       spared m2 (register_effects c c.stands) [] (sym (register_none c c.stands))
       (register_spares w.memory m2 c end (row_may defers (LAST_SLOT + 1) size refl w good i (Registers c) is) st)
 
   -- a deferring row writes the head of a list, and the block's own link
-  defer_sparing : (s : ℕ) (c : Defer) (p : Deferring) → c.stands ≡ p → w.row i ≡ Defers s c → (m2 : Mem T) (end : Defer × Progress Unit) → IsSparingPlan (defer.plan_at {T = T} c p)
+  defer_sparing : (s : ℕ) (c : Defer) (p : Deferring) → c.stands ≡ p → w.row i ≡ Defers s c → (m2 : Mem T) (end : Defer × Advance Unit) → IsSparingPlan (defer.plan_at {T = T} c p)
       → plan_takes (defer.plan_at {T = T} c p) ≡ [] → Steps Took value_at w.memory (defer.plan_at c p) m2 end → Framed m2 []
   defer_sparing s c p here is m2 end sparing none st =
       spared m2 [] (plan_takes (defer.plan_at {T = T} c p)) none
@@ -108,7 +108,7 @@ module _ {T : Type 0} {size : ℕ} (defers : T → Option ℕ) (w : World T) (go
       let none : can_carry (good.state.life r.on.t) ≡ false = ap (λ (x : ℕ). can_carry (good.state.life x)) (sym same) ∙ ap can_carry owned in
       cc (none, carries)
 
-  defer_pushed : (s : ℕ) (c : Defer) (head : ℕ) → Linked_to (LAST_SLOT + 1) i (view defers w.memory) good.state good.extra s c.block c.table_word head → (m2 : Mem T) (end : Defer × Progress Unit)
+  defer_pushed : (s : ℕ) (c : Defer) (head : ℕ) → Linked_to (LAST_SLOT + 1) i (view defers w.memory) good.state good.extra s c.block c.table_word head → (m2 : Mem T) (end : Defer × Advance Unit)
       → Steps Took value_at w.memory (defer.plan_at c (deferring.Pushes head)) m2 end → Framed m2 []
   defer_pushed s c head r m2 end st =
       elim (exchanged w.memory (defer.push_told c) c.table_word head c.block m2 end st) as (λ _. Framed m2 []) [
@@ -129,7 +129,7 @@ module _ {T : Type 0} {size : ℕ} (defers : T → Option ℕ) (w : World T) (go
           block_is : Word b f ≡ Word r.on.t r.on.d → b ≡ r.on.t
           block_is q = cc q
 
-  defer_both : (s : ℕ) (c : Defer) → w.row i ≡ Defers s c → (m2 : Mem T) (end : Defer × Progress Unit) → Steps Took value_at w.memory (defer.defer_plan c) m2 end → Framed m2 []
+  defer_both : (s : ℕ) (c : Defer) → w.row i ≡ Defers s c → (m2 : Mem T) (end : Defer × Advance Unit) → Steps Took value_at w.memory (defer.defer_plan c) m2 end → Framed m2 []
   defer_both s c is m2 end st = by c.stands refl (fits_at (Defers s c) is) st
     where
       by : (p : Deferring) → c.stands ≡ p → FitsDefer (LAST_SLOT + 1) i (view defers w.memory) good.state good.extra s c.block c.table_word p
@@ -177,7 +177,7 @@ module _ {T : Type 0} {size : ℕ} (defers : T → Option ℕ) (w : World T) (go
         let none : TellsTaken w.memory m2 (settle_effects c c.stands) Done = settle_tells defers w.memory m2 c (d, Done) st in
         comes (settles_on w i c m2 (d, Done)) e [] tt (λ t h. tt) refl refl (subst (Framed m2) none (settle_framed c is m2 (d, Done) st))
 
-    registered : (c : Register) → w.row i ≡ Registers c → (m2 : Mem T) (d : Register) (p : Progress ℕ) → Steps Took value_at w.memory (register_plan c) m2 (d, p) → w2 ≡ registers_on w i c m2 (d, p)
+    registered : (c : Register) → w.row i ≡ Registers c → (m2 : Mem T) (d : Register) (p : Advance ℕ) → Steps Took value_at w.memory (register_plan c) m2 (d, p) → w2 ≡ registers_on w i c m2 (d, p)
         → RowStepped defers i w w2
     registered c is m2 d progress.Goes st e = comes (registers_on w i c m2 (d, progress.Goes)) e (register_effects c c.stands) (register_one c c.stands) (λ t h. register_goes_on t c c.stands) refl refl (register_framed c is m2 (d, progress.Goes) st)
     registered c is m2 d progress.Waits st e = comes (registers_on w i c m2 (d, progress.Waits)) e (register_effects c c.stands) (register_one c c.stands) (λ t h. register_goes_on t c c.stands) refl refl (register_framed c is m2 (d, progress.Waits) st)
@@ -185,7 +185,7 @@ module _ {T : Type 0} {size : ℕ} (defers : T → Option ℕ) (w : World T) (go
     registered c is m2 d (progress.Refused fault) st e = comes (registers_on w i c m2 (d, progress.Refused fault)) e [] tt (λ t h. tt) refl refl
         (subst (Framed m2) (register_none c c.stands) (register_framed c is m2 (d, progress.Refused fault) st))
 
-    deferred : (s : ℕ) (c : Defer) → w.row i ≡ Defers s c → (m2 : Mem T) (d : Defer) (p : Progress Unit) → Steps Took value_at w.memory (defer.defer_plan c) m2 (d, p) → w2 ≡ defers_on w i s m2 (d, p)
+    deferred : (s : ℕ) (c : Defer) → w.row i ≡ Defers s c → (m2 : Mem T) (d : Defer) (p : Advance Unit) → Steps Took value_at w.memory (defer.defer_plan c) m2 (d, p) → w2 ≡ defers_on w i s m2 (d, p)
         → RowStepped defers i w w2
     deferred s c is m2 d progress.Goes st e = comes (defers_on w i s m2 (d, progress.Goes)) e [] tt (λ t h. tt) refl refl (defer_both s c is m2 (d, progress.Goes) st)
     deferred s c is m2 d progress.Waits st e = comes (defers_on w i s m2 (d, progress.Waits)) e [] tt (λ t h. tt) refl refl (defer_both s c is m2 (d, progress.Waits) st)

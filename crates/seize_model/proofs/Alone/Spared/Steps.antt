@@ -4,7 +4,7 @@ use Rattle.std.proofs.Common.{◌≡◌, ℕ, ◌<◌, Bool, true, false, List, 
 use Rattle.seize_words.specs.OneMemory.Mem.{Mem, Can, Took, value_at}
 use Rattle.seize_words.specs.OneMemory.Plan.{May, Steps}
 use Rattle.seize.specs.declared.states.TheConstants.{ACTIVE}
-use Rattle.seize.specs.declared.progress.Progress.{Progress}
+use Rattle.seize.specs.declared.advance.Advance.{Advance}
 use Rattle.seize.specs.declared.rows.settle.Settle.{Settle}
 use Rattle.seize.specs.declared.rows.settle.Settling.{Settling}
 use Rattle.seize.specs.declared.rows.settle.Settling.TheVariants as at
@@ -158,12 +158,12 @@ module _ {T : Type 0} (m m2 : Mem T) where
   register_takes c registering.Registered = refl
   register_takes c (registering.Refused fault) = refl
 
-  pub register_spares : (c : Register) (end : Register × Progress ℕ) → May Can Took value_at m (register.register_plan c) → Steps Took value_at m (register.register_plan c) m2 end → Spares m m2 []
+  pub register_spares : (c : Register) (end : Register × Advance ℕ) → May Can Took value_at m (register.register_plan c) → Steps Took value_at m (register.register_plan c) m2 end → Spares m m2 []
   register_spares c end may st =
       subst (λ (l : List ℕ). Spares m m2 l) (register_takes c c.stands) (plan_spares m (register.register_plan c) m2 end (register_sparing c c.stands) may st)
 
-  pub enter_spares : (c : Enter) (end : Enter × Progress Unit) → May Can Took value_at m (enter_plan c) → Steps Took value_at m (enter_plan c) m2 end → Spares m m2 []
+  pub enter_spares : (c : Enter) (end : Enter × Advance Unit) → May Can Took value_at m (enter_plan c) → Steps Took value_at m (enter_plan c) m2 end → Spares m m2 []
   enter_spares c end may st = plan_spares m (enter_plan c) m2 end (λ e. omega arith) may st
 
-  pub unregister_spares : (c : Unregister) (end : Unregister × Progress Unit) → May Can Took value_at m (unregister_plan c) → Steps Took value_at m (unregister_plan c) m2 end → Spares m m2 []
+  pub unregister_spares : (c : Unregister) (end : Unregister × Advance Unit) → May Can Took value_at m (unregister_plan c) → Steps Took value_at m (unregister_plan c) m2 end → Spares m m2 []
   unregister_spares c end may st = plan_spares m (unregister_plan c) m2 end (λ e. omega arith) may st

@@ -5,7 +5,7 @@ use Rattle.std.proofs.lemmas.List.{append-nil}
 use Rattle.seize_words.specs.OneMemory.Mem.{Mem, Can, Took, value_at}
 use Rattle.seize_words.specs.OneMemory.Plan.{May, Steps}
 use Rattle.seize.specs.declared.states.TheConstants.{LAST_SLOT}
-use Rattle.seize.specs.declared.progress.Progress.{Progress}
+use Rattle.seize.specs.declared.advance.Advance.{Advance}
 use Rattle.seize.specs.declared.rows.enter.Enter.{Enter}
 use Rattle.seize.specs.declared.rows.enter.Unregister.{Unregister}
 use Rattle.seize.specs.Enter.{enter_plan, unregister_plan}
@@ -28,7 +28,7 @@ module _ {T : Type 0} (defers : T → Option ℕ) (batch_size roots : ℕ) (m : 
         let v = with_use (with_row (at_rest defers m h) 0 (Enters (record { slot = s }))) s Changing in
         row_may defers (LAST_SLOT + 1) batch_size refl v (first_may (Enter' s) v (out, refl)).good 0 (Enters (record { slot = s })) refl
 
-    pub enter_history : (m2 : Mem T) (end : Enter × Progress Unit) → Steps Took value_at m (enter_plan (record { slot = s })) m2 end → IsHistory defers batch_size roots m2 (entered s h)
+    pub enter_history : (m2 : Mem T) (end : Enter × Advance Unit) → Steps Took value_at m (enter_plan (record { slot = s })) m2 end → IsHistory defers batch_size roots m2 (entered s h)
     enter_history m2 end st =
         let v = with_use (with_row (at_rest defers m h) 0 (Enters (record { slot = s }))) s Changing in
         let n = with_use (after_step v 0 m2 Rests (Entered s ∷ [])) s (Inside 0) in
@@ -41,7 +41,7 @@ module _ {T : Type 0} (defers : T → Option ℕ) (batch_size roots : ℕ) (m : 
         let v = with_use (with_row (at_rest defers m h) 0 (Frees (record { slot = s }))) s Changing in
         row_may defers (LAST_SLOT + 1) batch_size refl v (first_may (Unregister' s) v (out, refl)).good 0 (Frees (record { slot = s })) refl
 
-    pub unregister_calls : (m2 : Mem T) (end : Unregister × Progress Unit) → Steps Took value_at m (unregister_plan (record { slot = s })) m2 end
+    pub unregister_calls : (m2 : Mem T) (end : Unregister × Advance Unit) → Steps Took value_at m (unregister_plan (record { slot = s })) m2 end
         → Calls defers batch_size 0 (Unregister' s) (at_rest defers m h) (at_rest defers m2 (given_up s h))
     unregister_calls m2 end st =
         let v = with_use (with_row (at_rest defers m h) 0 (Frees (record { slot = s }))) s Changing in
@@ -50,5 +50,5 @@ module _ {T : Type 0} (defers : T → Option ℕ) (batch_size roots : ℕ) (m : 
         λ i. record { memory = m2; row = sym (rests_anew (Frees (record { slot = s }))) i; uses = sym (with_anew h.uses s Changing Vacant) i; hand = h.hand; log = h.log } in
         (v, 1, refl, (out, refl), (n, (m2, end, st, refl), (refl, e)))
 
-    pub unregister_history : (m2 : Mem T) (end : Unregister × Progress Unit) → Steps Took value_at m (unregister_plan (record { slot = s })) m2 end → IsHistory defers batch_size roots m2 (given_up s h)
+    pub unregister_history : (m2 : Mem T) (end : Unregister × Advance Unit) → Steps Took value_at m (unregister_plan (record { slot = s })) m2 end → IsHistory defers batch_size roots m2 (given_up s h)
     unregister_history m2 end st = called_history defers batch_size roots m m2 h (given_up s h) had (Unregister' s) (unregister_calls m2 end st) (sym (append-nil h.before))

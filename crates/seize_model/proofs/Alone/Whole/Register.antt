@@ -9,8 +9,8 @@ use Rattle.seize_words.specs.OneMemory.Mem.{Mem, Can, Took, value_at}
 use Rattle.seize_words.specs.OneMemory.Plan.{May, Steps, Now}
 use Rattle.seize_words.proofs.OneMemory.OneOwner.Operations.{loaded, stored, exchanged, roomed}
 use Rattle.seize.specs.declared.states.TheConstants.{LAST_SLOT, HEAD, IDLE, ACTIVE}
-use Rattle.seize.specs.declared.progress.Progress.{Progress}
-use Rattle.seize.specs.declared.progress.Progress.TheVariants.{Goes, Waits, Done, Refused}
+use Rattle.seize.specs.declared.advance.Advance.{Advance}
+use Rattle.seize.specs.declared.advance.Advance.TheVariants.{Goes, Waits, Done, Refused}
 use Rattle.seize.specs.declared.rows.register.Register.{Register}
 use Rattle.seize.specs.declared.rows.register.Registering.{Registering}
 use Rattle.seize.specs.declared.rows.register.Registering.TheVariants as stands
@@ -40,14 +40,14 @@ module _ {T : Type 0} (defers : T → Option ℕ) (i : ℕ) where
   steps_end (suc steps) v n h e = (h.0, h.1, steps_end steps h.0 n h.2 e)
 
 -- what a step of a registering row tells goes with its effects
-abbrev EffectsFit : Bool → List Effect → Register × Progress ℕ → Type 0
+abbrev EffectsFit : Bool → List Effect → Register × Advance ℕ → Type 0
 EffectsFit enters effects (c, Goes) = effects ≡ []
 EffectsFit enters effects (c, Waits) = ⊥
 EffectsFit enters effects (c, Done s) = effects ≡ (if enters then Entered s ∷ [] else [])
 EffectsFit enters effects (c, Refused fault) = effects ≡ []
 
-fit_as : (enters : Bool) (effects : List Effect) (end want : Register × Progress ℕ) → end ≡ want → EffectsFit enters effects want → EffectsFit enters effects end
-fit_as enters effects end want e h = subst (λ (q : Register × Progress ℕ). EffectsFit enters effects q) (sym e) h
+fit_as : (enters : Bool) (effects : List Effect) (end want : Register × Advance ℕ) → end ≡ want → EffectsFit enters effects want → EffectsFit enters effects end
+fit_as enters effects end want e h = subst (λ (q : Register × Advance ℕ). EffectsFit enters effects q) (sym e) h
 
 taking_fits : (enters : Bool) (c : Register) (seen : ℕ) (o : Option ℕ) → EffectsFit enters [] (taking c seen o)
 taking_fits enters c seen (Some bucket) = refl
@@ -68,7 +68,7 @@ taken_fits true false c e = absurd (cc e)
 taken_fits false false c e = refl
 
 module _ {T : Type 0} (enters : Bool) (uses : ℕ → Use) (m : Mem T) (c : Register) (same : c.enters ≡ enters) where
-  fits_at : (p : Registering) → LooksAt uses enters m c.slot p → (m2 : Mem T) (end : Register × Progress ℕ) → Steps Took value_at m (plan_at c p) m2 end
+  fits_at : (p : Registering) → LooksAt uses enters m c.slot p → (m2 : Mem T) (end : Register × Advance ℕ) → Steps Took value_at m (plan_at c p) m2 end
       → EffectsFit enters (register_effects c p) end
   fits_at stands.Begin l m2 end st = elim (roomed m (begun c) 0 m2 end st) as (λ _. EffectsFit enters [] end) [
     | inl d ↦ fit_as enters [] end (going c stands.Look) d.1 refl
@@ -86,7 +86,7 @@ module _ {T : Type 0} (enters : Bool) (uses : ℕ → Use) (m : Mem T) (c : Regi
     | inr d ↦ fit_as enters [] end (further c) d.3 (further_fits enters c (nat_lt c.slot LAST_SLOT))
   ]
   fits_at stands.Enter l m2 end st =
-      let d = stored {R = Register × Progress ℕ} m (λ out. Now (registered_row c)) (name.Slot c.slot HEAD) ACTIVE m2 end st in
+      let d = stored {R = Register × Advance ℕ} m (λ out. Now (registered_row c)) (name.Slot c.slot HEAD) ACTIVE m2 end st in
       fit_as enters (Entered c.slot ∷ []) end (registered_row c) d.1 (ap (λ (t : Bool). if t then Entered c.slot ∷ [] else []) (sym l.1))
   fits_at stands.Registered l m2 end st = absurd l
   fits_at (stands.Refused fault) l m2 end st = absurd l
@@ -140,7 +140,7 @@ module _ {T : Type 0} (defers : T → Option ℕ) (batch_size roots : ℕ) (m : 
     pub register_may : May Can Took value_at m2 (register_plan {T = T} c)
     register_may = row_may defers (LAST_SLOT + 1) batch_size refl (registering m2 c) mid.lone.good 0 (Registers c) refl
 
-    module _ (m3 : Mem T) (end : Register × Progress ℕ) (st : Steps Took value_at m2 (register_plan c) m3 end) where
+    module _ (m3 : Mem T) (end : Register × Advance ℕ) (st : Steps Took value_at m2 (register_plan c) m3 end) where
       comes : Comes h.uses enters 0 (registers_on (registering m2 c) 0 c m3 end) end
       comes = registers_alone defers (LAST_SLOT + 1) refl (registering m2 c) mid.lone.good 0 c refl mid.lone.others h.uses enters mid.on (registers_on (registering m2 c) 0 c m3 end) m3 end st refl
 
@@ -176,9 +176,9 @@ module _ {T : Type 0} (defers : T → Option ℕ) (batch_size roots : ℕ) (m : 
         }
       where
         by : {v : World T} → Comes h.uses enters 0 v (c3, Goes) → RegistersOn h.uses enters v c3
-        by {v} (GoesOn c2 e is on) = subst (λ (d : Register). RegistersOn h.uses enters v d) (sym (ap (λ (q : Register × Progress ℕ). q.0) e)) on
-        by {v} (IsRefused c2 fault e is same none) = absurd (let k = ap (λ (q : Register × Progress ℕ). q.1) e in cc k)
-        by {v} (TakesFirst c2 s e is first same) = absurd (let k = ap (λ (q : Register × Progress ℕ). q.1) e in cc k)
+        by {v} (GoesOn c2 e is on) = subst (λ (d : Register). RegistersOn h.uses enters v d) (sym (ap (λ (q : Register × Advance ℕ). q.0) e)) on
+        by {v} (IsRefused c2 fault e is same none) = absurd (let k = ap (λ (q : Register × Advance ℕ). q.1) e in cc k)
+        by {v} (TakesFirst c2 s e is first same) = absurd (let k = ap (λ (q : Register × Advance ℕ). q.1) e in cc k)
 
     -- nobody else has what it needs
     pub register_waits : (m3 : Mem T) (c3 : Register) → Steps Took value_at m2 (register_plan c) m3 (c3, Waits) → RegistersStill m3 c3
@@ -199,10 +199,10 @@ module _ {T : Type 0} (defers : T → Option ℕ) (batch_size roots : ℕ) (m : 
         (k.0, ended m3 (c3, Done s) st (registered enters s h) e (ap (λ (l : List Change). h.before ++ l) (sym changed)))
       where
         by : {v : World T} → Comes h.uses enters 0 v (c3, Done s) → (new_slot h.uses ≡ Some s) × (v.uses ≡ with_at h.uses s (use_taken enters))
-        by {v} (GoesOn c2 e is on) = absurd (let k = ap (λ (q : Register × Progress ℕ). q.1) e in cc k)
-        by {v} (IsRefused c2 fault e is same none) = absurd (let k = ap (λ (q : Register × Progress ℕ). q.1) e in cc k)
+        by {v} (GoesOn c2 e is on) = absurd (let k = ap (λ (q : Register × Advance ℕ). q.1) e in cc k)
+        by {v} (IsRefused c2 fault e is same none) = absurd (let k = ap (λ (q : Register × Advance ℕ). q.1) e in cc k)
         by {v} (TakesFirst c2 t e is first same) =
-            let k : Done s ≡ Done t = ap (λ (q : Register × Progress ℕ). q.1) e in
+            let k : Done s ≡ Done t = ap (λ (q : Register × Advance ℕ). q.1) e in
             let p : s ≡ t = cc k in
             subst (λ (t : ℕ). (new_slot h.uses ≡ Some t) × (v.uses ≡ with_at h.uses t (use_taken enters))) (sym p) (first, same)
 
@@ -216,32 +216,32 @@ module _ {T : Type 0} (defers : T → Option ℕ) (batch_size roots : ℕ) (m : 
         )
       where
         by : {v : World T} → Comes h.uses enters 0 v (c3, Refused fault) → WhyRefused v.memory h.uses fault
-        by {v} (GoesOn c2 e is on) = absurd (let k = ap (λ (q : Register × Progress ℕ). q.1) e in cc k)
+        by {v} (GoesOn c2 e is on) = absurd (let k = ap (λ (q : Register × Advance ℕ). q.1) e in cc k)
         by {v} (IsRefused c2 f e is same none) =
-            let k : Refused fault ≡ Refused f = ap (λ (q : Register × Progress ℕ). q.1) e in
+            let k : Refused fault ≡ Refused f = ap (λ (q : Register × Advance ℕ). q.1) e in
             let p : fault ≡ f = cc k in
             subst (λ (f : Fault). WhyRefused v.memory h.uses f) (sym p) none
-        by {v} (TakesFirst c2 s e is first same) = absurd (let k = ap (λ (q : Register × Progress ℕ). q.1) e in cc k)
+        by {v} (TakesFirst c2 s e is first same) = absurd (let k = ap (λ (q : Register × Advance ℕ). q.1) e in cc k)
 
     -- further steps are needed
-    pub register_still : (m3 : Mem T) (c3 : Register) (p : Progress ℕ) → (p ≡ Goes) ⊎ (p ≡ Waits) → Steps Took value_at m2 (register_plan c) m3 (c3, p) → RegistersStill m3 c3
+    pub register_still : (m3 : Mem T) (c3 : Register) (p : Advance ℕ) → (p ≡ Goes) ⊎ (p ≡ Waits) → Steps Took value_at m2 (register_plan c) m3 (c3, p) → RegistersStill m3 c3
     register_still m3 c3 p e st = elim e as (λ _. RegistersStill m3 c3) [
-      | inl goes ↦ register_goes m3 c3 (subst (λ (q : Progress ℕ). Steps Took value_at m2 (register_plan c) m3 (c3, q)) goes st)
-      | inr waits ↦ register_waits m3 c3 (subst (λ (q : Progress ℕ). Steps Took value_at m2 (register_plan c) m3 (c3, q)) waits st)
+      | inl goes ↦ register_goes m3 c3 (subst (λ (q : Advance ℕ). Steps Took value_at m2 (register_plan c) m3 (c3, q)) goes st)
+      | inr waits ↦ register_waits m3 c3 (subst (λ (q : Advance ℕ). Steps Took value_at m2 (register_plan c) m3 (c3, q)) waits st)
     ]
 
-pub register_fewer : {T : Type 0} (m m2 : Mem T) (c c2 : Register) (p : Progress ℕ) → (p ≡ Goes) ⊎ (p ≡ Waits) → Steps Took value_at m (register_plan c) m2 (c2, p)
+pub register_fewer : {T : Type 0} (m m2 : Mem T) (c c2 : Register) (p : Advance ℕ) → (p ≡ Goes) ⊎ (p ≡ Waits) → Steps Took value_at m (register_plan c) m2 (c2, p)
     → register_to_go c2 < register_to_go c
 register_fewer m m2 c c2 p e st = register_ends m c m2 (c2, p) st (under p e)
   where
-    under : (p : Progress ℕ) → (p ≡ Goes) ⊎ (p ≡ Waits) → IsUnderWay p
+    under : (p : Advance ℕ) → (p ≡ Goes) ⊎ (p ≡ Waits) → IsUnderWay p
     under p e = elim e as (λ _. IsUnderWay p) [
-      | inl goes ↦ subst (λ (q : Progress ℕ). IsUnderWay q) (sym goes) tt
-      | inr waits ↦ subst (λ (q : Progress ℕ). IsUnderWay q) (sym waits) tt
+      | inl goes ↦ subst (λ (q : Advance ℕ). IsUnderWay q) (sym goes) tt
+      | inr waits ↦ subst (λ (q : Advance ℕ). IsUnderWay q) (sym waits) tt
     ]
 
 -- what is told with its last step
-abbrev pub Tells : {T : Type 0} → (T → Option ℕ) → ℕ → ℕ → Mem T → Bool → History → Progress ℕ → Type 0
+abbrev pub Tells : {T : Type 0} → (T → Option ℕ) → ℕ → ℕ → Mem T → Bool → History → Advance ℕ → Type 0
 Tells defers batch_size roots m enters h Goes = Unit {0}
 Tells defers batch_size roots m enters h Waits = Unit {0}
 Tells defers batch_size roots m enters h (Done s) = TellsSlot defers batch_size roots m enters h (Ok s)
@@ -249,11 +249,11 @@ Tells defers batch_size roots m enters h (Refused fault) = TellsSlot defers batc
 
 module _ {T : Type 0} (defers : T → Option ℕ) (batch_size roots : ℕ) (m : Mem T) (h : History) (had : IsHistory defers batch_size roots m h) (enters : Bool)
     (m2 : Mem T) (c : Register) (mid : RegistersStill defers batch_size roots m h had enters m2 c) (m3 : Mem T) (c3 : Register) where
-  told : (q : Progress ℕ) → Steps Took value_at m2 (register_plan c) m3 (c3, q) → Tells defers batch_size roots m3 enters h q
+  told : (q : Advance ℕ) → Steps Took value_at m2 (register_plan c) m3 (c3, q) → Tells defers batch_size roots m3 enters h q
   told Goes st = tt
   told Waits st = tt
   told (Done s) st = register_takes defers batch_size roots m h had enters m2 c mid m3 c3 s st
   told (Refused fault) st = register_refused defers batch_size roots m h had enters m2 c mid m3 c3 fault st
 
-  pub register_told : (p q : Progress ℕ) → p ≡ q → Steps Took value_at m2 (register_plan c) m3 (c3, p) → Tells defers batch_size roots m3 enters h q
-  register_told p q e st = told q (subst (λ (r : Progress ℕ). Steps Took value_at m2 (register_plan c) m3 (c3, r)) e st)
+  pub register_told : (p q : Advance ℕ) → p ≡ q → Steps Took value_at m2 (register_plan c) m3 (c3, p) → Tells defers batch_size roots m3 enters h q
+  register_told p q e st = told q (subst (λ (r : Advance ℕ). Steps Took value_at m2 (register_plan c) m3 (c3, r)) e st)

@@ -7,8 +7,8 @@ use Rattle.seize_words.specs.OneMemory.Mem.{Mem, Can, Took, Gives, after, value_
 use Rattle.seize_words.specs.OneMemory.Op.{Op, Out, Load, Store, Swap, Add, Or, Exchange, Make, Take, Rewrite, Room, Found, Stored, Exchanged, Made, Taken, Roomed}
 use Rattle.seize_words.specs.OneMemory.Plan.{Plan, Steps, May}
 use Rattle.seize.specs.declared.states.TheConstants.{BATCH, HELD, NEXT, LAST_SLOT}
-use Rattle.seize.specs.declared.progress.Progress.{Progress}
-use Rattle.seize.specs.declared.progress.Progress.TheVariants as progress
+use Rattle.seize.specs.declared.advance.Advance.{Advance}
+use Rattle.seize.specs.declared.advance.Advance.TheVariants as progress
 use Rattle.seize.specs.declared.rows.settle.Settle.{Settle}
 use Rattle.seize.specs.declared.rows.settle.Settling.{Settling}
 use Rattle.seize.specs.declared.rows.settle.Settling.TheVariants as settling
@@ -163,7 +163,7 @@ module _ {T : Type 0} where
 
   -- a step leaves this memory
   module _ (w : World T) (i : ℕ) (m : Mem T) where
-    pub registers_memory : (c d : Register) (o : Progress ℕ) → (registers_on w i c m (d, o)).memory ≡ m
+    pub registers_memory : (c d : Register) (o : Advance ℕ) → (registers_on w i c m (d, o)).memory ≡ m
     registers_memory c d progress.Goes = refl
     registers_memory c d progress.Waits = refl
     registers_memory c d (progress.Done s) = refl
@@ -175,7 +175,7 @@ module _ {T : Type 0} where
     settles_memory c d (Gave value) = refl
     settles_memory c d Done = refl
 
-    pub defers_memory : (s : ℕ) (d : Defer) (o : Progress Unit) → (defers_on w i s m (d, o)).memory ≡ m
+    pub defers_memory : (s : ℕ) (d : Defer) (o : Advance Unit) → (defers_on w i s m (d, o)).memory ≡ m
     defers_memory s d progress.Goes = refl
     defers_memory s d progress.Waits = refl
     defers_memory s d (progress.Done u) = refl
@@ -257,7 +257,7 @@ module _ {T : Type 0} {size : ℕ} (defers : T → Option ℕ) (w : World T) (go
     by_room : (bucket : ℕ) (out : Out T) (m : Mem T) → m ≡ after w.memory (Room bucket) out → SameBatches w.memory m
     by_room bucket out m is s = ap (λ (k : Mem T). words_of k (Slot s BATCH)) is ∙ room_same bucket out s
 
-    register_same : (c : Register) (p : Registering) → May Can Took value_at w.memory (registers.plan_at c p) → (m : Mem T) (end : Register × Progress ℕ)
+    register_same : (c : Register) (p : Registering) → May Can Took value_at w.memory (registers.plan_at c p) → (m : Mem T) (end : Register × Advance ℕ)
         → Steps Took value_at w.memory (registers.plan_at c p) m end → SameBatches w.memory m
     register_same c registering.Begin may m end st = by_room 0 st.0 m st.1.1
     register_same c registering.Look may m end st = spared (registers.plan_at c registering.Look) m end tt refl may st
@@ -270,7 +270,7 @@ module _ {T : Type 0} {size : ℕ} (defers : T → Option ℕ) (w : World T) (go
     -- deferring
 
     defer_same : (s : ℕ) (c : Defer) (p : Deferring) → FitsDefer (LAST_SLOT + 1) i (view defers w.memory) good.state good.extra s c.block c.table_word p
-        → May Can Took value_at w.memory (defer.plan_at c p) → (m : Mem T) (end : Defer × Progress Unit) → Steps Took value_at w.memory (defer.plan_at c p) m end → SameBatches w.memory m
+        → May Can Took value_at w.memory (defer.plan_at c p) → (m : Mem T) (end : Defer × Advance Unit) → Steps Took value_at w.memory (defer.plan_at c p) m end → SameBatches w.memory m
     defer_same s c deferring.Reads r may m end st = spared (defer.plan_at c deferring.Reads) m end tt refl may st
     defer_same s c (deferring.Links head) r may m end st = spared (defer.plan_at c (deferring.Links head)) m end tt refl may st
     defer_same s c (deferring.Pushes head) r may m end st = spared (defer.plan_at c (deferring.Pushes head)) m end tt (ap (λ at. not (is_field BATCH at)) r.on.at_is) may st

@@ -8,8 +8,8 @@ use Rattle.seize_words.specs.OneMemory.Mem.{Mem, value_at, word_at, with_word, s
 use Rattle.seize_words.specs.OneMemory.Plan.{Steps}
 use Rattle.seize_words.proofs.OneMemory.OneOwner.Operations.{loaded, stored, exchanged}
 use Rattle.seize.specs.declared.states.TheConstants.{NEXT}
-use Rattle.seize.specs.declared.progress.Progress.{Progress}
-use Rattle.seize.specs.declared.progress.Progress.TheVariants.{Goes, Done}
+use Rattle.seize.specs.declared.advance.Advance.{Advance}
+use Rattle.seize.specs.declared.advance.Advance.TheVariants.{Goes, Done}
 use Rattle.seize.specs.declared.rows.defer.Defer.{Defer}
 use Rattle.seize.specs.declared.rows.defer.Deferring.{Deferring}
 use Rattle.seize.specs.declared.rows.defer.Deferring.TheVariants as at
@@ -35,7 +35,7 @@ module _ {T : Type 0} where
   defer_to_go m c = to_go (words_of m c.table_word) c.stands
 
   -- the row goes on with less to go, or it has ended
-  abbrev pub Lower : ℕ → Mem T → Defer × Progress Unit → Type 0
+  abbrev pub Lower : ℕ → Mem T → Defer × Advance Unit → Type 0
   Lower k m end = ((end.1 ≡ Goes) × (defer_to_go m end.0 < k)) ⊎ (end.1 ≡ Done tt)
 
 links_same : (a b : ℕ) → a ≡ b → to_go a (at.Links b) ≡ 3
@@ -59,8 +59,8 @@ pushes_less a b = by (a == b)
     by false = omega arith
 
 module _ {T : Type 0} {size : ℕ} (defers : T → Option ℕ) (n : ℕ) (w : World T) (good : Good defers n size w) (i s : ℕ) (c : Defer) (is : w.row i ≡ Defers s c) where
-  goes_lower : (mem2 : Mem T) (p : Deferring) (end : Defer × Progress Unit) (k : ℕ) → end ≡ (standing c p, Goes) → to_go (words_of mem2 c.table_word) p < k → Lower k mem2 end
-  goes_lower mem2 p end k e less = subst (λ (q : Defer × Progress Unit). Lower k mem2 q) (sym e) (inl (refl, less))
+  goes_lower : (mem2 : Mem T) (p : Deferring) (end : Defer × Advance Unit) (k : ℕ) → end ≡ (standing c p, Goes) → to_go (words_of mem2 c.table_word) p < k → Lower k mem2 end
+  goes_lower mem2 p end k e less = subst (λ (q : Defer × Advance Unit). Lower k mem2 q) (sym e) (inl (refl, less))
 
   -- the block's own link is no head of a list
   links_apart : (mem2 : Mem T) (head : ℕ) → OnWay n i (view defers w.memory) good.state good.extra s c.block c.table_word → mem2 ≡ with_word w.memory (Entry (c.block / 2048) NEXT) head
@@ -72,7 +72,7 @@ module _ {T : Type 0} {size : ℕ} (defers : T → Option ℕ) (n : ℕ) (w : Wo
       ap (λ (m : Mem T). words_of m c.table_word) e ∙ ap (λ (f : At → ℕ). f c.table_word) wrote_it.words
       ∙ write_apart (words_of w.memory) (Entry (c.block / 2048) NEXT) head c.table_word (ap (λ (x : At). same_at x (Entry (c.block / 2048) NEXT)) r.at_is)
 
-  at_point : (p : Deferring) → FitsDefer n i (view defers w.memory) good.state good.extra s c.block c.table_word p → (mem2 : Mem T) (end : Defer × Progress Unit)
+  at_point : (p : Deferring) → FitsDefer n i (view defers w.memory) good.state good.extra s c.block c.table_word p → (mem2 : Mem T) (end : Defer × Advance Unit)
       → Steps Took value_at w.memory (plan_at c p) mem2 end → Lower (to_go (words_of w.memory c.table_word) p) mem2 end
   at_point at.Reads r mem2 end st =
       let d = loaded w.memory (head_read c) c.table_word mem2 end st in
@@ -93,9 +93,9 @@ module _ {T : Type 0} {size : ℕ} (defers : T → Option ℕ) (n : ℕ) (w : Wo
             let l = pushes_other (words_of w.memory c.table_word) head (λ z. d.1.1 (sym found ∙ z)) in
             goes_lower mem2 (at.Links d.0) end (to_go (words_of w.memory c.table_word) (at.Pushes head)) d.3 (omega (arith, k, l)))
       ]
-  at_point at.Over r mem2 end st = inr (ap (λ (q : Defer × Progress Unit). q.1) st.1)
+  at_point at.Over r mem2 end st = inr (ap (λ (q : Defer × Advance Unit). q.1) st.1)
 
   -- a step of it, which may be its last
-  pub defer_ends : (mem2 : Mem T) (end : Defer × Progress Unit) → Steps Took value_at w.memory (defer_plan c) mem2 end → Lower (defer_to_go w.memory c) mem2 end
+  pub defer_ends : (mem2 : Mem T) (end : Defer × Advance Unit) → Steps Took value_at w.memory (defer_plan c) mem2 end → Lower (defer_to_go w.memory c) mem2 end
   defer_ends mem2 end st =
       at_point c.stands (subst (λ (row : Row). FitsRow n i (view defers w.memory) good.state good.extra (length w.memory.slots) row) is (good.rows i)) mem2 end st

@@ -7,8 +7,8 @@ use Rattle.seize_words.specs.OneMemory.Mem.{Mem, value_at, Took}
 use Rattle.seize_words.specs.OneMemory.Plan.{Steps, Now}
 use Rattle.seize_words.proofs.OneMemory.OneOwner.Operations.{loaded, stored, exchanged, roomed}
 use Rattle.seize.specs.declared.states.TheConstants.{HEAD, IDLE, ACTIVE, LAST_SLOT}
-use Rattle.seize.specs.declared.progress.Progress.{Progress}
-use Rattle.seize.specs.declared.progress.Progress.TheVariants.{Goes, Waits, Done, Refused}
+use Rattle.seize.specs.declared.advance.Advance.{Advance}
+use Rattle.seize.specs.declared.advance.Advance.TheVariants.{Goes, Waits, Done, Refused}
 use Rattle.seize.specs.declared.rows.register.Register.{Register}
 use Rattle.seize.specs.declared.rows.register.Registering.{Registering}
 use Rattle.seize.specs.declared.rows.register.Registering.TheVariants as stands
@@ -28,18 +28,18 @@ abbrev pub register_to_go : Register → ℕ
 register_to_go c = to_go c.slot c.stands
 
 -- the row goes on after this step
-abbrev pub IsUnderWay : Progress ℕ → Type 0
+abbrev pub IsUnderWay : Advance ℕ → Type 0
 IsUnderWay Goes = Unit {0}
 IsUnderWay Waits = Unit {0}
 IsUnderWay (Done s) = ⊥
 IsUnderWay (Refused fault) = ⊥
 
 -- if it goes on, less is left
-abbrev Less : ℕ → Register × Progress ℕ → Type 0
+abbrev Less : ℕ → Register × Advance ℕ → Type 0
 Less k end = IsUnderWay end.1 → register_to_go end.0 < k
 
-less_as : (k : ℕ) (end want : Register × Progress ℕ) → end ≡ want → Less k want → Less k end
-less_as k end want e h = subst (λ (q : Register × Progress ℕ). Less k q) (sym e) h
+less_as : (k : ℕ) (end want : Register × Advance ℕ) → end ≡ want → Less k want → Less k end
+less_as k end want e h = subst (λ (q : Register × Advance ℕ). Less k q) (sym e) h
 
 less_further : (s : ℕ) → nat_lt s LAST_SLOT ≡ true → 3 * (LAST_SLOT - (s + 1)) + 4 < 3 * (LAST_SLOT - s) + 2
 less_further s h = let k : s < LAST_SLOT = grind arith in omega (arith, k)
@@ -62,7 +62,7 @@ taken_less c seen true u = omega arith
 taken_less c seen false u = absurd u
 
 module _ {T : Type 0} (m : Mem T) (c : Register) where
-  ends_at : (p : Registering) (m2 : Mem T) (end : Register × Progress ℕ) → Steps Took value_at m (plan_at c p) m2 end → Less (to_go c.slot p) end
+  ends_at : (p : Registering) (m2 : Mem T) (end : Register × Advance ℕ) → Steps Took value_at m (plan_at c p) m2 end → Less (to_go c.slot p) end
   ends_at stands.Begin m2 end st = elim (roomed m (begun c) 0 m2 end st) as (λ _. Less (to_go c.slot stands.Begin) end) [
     | inl d ↦ less_as (to_go c.slot stands.Begin) end (going c stands.Look) d.1 (λ u. omega arith)
     | inr d ↦ less_as (to_go c.slot stands.Begin) end (refused c Memory) d.1 (λ u. absurd u)
@@ -79,11 +79,11 @@ module _ {T : Type 0} (m : Mem T) (c : Register) where
     | inr d ↦ less_as (to_go c.slot (stands.Take seen)) end (further c) d.3 (further_less c (to_go c.slot (stands.Take seen)) (omega arith) (nat_lt c.slot LAST_SLOT) refl)
   ]
   ends_at stands.Enter m2 end st =
-      let d = stored {R = Register × Progress ℕ} m (λ out. Now (registered c)) (at.Slot c.slot HEAD) ACTIVE m2 end st in
+      let d = stored {R = Register × Advance ℕ} m (λ out. Now (registered c)) (at.Slot c.slot HEAD) ACTIVE m2 end st in
       less_as (to_go c.slot stands.Enter) end (registered c) d.1 (λ u. absurd u)
   ends_at stands.Registered m2 end st = less_as 0 end (c, Done c.slot) st.1 (λ u. absurd u)
   ends_at (stands.Refused fault) m2 end st = less_as 0 end (c, Refused fault) st.1 (λ u. absurd u)
 
   -- a step after which it goes on lowers the number
-  pub register_ends : (m2 : Mem T) (end : Register × Progress ℕ) → Steps Took value_at m (register_plan c) m2 end → IsUnderWay end.1 → register_to_go end.0 < register_to_go c
+  pub register_ends : (m2 : Mem T) (end : Register × Advance ℕ) → Steps Took value_at m (register_plan c) m2 end → IsUnderWay end.1 → register_to_go end.0 < register_to_go c
   register_ends m2 end st = ends_at c.stands m2 end st

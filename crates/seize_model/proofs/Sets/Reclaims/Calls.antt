@@ -5,7 +5,7 @@ use Rattle.seize_words.specs.declared.at.At.TheVariants as name
 use Rattle.seize_words.specs.OneMemory.Mem.{Mem}
 use Rattle.seize_words.proofs.OneMemory.OneOwner.Operations.{stored}
 use Rattle.seize.specs.declared.states.TheConstants.{HEAD, IDLE, LAST_SLOT}
-use Rattle.seize.specs.declared.progress.Progress.{Progress}
+use Rattle.seize.specs.declared.advance.Advance.{Advance}
 use Rattle.seize.specs.declared.rows.enter.Unregister.{Unregister}
 use Rattle.seize.specs.declared.rows.leave.Leave.{Leave}
 use Rattle.seize.specs.declared.rows.settle.Settle.{Settle}
@@ -133,7 +133,7 @@ module _ {T : Type 0} (defers : T → Option ℕ) (left_over : T → Bool) (n si
     frees_next steps s st h =
         let c = machine (at.Frees s) in
         let gives : Unregister = record { slot = s } in
-        let goes : Unregister × Progress Unit → ReclaimAll × Settled T = λ end. (next_free c s, Goes) in
+        let goes : Unregister × Advance Unit → ReclaimAll × Settled T = λ end. (next_free c s, Goes) in
         let back = steps_back goes v.memory h.1 (unregister_plan gives) h.2 h.3 in
         let v1 = with_use (with_row v i (Frees gives)) s Changing in
         let u = with_use (after_step v1 i h.1 Rests []) s Vacant in

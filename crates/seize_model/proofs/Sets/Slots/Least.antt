@@ -3,7 +3,7 @@ use Rattle.std.specs.Prelude.{Option, Some, None}
 use Rattle.std.proofs.Common.{◌≡◌, ℕ, zero, suc, ◌+◌, Bool, true, false, List, [], ◌∷◌, ◌⊎◌, inl, inr, refl, arith, subst, sym, ap, ◌∙◌}
 use Rattle.std.proofs.lemmas.Bool.{cases_eq}
 use Rattle.seize.specs.declared.states.TheConstants.{LAST_SLOT}
-use Rattle.seize.specs.declared.progress.Progress.{Progress}
+use Rattle.seize.specs.declared.advance.Advance.{Advance}
 use Rattle.seize.specs.declared.rows.register.Register.{Register}
 use Rattle.seize.specs.declared.rows.register.Registering.TheVariants as stands
 use Rattle.seize.specs.WaitingSets.{Change, Enters}
@@ -53,7 +53,7 @@ module _ {T : Type 0} (defers : T → Option ℕ) (n size : ℕ) (last : n ≡ L
       comes v st.1 (registers_alone defers n last w lone.good i c is lone.others uses enters on v st.0 st.1 st.2 st.3)
       (λ c2 is2 on2. runs_registered steps v w2 c2 lone2 is2 on2 h.2) h.2
     where
-      comes : (v : World T) (end : Register × Progress ℕ) → Comes uses enters i v end
+      comes : (v : World T) (end : Register × Advance ℕ) → Comes uses enters i v end
           → ((c2 : Register) → v.row i ≡ Registers c2 → RegistersOn uses enters v c2 → Registered uses enters w2.uses) → RunsOn defers steps i v w2 → Registered uses enters w2.uses
       comes v end (GoesOn c2 e is2 on2) rest run = rest c2 is2 on2
       comes v end (IsRefused c2 fault e is2 same none) rest run = ended steps v w2 is2 run (inl same)

@@ -6,8 +6,8 @@ use Rattle.seize_words.specs.OneMemory.Mem.{Mem, Took, value_at, with_word}
 use Rattle.seize_words.specs.OneMemory.Plan.{Steps, Ends, Now}
 use Rattle.seize_words.proofs.OneMemory.OneOwner.Operations.{swapped, stored}
 use Rattle.seize.specs.declared.states.TheConstants.{HEAD, FREE, ACTIVE}
-use Rattle.seize.specs.declared.progress.Progress.{Progress}
-use Rattle.seize.specs.declared.progress.Progress.TheVariants as progress
+use Rattle.seize.specs.declared.advance.Advance.{Advance}
+use Rattle.seize.specs.declared.advance.Advance.TheVariants as progress
 use Rattle.seize.specs.declared.rows.settle.Settle.{Settle}
 use Rattle.seize.specs.declared.rows.settle.Settled.{Settled}
 use Rattle.seize.specs.declared.rows.settle.Settled.TheVariants.{Goes, Waits, Gave, Done}
@@ -143,7 +143,7 @@ module _ {T : Type 0} (defers : T → Option ℕ) (i s : ℕ) where
     settles_still c d m (Gave value) = (v, row_keeps w.row (Settles d) tt)
     settles_still c d m Done = (vacant_less w.uses c.slot s v, row_keeps w.row Rests tt)
 
-    defers_still : (t : ℕ) (d : Defer) (m : Mem T) (o : Progress Unit) → Still (defers_on w i t m (d, o))
+    defers_still : (t : ℕ) (d : Defer) (m : Mem T) (o : Advance Unit) → Still (defers_on w i t m (d, o))
     defers_still t d m progress.Goes = (v, row_keeps w.row (Defers t d) tt)
     defers_still t d m progress.Waits = (v, row_keeps w.row (Defers t d) tt)
     defers_still t d m (progress.Done u) = (vacant_less w.uses t s v, row_keeps w.row Rests tt)

@@ -11,8 +11,8 @@ use Rattle.seize_words.specs.OneMemory.Place.{capacity}
 use Rattle.seize_words.specs.OneMemory.Plan.{Steps, Now}
 use Rattle.seize_words.proofs.OneMemory.OneOwner.Operations.{loaded, stored, exchanged, roomed}
 use Rattle.seize.specs.declared.states.TheConstants.{HEAD, NEVER, IDLE, ACTIVE, LAST_SLOT}
-use Rattle.seize.specs.declared.progress.Progress.{Progress}
-use Rattle.seize.specs.declared.progress.Progress.TheVariants.{Goes, Done, Refused}
+use Rattle.seize.specs.declared.advance.Advance.{Advance}
+use Rattle.seize.specs.declared.advance.Advance.TheVariants.{Goes, Done, Refused}
 use Rattle.seize.specs.declared.rows.register.Register.{Register}
 use Rattle.seize.specs.declared.rows.register.Registering.{Registering}
 use Rattle.seize.specs.declared.rows.register.Registering.TheVariants as stands
@@ -62,7 +62,7 @@ module _ {T : Type 0} where
     pub looks : LooksAt uses enters w.memory c.slot c.stands
 
   -- what a step of it comes to: it goes on, or it is refused, or it has taken the first slot that was vacant
-  pub data Comes (uses : ℕ → Use) (enters : Bool) (i : ℕ) (w2 : World T) (end : Register × Progress ℕ) : Type 0 where
+  pub data Comes (uses : ℕ → Use) (enters : Bool) (i : ℕ) (w2 : World T) (end : Register × Advance ℕ) : Type 0 where
     GoesOn : (c2 : Register) → end ≡ (c2, Goes) → w2.row i ≡ Registers c2 → RegistersOn uses enters w2 c2 → Comes uses enters i w2 end
     IsRefused : (c2 : Register) (fault : Fault) → end ≡ (c2, Refused fault) → w2.row i ≡ Rests → w2.uses ≡ uses → WhyRefused w2.memory uses fault → Comes uses enters i w2 end
     TakesFirst : (c2 : Register) (s : ℕ) → end ≡ (c2, Done s) → w2.row i ≡ Rests → new_slot uses ≡ Some s → w2.uses ≡ with_at uses s (use_taken enters) → Comes uses enters i w2 end
@@ -111,22 +111,22 @@ module _ {T : Type 0} {size : ℕ} (defers : T → Option ℕ) (n : ℕ) (last :
     (apart : NoneOnVacant i w) (uses : ℕ → Use) (enters : Bool) (on : RegistersOn uses enters w c) where
   -- how it ends
 
-  goes : (mem2 : Mem T) (c2 : Register) (end : Register × Progress ℕ) → end ≡ (c2, Goes) → c2.enters ≡ c.enters → LooksAt uses enters mem2 c2.slot c2.stands
+  goes : (mem2 : Mem T) (c2 : Register) (end : Register × Advance ℕ) → end ≡ (c2, Goes) → c2.enters ≡ c.enters → LooksAt uses enters mem2 c2.slot c2.stands
       → Comes uses enters i (registers_on w i c mem2 end) end
   goes mem2 c2 end e keeps looks =
-      subst (λ (q : Register × Progress ℕ). Comes uses enters i (registers_on w i c mem2 q) q) (sym e)
+      subst (λ (q : Register × Advance ℕ). Comes uses enters i (registers_on w i c mem2 q) q) (sym e)
       (GoesOn c2 refl (with_here w.row i (Registers c2)) (record { uses_same = on.uses_same; enters_same = keeps ∙ on.enters_same; looks = looks }))
 
-  refuses : (mem2 : Mem T) (c2 : Register) (fault : Fault) (end : Register × Progress ℕ) → end ≡ (c2, Refused fault) → WhyRefused mem2 uses fault
+  refuses : (mem2 : Mem T) (c2 : Register) (fault : Fault) (end : Register × Advance ℕ) → end ≡ (c2, Refused fault) → WhyRefused mem2 uses fault
       → Comes uses enters i (registers_on w i c mem2 end) end
   refuses mem2 c2 fault end e none =
-      subst (λ (q : Register × Progress ℕ). Comes uses enters i (registers_on w i c mem2 q) q) (sym e)
+      subst (λ (q : Register × Advance ℕ). Comes uses enters i (registers_on w i c mem2 q) q) (sym e)
       (IsRefused c2 fault refl (with_here w.row i Rests) on.uses_same none)
 
-  takes : (mem2 : Mem T) (c2 : Register) (end : Register × Progress ℕ) → end ≡ (c2, Done c.slot) → new_slot uses ≡ Some c.slot → registered_as c ≡ use_taken enters
+  takes : (mem2 : Mem T) (c2 : Register) (end : Register × Advance ℕ) → end ≡ (c2, Done c.slot) → new_slot uses ≡ Some c.slot → registered_as c ≡ use_taken enters
       → Comes uses enters i (registers_on w i c mem2 end) end
   takes mem2 c2 end e first used =
-      subst (λ (q : Register × Progress ℕ). Comes uses enters i (registers_on w i c mem2 q) q) (sym e)
+      subst (λ (q : Register × Advance ℕ). Comes uses enters i (registers_on w i c mem2 q) q) (sym e)
       (TakesFirst c2 c.slot refl (with_here w.row i Rests) first
       (ap (λ (f : ℕ → Use). with_at f c.slot (registered_as c)) on.uses_same ∙ ap (λ (u : Use). with_at uses c.slot u) used))
 
@@ -150,7 +150,7 @@ module _ {T : Type 0} {size : ℕ} (defers : T → Option ℕ) (n : ℕ) (last :
       (rw k at (good.used.fits c.slot))
 
   -- it passes over a slot that isn't vacant
-  passes : (mem2 : Mem T) (end : Register × Progress ℕ) → NoneVacant uses 0 c.slot → (uses c.slot ≡ Vacant → ⊥) → (t : Bool) → nat_lt c.slot LAST_SLOT ≡ t
+  passes : (mem2 : Mem T) (end : Register × Advance ℕ) → NoneVacant uses 0 c.slot → (uses c.slot ≡ Vacant → ⊥) → (t : Bool) → nat_lt c.slot LAST_SLOT ≡ t
       → end ≡ (if t then going (record c { slot = c.slot + 1 }) stands.Look else refused c SlotsUsedUp) → Comes uses enters i (registers_on w i c mem2 end) end
   passes mem2 end none here true lt e = goes mem2 (record c { slot = c.slot + 1; stands = stands.Look }) end e refl (none_more uses 0 c.slot none here)
   passes mem2 end none here false lt e =
@@ -161,18 +161,18 @@ module _ {T : Type 0} {size : ℕ} (defers : T → Option ℕ) (n : ℕ) (last :
       past h = let k : LAST_SLOT ≤ c.slot = grind arith in omega (arith, k, last)
 
   -- it is to take the slot, once there is room
-  turns_to : (seen : ℕ) (mem2 : Mem T) (end : Register × Progress ℕ) → NoneVacant uses 0 c.slot → words_of mem2 (at.Slot c.slot HEAD) ≡ seen → (o : Option ℕ)
+  turns_to : (seen : ℕ) (mem2 : Mem T) (end : Register × Advance ℕ) → NoneVacant uses 0 c.slot → words_of mem2 (at.Slot c.slot HEAD) ≡ seen → (o : Option ℕ)
       → end ≡ taking c seen o → Comes uses enters i (registers_on w i c mem2 end) end
   turns_to seen mem2 end none word (Some bucket) e = goes mem2 (record c { stands = stands.Widen bucket seen }) end e refl (none, word)
   turns_to seen mem2 end none word None e = goes mem2 (record c { stands = stands.Take seen }) end e refl (none, word)
 
-  looks_at : (v : ℕ) (mem2 : Mem T) (end : Register × Progress ℕ) → works_on (w.row i) ≡ 0 → NoneVacant uses 0 c.slot → words_of w.memory (at.Slot c.slot HEAD) ≡ v → mem2 ≡ w.memory
+  looks_at : (v : ℕ) (mem2 : Mem T) (end : Register × Advance ℕ) → works_on (w.row i) ≡ 0 → NoneVacant uses 0 c.slot → words_of w.memory (at.Slot c.slot HEAD) ≡ v → mem2 ≡ w.memory
       → (t : Bool) → can_be_taken v ≡ t → end ≡ (if t then taking c v (bucket_needed c.slot) else further c) → Comes uses enters i (registers_on w i c mem2 end) end
   looks_at v mem2 end mine none word unchanged true f e = turns_to v mem2 end none (ap (λ (m : Mem T). words_of m (at.Slot c.slot HEAD)) unchanged ∙ word) (bucket_needed c.slot) e
   looks_at v mem2 end mine none word unchanged false f e = passes mem2 end none (not_vacant v mine word f) (nat_lt c.slot LAST_SLOT) refl e
 
   -- it has taken the slot
-  wins : (mem2 : Mem T) (end : Register × Progress ℕ) (seen : ℕ) → c.stands ≡ stands.Take seen → new_slot uses ≡ Some c.slot → (t : Bool) → c.enters ≡ t
+  wins : (mem2 : Mem T) (end : Register × Advance ℕ) (seen : ℕ) → c.stands ≡ stands.Take seen → new_slot uses ≡ Some c.slot → (t : Bool) → c.enters ≡ t
       → end ≡ (if t then going c stands.Enter else registered c) → Comes uses enters i (registers_on w i c mem2 end) end
   wins mem2 end seen s first true k e = goes mem2 (record c { stands = stands.Enter }) end e refl (first, sym on.enters_same ∙ k)
   wins mem2 end seen s first false k e =
@@ -221,7 +221,7 @@ module _ {T : Type 0} {size : ℕ} (defers : T → Option ℕ) (n : ℕ) (last :
   on_at p k s h = ap works_on is ∙ ap (registering_on c.slot) s ∙ h
 
   steps_at : (p : Registering) → c.stands ≡ p → FitsRegister n i good.state good.extra (length w.memory.slots) c.slot p → LooksAt uses enters w.memory c.slot p
-      → (mem2 : Mem T) (end : Register × Progress ℕ) → Steps Took value_at w.memory (plan_at c p) mem2 end → Comes uses enters i (registers_on w i c mem2 end) end
+      → (mem2 : Mem T) (end : Register × Advance ℕ) → Steps Took value_at w.memory (plan_at c p) mem2 end → Comes uses enters i (registers_on w i c mem2 end) end
   steps_at stands.Begin s r l mem2 end st =
       elim (roomed w.memory (begun c) 0 mem2 end st) as (λ _. Comes uses enters i (registers_on w i c mem2 end) end) [
         | inl d ↦ goes mem2 (record c { stands = stands.Look }) end d.1 refl l
@@ -255,7 +255,7 @@ module _ {T : Type 0} {size : ℕ} (defers : T → Option ℕ) (n : ℕ) (last :
         | inr d ↦ absurd (d.1.1 (sym (word_found w.memory (at.Slot c.slot HEAD) d.0 d.1.0) ∙ l.1))
       ]
   steps_at stands.Enter s r l mem2 end st =
-      let d = stored {R = Register × Progress ℕ} w.memory (λ out. Now (registered c)) (at.Slot c.slot HEAD) ACTIVE mem2 end st in
+      let d = stored {R = Register × Advance ℕ} w.memory (λ out. Now (registered c)) (at.Slot c.slot HEAD) ACTIVE mem2 end st in
       takes mem2 (record c { stands = stands.Registered }) end d.1 l.0 (ap registered_use s ∙ sym (ap use_taken l.1))
   steps_at stands.Registered s r l mem2 end st = absurd r
   steps_at (stands.Refused fault) s r l mem2 end st = absurd r
@@ -263,12 +263,12 @@ module _ {T : Type 0} {size : ℕ} (defers : T → Option ℕ) (n : ℕ) (last :
   fits_here : FitsRegister n i good.state good.extra (length w.memory.slots) c.slot c.stands
   fits_here = subst (λ (row : Row). FitsRow n i (view defers w.memory) good.state good.extra (length w.memory.slots) row) is (good.rows i)
 
-  pub registers_apart : (w2 : World T) (mem2 : Mem T) (end : Register × Progress ℕ) → Steps Took value_at w.memory (register_plan c) mem2 end → w2 ≡ registers_on w i c mem2 end
+  pub registers_apart : (w2 : World T) (mem2 : Mem T) (end : Register × Advance ℕ) → Steps Took value_at w.memory (register_plan c) mem2 end → w2 ≡ registers_on w i c mem2 end
       → Comes uses enters i w2 end
   registers_apart w2 mem2 end st e = subst (λ (v : World T). Comes uses enters i v end) (sym e) (steps_at c.stands refl fits_here on.looks mem2 end st)
 
 -- while all others rest
 pub registers_alone : {T : Type 0} {size : ℕ} (defers : T → Option ℕ) (n : ℕ) (last : n ≡ LAST_SLOT + 1) (w : World T) (good : Good defers n size w) (i : ℕ) (c : Register) (is : w.row i ≡ Registers c)
-    (others : OthersRest i w) (uses : ℕ → Use) (enters : Bool) (on : RegistersOn uses enters w c) (w2 : World T) (mem2 : Mem T) (end : Register × Progress ℕ)
+    (others : OthersRest i w) (uses : ℕ → Use) (enters : Bool) (on : RegistersOn uses enters w c) (w2 : World T) (mem2 : Mem T) (end : Register × Advance ℕ)
     → Steps Took value_at w.memory (register_plan c) mem2 end → w2 ≡ registers_on w i c mem2 end → Comes uses enters i w2 end
 registers_alone defers n last w good i c is others uses enters on w2 mem2 end st e = registers_apart defers n last w good i c is (rest_apart i w others) uses enters on w2 mem2 end st e

@@ -9,8 +9,8 @@ use Rattle.seize_words.specs.OneMemory.Place.{capacity}
 use Rattle.seize_words.specs.OneMemory.Plan.{Steps}
 use Rattle.seize_words.proofs.OneMemory.Places.Words.{with_bucket_there}
 use Rattle.seize.specs.declared.states.TheConstants.{HEAD, FREE, IDLE, LAST_SLOT}
-use Rattle.seize.specs.declared.progress.Progress.{Progress}
-use Rattle.seize.specs.declared.progress.Progress.TheVariants.{Goes}
+use Rattle.seize.specs.declared.advance.Advance.{Advance}
+use Rattle.seize.specs.declared.advance.Advance.TheVariants.{Goes}
 use Rattle.seize.specs.declared.rows.register.Register.{Register}
 use Rattle.seize.specs.declared.rows.register.Registering.{Registering}
 use Rattle.seize.specs.declared.rows.register.Registering.TheVariants as stands
@@ -42,7 +42,7 @@ module _ {T : Type 0} (defers : T → Option ℕ) (n size : ℕ) (last : n ≡ L
   abbrev Gets : World T → Type 0
   Gets v = (steps : ℕ) × (u : World T) × RunsOn defers steps i v u × (u.memory ≡ mem_after) × (u.hand ≡ v.hand) × (u.log ≡ v.log)
 
-  steps_on : (v : World T) (t : ℕ) (p : Registering) (m2 : Mem T) (end : Register × Progress ℕ) → At t p v → Steps Took value_at w.memory (plan_at (registering t p) p) m2 end
+  steps_on : (v : World T) (t : ℕ) (p : Registering) (m2 : Mem T) (end : Register × Advance ℕ) → At t p v → Steps Took value_at w.memory (plan_at (registering t p) p) m2 end
       → Steps' defers i (v.row i) v (registers_on v i (registering t p) m2 end)
   steps_on v t p m2 end at st =
       subst (λ (row : Row). Steps' defers i row v (registers_on v i (registering t p) m2 end)) (sym at.0)

@@ -1,5 +1,5 @@
 use Rattle.std.proofs.Common.{subst, sym, [], refl, ◌∙◌}
-use Rattle.seize.specs.declared.progress.Progress.TheVariants.{Done, Refused}
+use Rattle.seize.specs.declared.advance.Advance.TheVariants.{Done, Refused}
 use Rattle.seize.specs.declared.rows.register.Register.{Register}
 use Rattle.seize_model.proofs.Alone.Whole.Register.{RegistersStill, register_begins, register_may, register_still, register_fewer, register_told}
 use Rattle.seize_model.proofs.Alone.Spared.Operations.{spares_same, spares_twice}

@@ -36,7 +36,7 @@ use Rattle.seize_seats.specs.Seats.Doors.{block_type, block_bytes, words_from, d
 use Rattle.seize_seats.proofs.Seats.Places.Plots.{laid_out}
 use Rattle.seize_seats.specs.Seats.Plots.{AreEmpty}
 use Rattle.seize_seats.specs.contracts.row.Row as row
-use Rattle.seize_seats.specs.contracts.plot.Deed as deed_of
+use Rattle.seize_seats.specs.contracts.plot.StripRight as deed_of
 use Rattle.seize_seats.proofs.Plots.Fields.{token, mark_told, one_of, one_good, places_told}
 use Rattle.seize_seats.specs.Seats.Owned.{stride}
 use Rattle.seize_seats.proofs.Seats.Places.Slotted.{full_is, Whole}

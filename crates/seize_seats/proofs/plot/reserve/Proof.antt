@@ -43,7 +43,7 @@ use Rattle.std.proofs.raw_atomic.Calls.{fm}
 use Rattle.seize_seats.specs.Seats.Doors.{block_type, before, block_bytes, words_from, deed}
 use Rattle.seize_seats.proofs.Seats.Places.Plots.{fits, laid_out}
 use Rattle.seize_seats.specs.contracts.row.Row as row
-use Rattle.seize_seats.specs.contracts.plot.Deed as deed_of
+use Rattle.seize_seats.specs.contracts.plot.StripRight as deed_of
 use Rattle.seize_seats.proofs.Plots.Fields.{token, Mark, mark_made, one_of, Places, places_made}
 use Rattle.seize_seats.proofs.Seats.Places.Plotted as plotted
 use Rattle.seize_seats.specs.contracts.plot.reserve.{ended, clauses}

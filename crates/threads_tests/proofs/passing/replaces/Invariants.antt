@@ -1,5 +1,5 @@
 use Rattle.std.proofs.Common.{◌≡◌}
-use Rattle.threads_calls.specs.Given.SeizeViewsDeclared.view.View.TheVariants.{Outside}
+use Rattle.threads_calls.specs.Given.SeizeViewsDeclared.view.SlotView.TheVariants.{Outside}
 use Rattle.threads_tests.proofs.passing.replaces.Given as goal
 
 -- the session keeps its slot

@@ -1,6 +1,6 @@
 use Rattle.std.proofs.Common.{◌≡◌}
 use Rattle.threads_calls.specs.Given.SeizeViewsDeclared.view.Has.TheVariants.{Nothing}
-use Rattle.threads_calls.specs.Given.SeizeViewsDeclared.view.View.TheVariants.{Inside}
+use Rattle.threads_calls.specs.Given.SeizeViewsDeclared.view.SlotView.TheVariants.{Inside}
 use Rattle.threads_tests.proofs.removing.stores.Given as goal
 
 -- the session stays in its section

@@ -8,7 +8,7 @@ use Rattle.many_calls.specs.Given.SeizeWordsOp.{Store}
 use Rattle.many_calls.specs.Given.SeizeWordsPlan.{Plan, Turn, Do, Now, Steps}
 use Rattle.many_calls.proofs.Given.SeizeWordsOneOwner.Operations.{stored}
 use Rattle.many_calls.specs.Given.SeizeWorld.{World, with_at}
-use Rattle.many_calls.specs.Given.SeizeDeclared.progress.Progress.{Progress}
+use Rattle.many_calls.specs.Given.SeizeDeclared.advance.Advance.{Advance}
 use Rattle.many_calls.specs.Given.TablesDeclared.node.Node.{Node}
 use Rattle.many_calls.specs.Given.TablesDeclared.setting.Setting.{Setting}
 use Rattle.many_calls.specs.Given.ResizeNewMap.{goes, refused}
@@ -22,20 +22,20 @@ use Rattle.many_calls.proofs.Together.At.{at_same}
 
 module _ {T : Type 0} where
   -- it takes the root without asking whether it is free
-  abbrev takes_blindly : NewMap → Plan T (NewMap × Progress Setting)
+  abbrev takes_blindly : NewMap → Plan T (NewMap × Advance Setting)
   takes_blindly n = Do (Store (Used n.setting.root) 1) (λ out. Now (goes n at.Shards))
 
   -- it is refused, and keeps its root
-  abbrev keeps_its_root : NewMap → Fault → Plan T (NewMap × Progress Setting)
+  abbrev keeps_its_root : NewMap → Fault → Plan T (NewMap × Advance Setting)
   keeps_its_root n fault = Turn (Now (refused n fault))
 
   -- it goes on to give its root up, and forgets its counter
-  abbrev forgets_its_counter : NewMap → Fault → Plan T (NewMap × Progress Setting)
+  abbrev forgets_its_counter : NewMap → Fault → Plan T (NewMap × Advance Setting)
   forgets_its_counter n fault = Turn (Now (goes n (at.Frees fault)))
 
 module _ {K Q : Type 0} (V : Type 0) (same : K → K → Bool) (asks : Q → K → Bool) (batch_size roots : ℕ) (slot : ℕ → ℕ)
     (w : World (Node K V)) (maps : ℕ → Option (Standing K)) (calls : ℕ → ℕ → Option (UnderWay K V Q)) (makers : ℕ → Option (Beginning K))
-    (all : MakingsTogether V same asks batch_size roots slot w maps calls makers) (i : ℕ) (b : Beginning K) (makes : makers i ≡ Some b) (m2 : Mem (Node K V)) (end : NewMap × Progress Setting) where
+    (all : MakingsTogether V same asks batch_size roots slot w maps calls makers) (i : ℕ) (b : Beginning K) (makes : makers i ≡ Some b) (m2 : Mem (Node K V)) (end : NewMap × Advance Setting) where
   -- where a map stands at that root, the making has it, too
   takes_a_maps_root : (m : ℕ) (s : Standing K) → maps m ≡ Some s → b.machine.setting.root ≡ s.setting.root → Steps Took value_at w.memory (takes_blindly b.machine) m2 end
       → StepsOfMaking V same asks batch_size roots slot w maps calls makers i b m2 end → ⊥

@@ -18,8 +18,8 @@ use Rattle.many_calls.specs.Given.RawDeclared.machines.answer.Called.{Called}
 use Rattle.many_calls.specs.Given.RawDeclared.machines.answer.End.TheVariants as ends
 use Rattle.many_calls.specs.Given.RawDeclared.machines.answer.KeyAnswer.TheVariants as answers
 use Rattle.many_calls.specs.Given.RawDeclared.machines.asking.Asking.TheVariants as asking
-use Rattle.many_calls.specs.Given.RawDeclared.machines.asking.Reply.{Reply}
-use Rattle.many_calls.specs.Given.RawDeclared.machines.asking.Reply.TheVariants as reply
+use Rattle.many_calls.specs.Given.RawDeclared.machines.asking.MachineReply.{MachineReply}
+use Rattle.many_calls.specs.Given.RawDeclared.machines.asking.MachineReply.TheVariants as reply
 use Rattle.many_calls.specs.Given.RawDeclared.machines.call.Calling.TheVariants as at
 use Rattle.many_calls.specs.Given.RawDeclared.machines.call.KeyCall.{KeyCall}
 use Rattle.many_calls.specs.Given.RuleChart.{Still, Holds, Chart, is_taken}
@@ -184,7 +184,7 @@ module _ (asks : ℕ → ℕ → Bool) (maps : ℕ → Option (Standing ℕ)) (c
 
 -- It was told about that pair, and goes against that, by its answer: told to store 80 there, it answers that it has found it; told to abort, it removes
 -- the pair and says so. It can do both.
-abbrev asked : Reply ℕ → List (Asked ℕ)
+abbrev asked : MachineReply ℕ → List (Asked ℕ)
 asked said = record { about = Some 0; told = said } ∷ []
 
 tells_steps : (m : Mem (Node ℕ ℕ)) × (end : KeyCall ℕ ℕ ℕ × Called (Node ℕ ℕ)) × Steps Took value_at its_memory (tells_at_once (replied asker (reply.Insert 80)).0 (answers.Found 8192)) m end
@@ -195,11 +195,11 @@ removes_and_tells_steps = (with_word its_memory (Word 3 PLACES) TOMBSTONE, told_
 
 module _ (asks : ℕ → ℕ → Bool) (maps : ℕ → Option (Standing ℕ)) (calls : ℕ → ℕ → Option (UnderWay ℕ ℕ ℕ)) (number : ℕ) (u : CallOnKey ℕ ℕ ℕ) (called : u.call ≡ asker)
     (untold : u.pair ≡ IsTold computes (Some 7) []) where
-  names : (said : Reply ℕ) → IsWordOf hash its_memory with_seven blocks (Some 7) (asked said) 8192 (Some 0)
+  names : (said : MachineReply ℕ) → IsWordOf hash its_memory with_seven blocks (Some 7) (asked said) 8192 (Some 0)
   names said = ((omega arith, refl), false, refl)
 
   -- a reply that it takes is kept
-  kept : (said : Reply ℕ) → (replied asker said).1 ≡ Ok tt → (told_about u (Some 0) said).pair ≡ IsTold computes (Some 7) (asked said)
+  kept : (said : MachineReply ℕ) → (replied asker said).1 ≡ Ok tt → (told_about u (Some 0) said).pair ≡ IsTold computes (Some 7) (asked said)
   kept said taken =
       ap (λ (g : Given ℕ ℕ). and_told g (Some 0) said (replied u.call said).1) untold ∙ ap (λ (p : KeyCall ℕ ℕ ℕ). and_told (IsTold computes (Some 7) []) (Some 0) said (replied p said).1) called
       ∙ ap (and_told (IsTold computes (Some 7) []) (Some 0) said) taken

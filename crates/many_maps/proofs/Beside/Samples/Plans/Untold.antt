@@ -17,8 +17,8 @@ use Rattle.many_calls.specs.Given.RawDeclared.machines.answer.Called.{Called}
 use Rattle.many_calls.specs.Given.RawDeclared.machines.answer.End.TheVariants as ends
 use Rattle.many_calls.specs.Given.RawDeclared.machines.answer.KeyAnswer.{KeyAnswer}
 use Rattle.many_calls.specs.Given.RawDeclared.machines.answer.KeyAnswer.TheVariants as answers
-use Rattle.many_calls.specs.Given.RawDeclared.machines.asking.Reply.{Reply}
-use Rattle.many_calls.specs.Given.RawDeclared.machines.asking.Reply.TheVariants as reply
+use Rattle.many_calls.specs.Given.RawDeclared.machines.asking.MachineReply.{MachineReply}
+use Rattle.many_calls.specs.Given.RawDeclared.machines.asking.MachineReply.TheVariants as reply
 use Rattle.many_calls.specs.Given.RawDeclared.machines.call.KeyCall.{KeyCall}
 use Rattle.many_calls.specs.Given.RuleChart.{Still, Chart}
 use Rattle.many_calls.specs.Given.RuleInWorld.{IsFramed, IsMapIn}
@@ -93,7 +93,7 @@ module _ {K V Q : Type 0} (same : K → K → Bool) (hash : K → ℕ) (asks : Q
   denies_what_it_is_to_store value told end steps l = let abort = leaves answers.Absent tt (subst Leads steps.1 l) in cc (told, abort)
 
   -- It was not told last to remove what is not there, and is refused so.
-  pub is_refused_untold : (told : Reply V) → last_told None asked ≡ Some told → (told ≡ reply.Remove → ⊥) → (end : KeyCall K V Q × Called (Node K V))
+  pub is_refused_untold : (told : MachineReply V) → last_told None asked ≡ Some told → (told ≡ reply.Remove → ⊥) → (end : KeyCall K V Q × Called (Node K V))
       → Steps Took value_at w.memory (refuses_at_once u.call) m2 end → Leads end → ⊥
   is_refused_untold told is other end steps l =
       let so = ((subst Leads steps.1 l).refuses RemoveNothing refl).2 refl in

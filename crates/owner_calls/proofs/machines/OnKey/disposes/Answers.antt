@@ -3,7 +3,7 @@ use Rattle.std.proofs.Common.{sym, ap, subst, ◌∙◌}
 use Rattle.map_straight.specs.Given.ResizeDeclared.dispose.Disposing.{Disposing}
 use Rattle.papaya_raw.specs.declared.machines.call.Calling.{Calling}
 use Rattle.papaya_raw.specs.declared.machines.call.Calling.TheVariants as at
-use Rattle.seize.specs.declared.progress.Progress.TheVariants as progress
+use Rattle.seize.specs.declared.advance.Advance.TheVariants as progress
 use Rattle.owner_whole.specs.Strides.Ending.{Ends, Strides}
 use Rattle.owner_calls.specs.Owned.Inside.{answered, retiring}
 use Rattle.owner_calls.specs.declared.machines.Stop.TheVariants as stop

@@ -1,7 +1,7 @@
 -- By the operation that was done, whose answer has the map.
 use Rattle.std.proofs.Common.{◌∙◌, ap, refl}
 use Rattle.owner_asks.specs.Asks.Closures.{ComputesAs}
-use Rattle.owner_rests.specs.declared.change.Compute.TheVariants as compute
+use Rattle.owner_rests.specs.declared.change.ComputedChange.TheVariants as compute
 use Rattle.owner_map.proofs.Did.{exchanges, removes, takes}
 use Rattle.owner_map.proofs.map.HashMap.compute.Goals as goal
 

@@ -2,7 +2,7 @@
 use Rattle.std.specs.Prelude.{◌≡◌, ℕ, Bool, Some}
 use Rattle.std.proofs.Common.{sym, subst, inl, inr}
 use Rattle.papaya_raw.specs.Machine.{machine_asked, machine_replied}
-use Rattle.papaya_raw.specs.declared.machines.asking.Reply.{Reply}
+use Rattle.papaya_raw.specs.declared.machines.asking.MachineReply.{MachineReply}
 use Rattle.papaya_raw.specs.declared.machines.call.KeyCall.{KeyCall}
 use Rattle.papaya_raw.specs.declared.machines.machine.Machine.{Machine}
 use Rattle.run_logged.specs.Given.ResizeDeclared.new_table.NewTable.{NewTable}
@@ -65,7 +65,7 @@ calls_begin_further same m s further standing map i u begins = goes_on m s furth
 
 -- one that goes on by a reply, or as it is asked for its next pair
 module _ {K V : Type 0} (m : Moment K V) (s : Scene K V) (further : ShowsFurther m s) (map i : ℕ) (u : UnderWay K V K) (here : s.calls map i ≡ Some u) (next : UnderWay K V K) where
-  pub calls_take_further : (reply : Reply V) → machine_of next ≡ (machine_replied (machine_of u) reply).0 → ShowsFurther m (scene_with map i next s)
+  pub calls_take_further : (reply : MachineReply V) → machine_of next ≡ (machine_replied (machine_of u) reply).0 → ShowsFurther m (scene_with map i next s)
   calls_take_further reply is =
       goes_on m s further map i next (subst (λ (z : Machine K V K). MachineMakes (IsFurther (lengths_of map m)) z) (sym is) (reply_makes (IsFurther (lengths_of map m)) K V K (machine_of u) reply (further map i u here)))
 

@@ -2,8 +2,8 @@
 use Rattle.std.specs.Prelude.{ℕ, ◌==◌, if◌then◌else◌, Bool, true, false, Option, Some, None, Ok, Err}
 use Rattle.papaya_raw.specs.Given.ResizeCopier.{copier_plan}
 use Rattle.run_executor.specs.Given.SeizeWordsOp.{Out, Found, Exchanged, Made, Taken}
-use Rattle.papaya_raw.specs.Given.SeizeDeclared.progress.Progress.{Progress}
-use Rattle.papaya_raw.specs.Given.SeizeDeclared.progress.Progress.TheVariants as progress
+use Rattle.papaya_raw.specs.Given.SeizeDeclared.advance.Advance.{Advance}
+use Rattle.papaya_raw.specs.Given.SeizeDeclared.advance.Advance.TheVariants as progress
 use Rattle.papaya_raw.specs.Given.SeizeDeclared.rows.settle.Settled.{Settled}
 use Rattle.papaya_raw.specs.Given.SeizeDeclared.rows.settle.Settled.TheVariants as settled
 use Rattle.papaya_raw.specs.Given.TablesChunks.{is_incremental}
@@ -26,8 +26,8 @@ use Rattle.run_logged.specs.Given.ResizeDeclared.copier.Copier.{Copier}
 use Rattle.run_logged.specs.Given.ResizeDeclared.dispose.Dispose.{Dispose}
 use Rattle.run_logged.specs.Given.ResizeDeclared.lookup.Lookup.{Lookup}
 use Rattle.run_logged.specs.Given.ResizeDeclared.new_table.NewTable.{NewTable}
-use Rattle.run_logged.specs.Given.ResizeDeclared.outcome.Outcome.{Outcome}
-use Rattle.run_logged.specs.Given.ResizeDeclared.outcome.Outcome.TheVariants as outcome
+use Rattle.run_logged.specs.Given.ResizeDeclared.yielding.Yielding.{Yielding}
+use Rattle.run_logged.specs.Given.ResizeDeclared.yielding.Yielding.TheVariants as outcome
 use Rattle.papaya_raw.specs.declared.machines.answer.KeyAnswer.{KeyAnswer}
 use Rattle.papaya_raw.specs.declared.machines.answer.End.{End}
 use Rattle.papaya_raw.specs.declared.machines.answer.Called.{Called}
@@ -40,8 +40,8 @@ use Rattle.papaya_raw.specs.declared.machines.asking.Asking.{Asking}
 use Rattle.papaya_raw.specs.declared.machines.asking.Asking.TheVariants as asking
 use Rattle.papaya_raw.specs.declared.machines.asking.Gap.{Gap}
 use Rattle.papaya_raw.specs.declared.machines.asking.Gap.TheVariants as gaps
-use Rattle.papaya_raw.specs.declared.machines.asking.Reply.{Reply}
-use Rattle.papaya_raw.specs.declared.machines.asking.Reply.TheVariants as replies
+use Rattle.papaya_raw.specs.declared.machines.asking.MachineReply.{MachineReply}
+use Rattle.papaya_raw.specs.declared.machines.asking.MachineReply.TheVariants as replies
 use Rattle.papaya_raw.specs.declared.machines.asking.Takes.{Takes}
 use Rattle.papaya_raw.specs.declared.machines.asking.Takes.TheVariants as takes
 use Rattle.papaya_raw.specs.declared.machines.asking.Told.{Told}
@@ -117,20 +117,20 @@ module _ (Such : NewTable → Type 0) {K V Q : Type 0} where
     counted_makes removed = either (removed == 0) _ _ tt tt
 
     -- what machines within it tell
-    looked_makes : (end : Lookup × Progress (Option ℕ)) → CallEnds (looked p end)
+    looked_makes : (end : Lookup × Advance (Option ℕ)) → CallEnds (looked p end)
     looked_makes (l, progress.Goes) = tt
     looked_makes (l, progress.Waits) = tt
     looked_makes (l, progress.Done (Some found)) = tt
     looked_makes (l, progress.Done None) = tt
     looked_makes (l, progress.Refused fault) = tt
 
-    first_makes : (end : NewTable × Progress Table) → CallEnds (first_made p end)
+    first_makes : (end : NewTable × Advance Table) → CallEnds (first_made p end)
     first_makes (n, progress.Goes) = tt
     first_makes (n, progress.Waits) = tt
     first_makes (n, progress.Done table) = tt
     first_makes (n, progress.Refused fault) = ending_makes _
 
-    next_makes : (end : NewTable × Progress Table) → CallEnds (next_made p end)
+    next_makes : (end : NewTable × Advance Table) → CallEnds (next_made p end)
     next_makes (n, progress.Goes) = tt
     next_makes (n, progress.Waits) = tt
     next_makes (n, progress.Done table) = on_makes table
@@ -142,14 +142,14 @@ module _ (Such : NewTable → Type 0) {K V Q : Type 0} where
     disposed_makes answer (d, settled.Gave value) = tt
     disposed_makes answer (d, settled.Done) = tt
 
-    pub copied_makes : (end : Copier × Outcome (Node K V) Table) → CopierEnds Such K V end → CallEnds (copied p end)
+    pub copied_makes : (end : Copier × Yielding (Node K V) Table) → CopierEnds Such K V end → CallEnds (copied p end)
     copied_makes (copier, outcome.Goes) so = so
     copied_makes (copier, outcome.Waits) so = so
     copied_makes (copier, outcome.Gave value) so = so
     copied_makes (copier, outcome.Done table) so = tt
     copied_makes (copier, outcome.Refused fault) so = ending_makes _
 
-    pub helped_makes : (goal : Table) (end : Copier × Outcome (Node K V) Table) → CopierEnds Such K V end → CallEnds (helped p goal end)
+    pub helped_makes : (goal : Table) (end : Copier × Yielding (Node K V) Table) → CopierEnds Such K V end → CallEnds (helped p goal end)
     helped_makes goal (copier, outcome.Goes) so = so
     helped_makes goal (copier, outcome.Waits) so = so
     helped_makes goal (copier, outcome.Gave value) so = so
@@ -239,7 +239,7 @@ module _ (Such : NewTable → Type 0) {K V Q : Type 0} where
     on_asks (asking.Fills word) = on_fills word
     on_asks (asking.GivesUp word) = on_given_up word
 
-    module _ (goes : (n : NewTable) → Such n → AlwaysOf (λ (e : NewTable × Progress Table). Such e.0) (new_table_plan {K = K} {V = V} n)) where
+    module _ (goes : (n : NewTable) → Such n → AlwaysOf (λ (e : NewTable × Advance Table). Such e.0) (new_table_plan {K = K} {V = V} n)) where
       copying_makes : (copier : Copier) → CallMakes Such (at.Copies copier) → CallBegins Such (at.Copies copier) → AlwaysOf (CopierEnds Such K V) (copier_plan hash copier)
       copying_makes copier makes begins = copier_makes Such K V hash goes copier makes begins
 
@@ -281,14 +281,14 @@ module _ (Such : NewTable → Type 0) {K V Q : Type 0} where
   gap_makes p gaps.Past = tt
   gap_makes p gaps.Last = tt
 
-  absent_makes : (t : Takes) (p : KeyCall K V Q) (gap : Gap) (reply : Reply V) → CallMakes Such p.stands → CallMakes Such (absent_told t p gap reply).0.stands
+  absent_makes : (t : Takes) (p : KeyCall K V Q) (gap : Gap) (reply : MachineReply V) → CallMakes Such p.stands → CallMakes Such (absent_told t p gap reply).0.stands
   absent_makes takes.Values p gap (replies.Insert value) here = gap_makes (with_absent p value) gap
   absent_makes takes.Changes p gap (replies.Insert value) here = gap_makes (with_absent p value) gap
   absent_makes takes.Changes p gap replies.Remove here = ending_makes p _
   absent_makes takes.Changes p gap replies.Abort here = ending_makes p _
   absent_makes _ p gap _ here = here
 
-  present_makes : (t : Takes) (p : KeyCall K V Q) (word : ℕ) (reply : Reply V) → CallMakes Such p.stands → CallMakes Such (present_told t p word reply).0.stands
+  present_makes : (t : Takes) (p : KeyCall K V Q) (word : ℕ) (reply : MachineReply V) → CallMakes Such p.stands → CallMakes Such (present_told t p word reply).0.stands
   present_makes takes.Values p word (replies.Insert value) here = tt
   present_makes takes.Changes p word (replies.Insert value) here = tt
   present_makes takes.Changes p word replies.Remove here = burying_makes (with_present p word tells.Removes) word
@@ -297,10 +297,10 @@ module _ (Such : NewTable → Type 0) {K V Q : Type 0} where
   present_makes takes.Choices p word replies.No here = ending_makes p _
   present_makes _ p word _ here = here
 
-  told_makes_at : (stands : Calling) (p : KeyCall K V Q) (reply : Reply V) → CallMakes Such p.stands → CallMakes Such (told_at stands p reply).0.stands
+  told_makes_at : (stands : Calling) (p : KeyCall K V Q) (reply : MachineReply V) → CallMakes Such p.stands → CallMakes Such (told_at stands p reply).0.stands
   told_makes_at (at.Asks (asking.Absent gap)) p reply here = absent_makes p.replies.takes p gap reply here
   told_makes_at (at.Asks (asking.Present word)) p reply here = present_makes p.replies.takes p word reply here
   told_makes_at _ p reply here = here
 
-  pub reply_makes : (p : KeyCall K V Q) (reply : Reply V) → CallMakes Such p.stands → CallMakes Such (replied p reply).0.stands
+  pub reply_makes : (p : KeyCall K V Q) (reply : MachineReply V) → CallMakes Such p.stands → CallMakes Such (replied p reply).0.stands
   reply_makes p reply here = told_makes_at p.stands p reply here

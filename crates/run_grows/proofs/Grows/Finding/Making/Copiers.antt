@@ -3,8 +3,8 @@ use Rattle.std.specs.Prelude.{ℕ, ◌+◌, ◌-◌, ◌%◌, ◌^◌, ◌==◌,
 use Rattle.run_executor.specs.Given.SeizeWordsOp.{Out, Found, Exchanged}
 use Rattle.run_executor.specs.Given.SeizeWordsWord.{block_in}
 use Rattle.run_executor.specs.Given.SeizeWordsDeclared.fault.Fault.{Fault}
-use Rattle.papaya_raw.specs.Given.SeizeDeclared.progress.Progress.{Progress}
-use Rattle.papaya_raw.specs.Given.SeizeDeclared.progress.Progress.TheVariants as progress
+use Rattle.papaya_raw.specs.Given.SeizeDeclared.advance.Advance.{Advance}
+use Rattle.papaya_raw.specs.Given.SeizeDeclared.advance.Advance.TheVariants as progress
 use Rattle.papaya_raw.specs.Given.SeizeDeclared.rows.settle.Settle.{Settle}
 use Rattle.papaya_raw.specs.Given.SeizeDeclared.rows.settle.Settled.{Settled}
 use Rattle.papaya_raw.specs.Given.SeizeDeclared.rows.settle.Settled.TheVariants as settled
@@ -30,7 +30,7 @@ use Rattle.run_logged.specs.Given.ResizeDeclared.copier.Copier.{Copier}
 use Rattle.run_logged.specs.Given.ResizeDeclared.copier.Copying.{Copying}
 use Rattle.run_logged.specs.Given.ResizeDeclared.copier.Copying.TheVariants as at
 use Rattle.run_logged.specs.Given.ResizeDeclared.new_table.NewTable.{NewTable}
-use Rattle.run_logged.specs.Given.ResizeDeclared.outcome.Outcome.{Outcome}
+use Rattle.run_logged.specs.Given.ResizeDeclared.yielding.Yielding.{Yielding}
 use Rattle.run_executor.proofs.Given.RuleKeys.Always.{Always, AlwaysOf, always_if, always_plan_as}
 use Rattle.run_sweeps.proofs.Given.FindsShaping.{always_plan_more}
 use Rattle.run_grows.specs.Grows.Further.{CopierMakes}
@@ -46,7 +46,7 @@ module _ (Such : NewTable → Type 0) where
   Makes p = CopierMakes Such p.stands
 
   -- so it is after a step
-  abbrev pub CopierEnds : (K V : Type 0) → Copier × Outcome (Node K V) Table → Type 0
+  abbrev pub CopierEnds : (K V : Type 0) → Copier × Yielding (Node K V) Table → Type 0
   CopierEnds K V end = CopierMakes Such end.0.stands
 
   -- of two, where both make such
@@ -83,18 +83,18 @@ module _ (Such : NewTable → Type 0) where
   put_makes : (p : Copier) (word : ℕ) → Makes (pair_put p word)
   put_makes p word = either (is_incremental p.setting.mode) _ _ tt (done_makes p)
 
-  module _ (K V : Type 0) (hash : K → ℕ) (goes : (n : NewTable) → Such n → AlwaysOf (λ (e : NewTable × Progress Table). Such e.0) (new_table_plan {K = K} {V = V} n)) (p : Copier) where
-    abbrev Ends : Copier × Outcome (Node K V) Table → Type 0
+  module _ (K V : Type 0) (hash : K → ℕ) (goes : (n : NewTable) → Such n → AlwaysOf (λ (e : NewTable × Advance Table). Such e.0) (new_table_plan {K = K} {V = V} n)) (p : Copier) where
+    abbrev Ends : Copier × Yielding (Node K V) Table → Type 0
     Ends end = CopierEnds K V end
 
     -- by a step of the making
-    grown_makes : (word code : ℕ) (end : NewTable × Progress Table) → Such end.0 → Ends (grown p word code end)
+    grown_makes : (word code : ℕ) (end : NewTable × Advance Table) → Such end.0 → Ends (grown p word code end)
     grown_makes word code (making, progress.Goes) so = so
     grown_makes word code (making, progress.Waits) so = so
     grown_makes word code (making, progress.Done table) so = tt
     grown_makes word code (making, progress.Refused fault) so = refusing_makes p word fault
 
-    remade_makes : (end : NewTable × Progress Table) → Such end.0 → Ends (remade p end)
+    remade_makes : (end : NewTable × Advance Table) → Such end.0 → Ends (remade p end)
     remade_makes (making, progress.Goes) so = so
     remade_makes (making, progress.Waits) so = so
     remade_makes (making, progress.Done table) so = tt
@@ -178,11 +178,11 @@ module _ (Such : NewTable → Type 0) where
       point_makes (at.Covers word) makes begins = λ out. done_makes p
       point_makes (at.Passes word code table) makes begins = further_makes word code table begins
       point_makes (at.Grows word code making) makes begins =
-          always_plan_more (λ (e : NewTable × Progress Table). Such e.0) Ends (grown p word code) (grown_makes word code) (new_table_plan making) (goes making makes)
+          always_plan_more (λ (e : NewTable × Advance Table). Such e.0) Ends (grown p word code) (grown_makes word code) (new_table_plan making) (goes making makes)
       point_makes at.Aborts makes begins = λ out. tt
       point_makes at.Replaces makes begins = replacement_makes begins
       point_makes (at.Remakes making) makes begins =
-          always_plan_more (λ (e : NewTable × Progress Table). Such e.0) Ends (remade p) remade_makes (new_table_plan making) (goes making makes)
+          always_plan_more (λ (e : NewTable × Advance Table). Such e.0) Ends (remade p) remade_makes (new_table_plan making) (goes making makes)
       point_makes at.Counts makes begins = counted_makes
       point_makes (at.Tallies word fault) makes begins = λ out. tt
       point_makes (at.Unmarks word fault) makes begins = λ out. tt

@@ -6,7 +6,7 @@ use Rattle.std.proofs.lemmas.List.{map-append}
 use Rattle.std.proofs.lemmas.List.Elements.{filter-append}
 use Rattle.run_schedules.specs.declared.effect.Effect.{Effect}
 use Rattle.run_schedules.specs.declared.effect.Effect.TheVariants as effect
-use Rattle.run_schedules.specs.declared.effect.Table.{Table}
+use Rattle.run_schedules.specs.declared.effect.TableId.{TableId}
 use Rattle.run_schedules.specs.declared.effect.Thing.TheVariants.{APair, ATable}
 use Rattle.run_schedules.specs.Schedules.Effects.{at_stage, with_effect, with_effects}
 use Rattle.run_schedules.specs.Schedules.Moment.{IsReclaimed, IsRetired, IsTaken, Moment, Stage, TableThere}
@@ -71,7 +71,7 @@ table_length map number st m known shown t l = ap (λ (ts : List TableThere). at
 -- Effects.
 
 -- a table at another stage is as long
-stage_lengths : (t : Table) (to : Stage) (of : ℕ) (ts : List TableThere)
+stage_lengths : (t : TableId) (to : Stage) (of : ℕ) (ts : List TableThere)
     → lengths_in (filter (λ u. u.table.map == of) (list_map (at_stage t to) ts)) ≡ lengths_in (filter (λ u. u.table.map == of) ts)
 stage_lengths t to of [] = refl
 stage_lengths t to of (u ∷ ts) = by (same_table u.table t) (stage_lengths t to of ts)

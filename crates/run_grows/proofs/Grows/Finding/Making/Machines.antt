@@ -1,12 +1,12 @@
 -- A step of a call makes a table by its copier as that was to make it, whichever kind of call it is; and so does one that goes on by a reply, or as it is asked for its next pair.
 use Rattle.std.specs.Prelude.{ℕ, Bool}
-use Rattle.papaya_raw.specs.Given.SeizeDeclared.progress.Progress.{Progress as Counting}
+use Rattle.papaya_raw.specs.Given.SeizeDeclared.advance.Advance.{Advance as Counting}
 use Rattle.papaya_raw.specs.Given.TablesDeclared.node.Node.{Node}
 use Rattle.papaya_raw.specs.Given.TablesDeclared.table.Table.{Table}
 use Rattle.run_logged.specs.Given.ResizeNewTable.{new_table_plan}
 use Rattle.run_logged.specs.Given.ResizeSum.{sum_plan}
 use Rattle.run_logged.specs.Given.ResizeDeclared.new_table.NewTable.{NewTable}
-use Rattle.run_logged.specs.Given.ResizeDeclared.outcome.Outcome.{Outcome}
+use Rattle.run_logged.specs.Given.ResizeDeclared.yielding.Yielding.{Yielding}
 use Rattle.run_logged.specs.Given.ResizeDeclared.sum.Sum.{Sum}
 use Rattle.papaya_raw.specs.Given.ReservesReserve.{reserve_plan}
 use Rattle.papaya_raw.specs.Given.ReservesDeclared.reserve.Reserve.{Reserve}
@@ -16,7 +16,7 @@ use Rattle.papaya_raw.specs.Given.ReservesDeclared.sweep.Swept.{Swept}
 use Rattle.papaya_raw.specs.Call.{call_plan}
 use Rattle.papaya_raw.specs.Machine.{called as of_key, counted as of_sum, machine_asked, machine_plan, machine_replied, reserved as of_room, swept as of_sweep}
 use Rattle.papaya_raw.specs.declared.machines.answer.Called.{Called}
-use Rattle.papaya_raw.specs.declared.machines.asking.Reply.{Reply}
+use Rattle.papaya_raw.specs.declared.machines.asking.MachineReply.{MachineReply}
 use Rattle.papaya_raw.specs.declared.machines.call.KeyCall.{KeyCall}
 use Rattle.papaya_raw.specs.declared.machines.machine.Machine.{Machine}
 use Rattle.papaya_raw.specs.declared.machines.machine.Machine.TheVariants as kinds
@@ -45,7 +45,7 @@ module _ (Such : NewTable → Type 0) (K V Q : Type 0) where
   key_ends : (e : KeyCall K V Q × Called (Node K V)) → CallEnds Such e → Ends (of_key e)
   key_ends (p, told) so = so
 
-  room_ends : (e : Reserve × Outcome (Node K V) Unit) → RoomEnds Such K V e → Ends (of_room e)
+  room_ends : (e : Reserve × Yielding (Node K V) Unit) → RoomEnds Such K V e → Ends (of_room e)
   room_ends (r, outcome) so = so
 
   sweep_ends : (e : Sweep × Swept (Node K V)) → SweepEnds Such K V e → Ends (of_sweep e)
@@ -61,7 +61,7 @@ module _ (Such : NewTable → Type 0) (K V Q : Type 0) where
     machine_makes (kinds.Sweep c) makes begins = always_plan_more (SweepEnds Such K V) Ends of_sweep sweep_ends (sweep_plan hash c) (sweeps.sweep_makes Such K V hash goes c makes begins)
     machine_makes (kinds.Count sum) makes begins = always_plan_as Ends of_sum sum_ends (sum_plan sum)
 
-  pub reply_makes : (machine : Machine K V Q) (reply : Reply V) → MachineMakes Such machine → MachineMakes Such (machine_replied machine reply).0
+  pub reply_makes : (machine : Machine K V Q) (reply : MachineReply V) → MachineMakes Such machine → MachineMakes Such (machine_replied machine reply).0
   reply_makes (kinds.Key p) reply makes = calls.reply_makes Such p reply makes
   reply_makes (kinds.Sweep c) reply makes = sweeps.reply_makes Such c reply makes
   reply_makes (kinds.Reserve r) reply makes = makes

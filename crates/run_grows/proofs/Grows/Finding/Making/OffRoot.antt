@@ -5,8 +5,8 @@ use Rattle.run_executor.specs.Given.SeizeWordsMem.{Gives, Mem, value_at, word_at
 use Rattle.run_executor.specs.Given.SeizeWordsOp.{Exchanged, Found, Load, Made, Make, Out, Roomed, Stored, Taken}
 use Rattle.run_executor.specs.Given.SeizeWordsPlan.{Ends, Now, Plan, Seeing}
 use Rattle.run_executor.specs.Given.SeizeWordsWord.{block_in}
-use Rattle.papaya_raw.specs.Given.SeizeDeclared.progress.Progress.{Progress as Counting}
-use Rattle.papaya_raw.specs.Given.SeizeDeclared.progress.Progress.TheVariants as progress
+use Rattle.papaya_raw.specs.Given.SeizeDeclared.advance.Advance.{Advance as Counting}
+use Rattle.papaya_raw.specs.Given.SeizeDeclared.advance.Advance.TheVariants as progress
 use Rattle.papaya_raw.specs.Given.TablesNodes.{table_seen}
 use Rattle.papaya_raw.specs.Given.TablesTablePlaces.{at_word}
 use Rattle.papaya_raw.specs.Given.TablesDeclared.lengths.Reason.TheVariants.{NoPlace}
@@ -27,8 +27,8 @@ use Rattle.run_logged.specs.Given.ResizeDeclared.copier.Copying.TheVariants as c
 use Rattle.run_logged.specs.Given.ResizeDeclared.new_table.Making.{Making}
 use Rattle.run_logged.specs.Given.ResizeDeclared.new_table.Making.TheVariants as makes
 use Rattle.run_logged.specs.Given.ResizeDeclared.new_table.NewTable.{NewTable}
-use Rattle.run_logged.specs.Given.ResizeDeclared.outcome.Outcome.{Outcome}
-use Rattle.run_logged.specs.Given.ResizeDeclared.outcome.Outcome.TheVariants as outcome
+use Rattle.run_logged.specs.Given.ResizeDeclared.yielding.Yielding.{Yielding}
+use Rattle.run_logged.specs.Given.ResizeDeclared.yielding.Yielding.TheVariants as outcome
 use Rattle.run_logged.specs.Given.ResizeDeclared.sum.Sum.{Sum}
 use Rattle.run_logged.specs.Given.ResizeDeclared.sum.Summing.{Summing}
 use Rattle.run_logged.specs.Given.ResizeDeclared.sum.Summing.TheVariants as summing
@@ -142,7 +142,7 @@ module _ {K V : Type 0} (m m2 : Mem (Node K V)) (told : Changed) where
   new_table_off n end s = making_off n n.stands end s
 
   -- of a copier: where its table is linked, it makes none any longer
-  module _ (hash : K → ℕ) (c : Copier) (end : Copier × Outcome (Node K V) Table) where
+  module _ (hash : K → ℕ) (c : Copier) (end : Copier × Yielding (Node K V) Table) where
     abbrev CopierOff : Type 0
     CopierOff = CopierMakes NoTable end.0.stands ⊎ Off
 
@@ -159,10 +159,10 @@ module _ {K V : Type 0} (m m2 : Mem (Node K V)) (told : Changed) where
     remade_done (x, progress.Refused fault) is = absurd (let e = is.1 in cc e)
 
     -- where it goes by a step of the making
-    by_making : (f : NewTable × Counting Table → Copier × Outcome (Node K V) Table) → ((e : NewTable × Counting Table) → IsDone e → CopierMakes NoTable (f e).0.stands) → (e : NewTable × Counting Table) → end ≡ f e
+    by_making : (f : NewTable × Counting Table → Copier × Yielding (Node K V) Table) → ((e : NewTable × Counting Table) → IsDone e → CopierMakes NoTable (f e).0.stands) → (e : NewTable × Counting Table) → end ≡ f e
         → IsDone e ⊎ Off → CopierOff
     by_making f done e is so = elim so as (λ _. CopierOff) [
-      | inl over ↦ inl (subst (λ (x : Copier × Outcome (Node K V) Table). CopierMakes NoTable x.0.stands) (sym is) (done e over))
+      | inl over ↦ inl (subst (λ (x : Copier × Yielding (Node K V) Table). CopierMakes NoTable x.0.stands) (sym is) (done e over))
       | inr off ↦ inr off
     ]
 
@@ -200,11 +200,11 @@ module _ {K V : Type 0} (m m2 : Mem (Node K V)) (told : Changed) where
         inl (always_steps (CallEnds NoTable) m m2 (calls_of.plan_at asks same hash p stands) end (calls.point_makes NoTable asks same hash p (subst (CallMakes NoTable) (sym is) tt) (none_goes K V) stands tt tt)
         (as_step m changed.Nothing (calls_of.plan_at asks same hash p stands) m2 told end s))
 
-    room_at : (r : Reserve) (end : Reserve × Outcome (Node K V) Unit) (stands : Reserving) → r.stands ≡ stands → Step (reserves.plan_at hash r stands) end → RoomMakes NoTable end.0.stands ⊎ Off
+    room_at : (r : Reserve) (end : Reserve × Yielding (Node K V) Unit) (stands : Reserving) → r.stands ≡ stands → Step (reserves.plan_at hash r stands) end → RoomMakes NoTable end.0.stands ⊎ Off
     room_at r end (reserving.Copies c) is s =
         let it = told_in m m2 told (reserves.copied r) (copier_plan hash c) end s in
         elim (copier_off hash c it.0 it.2) as (λ _. RoomMakes NoTable end.0.stands ⊎ Off) [
-          | inl none ↦ inl (subst (λ (x : Reserve × Outcome (Node K V) Unit). RoomMakes NoTable x.0.stands) (sym it.1) (rooms.copied_makes NoTable K V hash (none_goes K V) (record r { stands = reserving.Over }) tt it.0 none))
+          | inl none ↦ inl (subst (λ (x : Reserve × Yielding (Node K V) Unit). RoomMakes NoTable x.0.stands) (sym it.1) (rooms.copied_makes NoTable K V hash (none_goes K V) (record r { stands = reserving.Over }) tt it.0 none))
           | inr off ↦ inr off
         ]
     room_at r end stands is s =
@@ -225,7 +225,7 @@ module _ {K V : Type 0} (m m2 : Mem (Node K V)) (told : Changed) where
     calls_end : (e : KeyCall K V K × Called (Node K V)) → CallMakes NoTable e.0.stands → MachineMakes NoTable (of_key {K = K} {V = V} {Q = K} e).0
     calls_end (p, told) so = so
 
-    rooms_end : (e : Reserve × Outcome (Node K V) Unit) → RoomMakes NoTable e.0.stands → MachineMakes NoTable (of_room {K = K} {V = V} {Q = K} e).0
+    rooms_end : (e : Reserve × Yielding (Node K V) Unit) → RoomMakes NoTable e.0.stands → MachineMakes NoTable (of_room {K = K} {V = V} {Q = K} e).0
     rooms_end (r, outcome) so = so
 
     sweeps_end : (e : Sweep × Swept (Node K V)) → SweepMakes NoTable e.0.stands → MachineMakes NoTable (of_sweep {K = K} {V = V} {Q = K} e).0
@@ -259,7 +259,7 @@ module _ {K V : Type 0} (m m2 : Mem (Node K V)) (told : Changed) where
 
     -- one that reads which table follows one that was aborted makes none where one follows
     module _ (x : Copier) (is : x.stands ≡ copying.Replaces) (some : word_at m (at_word x.target NEXT) ≡ Some 0 → ⊥) where
-      read_some : (end : Copier × Outcome (Node K V) Table) (out : Out (Node K V)) → Gives m (Load (at_word x.target NEXT)) out → Ends (value_at m2) (replacement_read x out) end → CopierMakes NoTable end.0.stands
+      read_some : (end : Copier × Yielding (Node K V) Table) (out : Out (Node K V)) → Gives m (Load (at_word x.target NEXT)) out → Ends (value_at m2) (replacement_read x out) end → CopierMakes NoTable end.0.stands
       read_some end (Found link) gives e = always_ends (CopierEnds NoTable K V) (value_at m2) (replacement_read x (Found link)) end (by (link == 0) refl) e
         where
           by : (q : Bool) → (link == 0) ≡ q
@@ -269,10 +269,10 @@ module _ {K V : Type 0} (m m2 : Mem (Node K V)) (told : Changed) where
           by false none = λ value. tt
       read_some end _ gives e = absurd gives
 
-      copier_none : (end : Copier × Outcome (Node K V) Table) → Step (copier_plan hash x) end → CopierMakes NoTable end.0.stands
+      copier_none : (end : Copier × Yielding (Node K V) Table) → Step (copier_plan hash x) end → CopierMakes NoTable end.0.stands
       copier_none end s = let at = subst (λ (p : Copying). Step (copiers.plan_at hash x p) end) is s in read_some end at.0 at.1.0.0 at.2
 
-      inner_none : (c : Copier) (end : Copier × Outcome (Node K V) Table) → c ≡ x → Step (copier_plan hash c) end → CopierMakes NoTable end.0.stands
+      inner_none : (c : Copier) (end : Copier × Yielding (Node K V) Table) → c ≡ x → Step (copier_plan hash c) end → CopierMakes NoTable end.0.stands
       inner_none c end same s = copier_none end (subst (λ (y : Copier). Step (copier_plan hash y) end) same s)
 
       key_none : (p : KeyCall K V K) (end : KeyCall K V K × Called (Node K V)) (stands : Calling) → CallCopier stands x → Step (calls_of.plan_at asks same hash p stands) end → CallMakes NoTable end.0.stands
@@ -284,10 +284,10 @@ module _ {K V : Type 0} (m m2 : Mem (Node K V)) (told : Changed) where
           subst (λ (y : KeyCall K V K × Called (Node K V)). CallMakes NoTable y.0.stands) (sym it.1) (calls.copied_makes NoTable p it.0 (inner_none c it.0 its it.2))
       key_none p end _ its s = absurd its
 
-      room_none : (r : Reserve) (end : Reserve × Outcome (Node K V) Unit) (stands : Reserving) → RoomCopier stands x → Step (reserves.plan_at hash r stands) end → RoomMakes NoTable end.0.stands
+      room_none : (r : Reserve) (end : Reserve × Yielding (Node K V) Unit) (stands : Reserving) → RoomCopier stands x → Step (reserves.plan_at hash r stands) end → RoomMakes NoTable end.0.stands
       room_none r end (reserving.Copies c) its s =
           let it = told_in m m2 told (reserves.copied r) (copier_plan hash c) end s in
-          subst (λ (y : Reserve × Outcome (Node K V) Unit). RoomMakes NoTable y.0.stands) (sym it.1)
+          subst (λ (y : Reserve × Yielding (Node K V) Unit). RoomMakes NoTable y.0.stands) (sym it.1)
           (rooms.copied_makes NoTable K V hash (none_goes K V) (record r { stands = reserving.Over }) tt it.0 (inner_none c it.0 its it.2))
       room_none r end _ its s = absurd its
 

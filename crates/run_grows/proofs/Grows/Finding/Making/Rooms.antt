@@ -2,8 +2,8 @@
 use Rattle.std.specs.Prelude.{ℕ, ◌^◌, ◌==◌, nat_lt, Bool, true, false, if◌then◌else◌}
 use Rattle.run_executor.specs.Given.SeizeWordsOp.{Out, Found}
 use Rattle.run_executor.specs.Given.SeizeWordsDeclared.fault.Fault.TheVariants.{Capacity}
-use Rattle.papaya_raw.specs.Given.SeizeDeclared.progress.Progress.{Progress}
-use Rattle.papaya_raw.specs.Given.SeizeDeclared.progress.Progress.TheVariants as progress
+use Rattle.papaya_raw.specs.Given.SeizeDeclared.advance.Advance.{Advance}
+use Rattle.papaya_raw.specs.Given.SeizeDeclared.advance.Advance.TheVariants as progress
 use Rattle.papaya_raw.specs.Given.TablesDeclared.node.Node.{Node}
 use Rattle.papaya_raw.specs.Given.TablesDeclared.table.Table.{Table}
 use Rattle.papaya_raw.specs.Given.ResizeCopier.{copier_plan}
@@ -11,8 +11,8 @@ use Rattle.run_logged.specs.Given.ResizeNewTable.{new_table_plan}
 use Rattle.run_logged.specs.Given.ResizeSum.{sum_plan}
 use Rattle.run_logged.specs.Given.ResizeDeclared.copier.Copier.{Copier}
 use Rattle.run_logged.specs.Given.ResizeDeclared.new_table.NewTable.{NewTable}
-use Rattle.run_logged.specs.Given.ResizeDeclared.outcome.Outcome.{Outcome}
-use Rattle.run_logged.specs.Given.ResizeDeclared.outcome.Outcome.TheVariants as outcome
+use Rattle.run_logged.specs.Given.ResizeDeclared.yielding.Yielding.{Yielding}
+use Rattle.run_logged.specs.Given.ResizeDeclared.yielding.Yielding.TheVariants as outcome
 use Rattle.run_logged.specs.Given.ResizeDeclared.sum.Sum.{Sum}
 use Rattle.papaya_raw.specs.Given.ReservesReserve.{copied, enough, grown, made, needed, next_read, plan_at, refusing, reserve_plan, root_read, standing, summed}
 use Rattle.papaya_raw.specs.Given.ReservesDeclared.reserve.Reserve.{Reserve}
@@ -29,25 +29,25 @@ RoomBegins Such (at.Copies copier) = CopierBegins Such copier copier.stands
 RoomBegins Such _ = Unit {0}
 
 module _ (Such : NewTable → Type 0) (K V : Type 0) where
-  abbrev pub RoomEnds : Reserve × Outcome (Node K V) Unit → Type 0
+  abbrev pub RoomEnds : Reserve × Yielding (Node K V) Unit → Type 0
   RoomEnds end = RoomMakes Such end.0.stands
 
-  module _ (hash : K → ℕ) (goes : (n : NewTable) → Such n → AlwaysOf (λ (e : NewTable × Progress Table). Such e.0) (new_table_plan {K = K} {V = V} n)) (p : Reserve) (here : RoomMakes Such p.stands) where
+  module _ (hash : K → ℕ) (goes : (n : NewTable) → Such n → AlwaysOf (λ (e : NewTable × Advance Table). Such e.0) (new_table_plan {K = K} {V = V} n)) (p : Reserve) (here : RoomMakes Such p.stands) where
     -- by a step of a machine within it
-    pub copied_makes : (end : Copier × Outcome (Node K V) Table) → CopierEnds Such K V end → RoomEnds (copied p end)
+    pub copied_makes : (end : Copier × Yielding (Node K V) Table) → CopierEnds Such K V end → RoomEnds (copied p end)
     copied_makes (copier, outcome.Goes) so = so
     copied_makes (copier, outcome.Waits) so = so
     copied_makes (copier, outcome.Gave value) so = so
     copied_makes (copier, outcome.Done table) so = tt
     copied_makes (copier, outcome.Refused fault) so = tt
 
-    made_makes : (end : NewTable × Progress Table) → RoomEnds (made p end)
+    made_makes : (end : NewTable × Advance Table) → RoomEnds (made p end)
     made_makes (making, progress.Goes) = tt
     made_makes (making, progress.Waits) = tt
     made_makes (making, progress.Done table) = tt
     made_makes (making, progress.Refused fault) = tt
 
-    grown_makes : (table : Table) (end : NewTable × Progress Table) → RoomEnds (grown p table end)
+    grown_makes : (table : Table) (end : NewTable × Advance Table) → RoomEnds (grown p table end)
     grown_makes table (making, progress.Goes) = tt
     grown_makes table (making, progress.Waits) = tt
     grown_makes table (making, progress.Done next) = begun_makes Such p.setting table next
@@ -61,7 +61,7 @@ module _ (Such : NewTable → Type 0) (K V : Type 0) where
         by false true = tt
         by false false = tt
 
-    summed_makes : (table : Table) (end : Sum × Progress ℕ) → RoomEnds (summed p table end)
+    summed_makes : (table : Table) (end : Sum × Advance ℕ) → RoomEnds (summed p table end)
     summed_makes table (sum, progress.Goes) = tt
     summed_makes table (sum, progress.Waits) = tt
     summed_makes table (sum, progress.Done count) = enough_makes table (needed p.additional count)

@@ -4,7 +4,7 @@ use Rattle.std.proofs.Common.{refl, ap, sym, subst, ◌∙◌, arith}
 use Rattle.run_executor.specs.Given.SeizeWordsPlan.{Do, Now, Plan, Seeing, Sure, Then, Turn}
 use Rattle.run_executor.specs.Given.SeizeWordsDeclared.fault.Fault.{Fault}
 use Rattle.run_executor.specs.Given.SeizeWordsDeclared.fault.Fault.TheVariants.{Capacity}
-use Rattle.papaya_raw.specs.Given.SeizeDeclared.progress.Progress.{Progress}
+use Rattle.papaya_raw.specs.Given.SeizeDeclared.advance.Advance.{Advance}
 use Rattle.papaya_raw.specs.Given.TablesLengths.{if_few, next_len, next_limit, next_turn}
 use Rattle.papaya_raw.specs.Given.TablesDeclared.lengths.Reason.{Reason}
 use Rattle.papaya_raw.specs.Given.TablesDeclared.lengths.Reason.TheVariants.{NoPlace}
@@ -46,9 +46,9 @@ abbrev NoSum : Table → Reason → Type 0
 NoSum before reason = ⊥
 
 module _ (lengths : List ℕ) where
-  pub further_goes : (K V : Type 0) (n : NewTable) → IsFurther lengths n → AlwaysOf (λ (e : NewTable × Progress Table). IsFurther lengths e.0) (new_table_plan {K = K} {V = V} n)
+  pub further_goes : (K V : Type 0) (n : NewTable) → IsFurther lengths n → AlwaysOf (λ (e : NewTable × Advance Table). IsFurther lengths e.0) (new_table_plan {K = K} {V = V} n)
   further_goes K V n so =
-      always_so (λ (e : NewTable × Progress Table). (e.0.setting ≡ n.setting) × ShapedAt NoSum (IsBehind lengths) e.0.stands) (λ (e : NewTable × Progress Table). IsFurther lengths e.0) (λ e both. both.1)
+      always_so (λ (e : NewTable × Advance Table). (e.0.setting ≡ n.setting) × ShapedAt NoSum (IsBehind lengths) e.0.stands) (λ (e : NewTable × Advance Table). IsFurther lengths e.0) (λ e both. both.1)
       (new_table_plan {K = K} {V = V} n) (goes_shaped NoSum (IsBehind lengths) (λ t b is. is) n (λ before reason count none. absurd none) K V so)
 
   -- where it begins behind a table of the map

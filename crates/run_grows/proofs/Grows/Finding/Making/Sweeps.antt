@@ -2,7 +2,7 @@
 use Rattle.std.specs.Prelude.{ℕ, ◌==◌, ◌&&◌, nat_lt, Bool, true, false, if◌then◌else◌, Ok, Err}
 use Rattle.run_executor.specs.Given.SeizeWordsOp.{Out, Exchanged, Found}
 use Rattle.run_executor.specs.Given.SeizeWordsWord.{block_in}
-use Rattle.papaya_raw.specs.Given.SeizeDeclared.progress.Progress.{Progress}
+use Rattle.papaya_raw.specs.Given.SeizeDeclared.advance.Advance.{Advance}
 use Rattle.papaya_raw.specs.Given.SeizeDeclared.rows.settle.Settled.{Settled}
 use Rattle.papaya_raw.specs.Given.SeizeDeclared.rows.settle.Settled.TheVariants as settled
 use Rattle.papaya_raw.specs.Given.TablesChunks.{is_incremental}
@@ -16,8 +16,8 @@ use Rattle.run_logged.specs.Given.ResizeNewTable.{new_table_plan}
 use Rattle.run_logged.specs.Given.ResizeDeclared.copier.Copier.{Copier}
 use Rattle.run_logged.specs.Given.ResizeDeclared.dispose.Dispose.{Dispose}
 use Rattle.run_logged.specs.Given.ResizeDeclared.new_table.NewTable.{NewTable}
-use Rattle.run_logged.specs.Given.ResizeDeclared.outcome.Outcome.{Outcome}
-use Rattle.run_logged.specs.Given.ResizeDeclared.outcome.Outcome.TheVariants as outcome
+use Rattle.run_logged.specs.Given.ResizeDeclared.yielding.Yielding.{Yielding}
+use Rattle.run_logged.specs.Given.ResizeDeclared.yielding.Yielding.TheVariants as outcome
 use Rattle.papaya_raw.specs.Given.SweepsSweep.{copied, disposed, next_read, plan_at, root_read, sweep_plan, tried, word_found}
 use Rattle.papaya_raw.specs.Given.SweepsSweepPoints.{at_end, at_pair, beginning, entering, further, next_at, removes, reply_at, seen, tableless}
 use Rattle.papaya_raw.specs.Given.ReservesDeclared.sweep.Purpose.{Purpose}
@@ -27,8 +27,8 @@ use Rattle.papaya_raw.specs.Given.ReservesDeclared.sweep.Sweeping.{Sweeping}
 use Rattle.papaya_raw.specs.Given.ReservesDeclared.sweep.Sweeping.TheVariants as at
 use Rattle.papaya_raw.specs.Given.ReservesDeclared.sweep.Swept.{Swept}
 use Rattle.papaya_raw.specs.Machine.{sweep_asked, sweep_replied, sweep_told}
-use Rattle.papaya_raw.specs.declared.machines.asking.Reply.{Reply}
-use Rattle.papaya_raw.specs.declared.machines.asking.Reply.TheVariants as replies
+use Rattle.papaya_raw.specs.declared.machines.asking.MachineReply.{MachineReply}
+use Rattle.papaya_raw.specs.declared.machines.asking.MachineReply.TheVariants as replies
 use Rattle.run_executor.proofs.Given.RuleKeys.Always.{Always, AlwaysOf, always_if, always_plan_as}
 use Rattle.run_sweeps.proofs.Given.FindsShaping.{always_plan_more}
 use Rattle.run_grows.specs.Grows.Further.{SweepMakes}
@@ -80,9 +80,9 @@ module _ (Such : NewTable → Type 0) where
     seen_makes c word =
         either (removes c.purpose && has_mark word COPYING) _ _ (further_makes (record c { met = true })) (either (block_in word == 0) _ _ (further_makes c) (pair_makes c c.purpose word))
 
-    module _ (hash : K → ℕ) (goes : (n : NewTable) → Such n → AlwaysOf (λ (e : NewTable × Progress Table). Such e.0) (new_table_plan {K = K} {V = V} n)) (c : Sweep) (here : SweepMakes Such c.stands) where
+    module _ (hash : K → ℕ) (goes : (n : NewTable) → Such n → AlwaysOf (λ (e : NewTable × Advance Table). Such e.0) (new_table_plan {K = K} {V = V} n)) (c : Sweep) (here : SweepMakes Such c.stands) where
       -- by a step of a machine within it
-      pub copied_makes : (end : Copier × Outcome (Node K V) Table) → CopierEnds Such K V end → SweepEnds (copied c end)
+      pub copied_makes : (end : Copier × Yielding (Node K V) Table) → CopierEnds Such K V end → SweepEnds (copied c end)
       copied_makes (copier, outcome.Goes) so = so
       copied_makes (copier, outcome.Waits) so = so
       copied_makes (copier, outcome.Gave value) so = so
@@ -134,12 +134,12 @@ module _ (Such : NewTable → Type 0) where
   reply_at_makes c (at.Asks word) keeps here = sweep_either keeps (further c) (record c { stands = at.Tries word }) (further_makes c) tt
   reply_at_makes c _ keeps here = here
 
-  told_makes : {V : Type 0} (c : Sweep) (stands : Sweeping) (reply : Reply V) → SweepMakes Such c.stands → SweepMakes Such (sweep_told stands c reply).0.stands
+  told_makes : {V : Type 0} (c : Sweep) (stands : Sweeping) (reply : MachineReply V) → SweepMakes Such c.stands → SweepMakes Such (sweep_told stands c reply).0.stands
   told_makes c (at.Asks word) replies.Yes here = reply_at_makes c c.stands true here
   told_makes c (at.Asks word) replies.No here = reply_at_makes c c.stands false here
   told_makes c _ _ here = here
 
-  pub reply_makes : {V : Type 0} (c : Sweep) (reply : Reply V) → SweepMakes Such c.stands → SweepMakes Such (sweep_replied c reply).0.stands
+  pub reply_makes : {V : Type 0} (c : Sweep) (reply : MachineReply V) → SweepMakes Such c.stands → SweepMakes Such (sweep_replied c reply).0.stands
   reply_makes c reply here = told_makes c c.stands reply here
 
   -- and as it is asked for its next pair

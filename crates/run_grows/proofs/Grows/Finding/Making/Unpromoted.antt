@@ -6,7 +6,7 @@ use Rattle.std.proofs.lemmas.List.Elements.{filter-append}
 use Rattle.run_executor.specs.Given.SeizeWordsDeclared.at.At.TheVariants.{Root}
 use Rattle.run_schedules.specs.declared.effect.Effect.{Effect}
 use Rattle.run_schedules.specs.declared.effect.Effect.TheVariants as effect
-use Rattle.run_schedules.specs.declared.effect.Table.{Table}
+use Rattle.run_schedules.specs.declared.effect.TableId.{TableId}
 use Rattle.run_schedules.specs.declared.effect.Thing.TheVariants.{APair, ATable}
 use Rattle.run_schedules.specs.Schedules.Effects.{at_stage, with_effect, with_effects}
 use Rattle.run_schedules.specs.Schedules.Growing.{HasNext}
@@ -65,7 +65,7 @@ module _ (caller map : ℕ) (known : Known) where
 abbrev pub many_from : ℕ → ℕ → List TableThere → ℕ
 many_from first of ts = length (filter (λ u. nat_le first u.table.turn) (filter (λ u. u.table.map == of) ts))
 
-staged_from : (t : Table) (to : Stage) (first of : ℕ) (ts : List TableThere) → many_from first of (list_map (at_stage t to) ts) ≡ many_from first of ts
+staged_from : (t : TableId) (to : Stage) (first of : ℕ) (ts : List TableThere) → many_from first of (list_map (at_stage t to) ts) ≡ many_from first of ts
 staged_from t to first of [] = refl
 staged_from t to first of (u ∷ ts) = by (same_table u.table t) (staged_from t to first of ts)
   where
@@ -76,7 +76,7 @@ staged_from t to first of (u ∷ ts) = by (same_table u.table t) (staged_from t 
     two : (z : Bool) (x : TableThere) (xs ys : List TableThere) → x.table ≡ u.table → length (filter (λ w. nat_le first w.table.turn) xs) ≡ length (filter (λ w. nat_le first w.table.turn) ys)
         → length (filter (λ w. nat_le first w.table.turn) (if z then x ∷ xs else xs)) ≡ length (filter (λ w. nat_le first w.table.turn) (if z then u ∷ ys else ys))
     two true x xs ys same e =
-        ap (λ (q : Table). length (if nat_le first q.turn then x ∷ filter (λ w. nat_le first w.table.turn) xs else filter (λ w. nat_le first w.table.turn) xs)) same
+        ap (λ (q : TableId). length (if nat_le first q.turn then x ∷ filter (λ w. nat_le first w.table.turn) xs else filter (λ w. nat_le first w.table.turn) xs)) same
         ∙ one (nat_le first u.table.turn) x u (filter (λ w. nat_le first w.table.turn) xs) (filter (λ w. nat_le first w.table.turn) ys) e
     two false x xs ys same e = e
 

@@ -1,6 +1,6 @@
 -- What a run keeps from step to step, and what each step lowers.
 use Rattle.std.specs.Prelude.{◌≡◌, length}
-use Rattle.seize.specs.declared.progress.Progress.TheVariants as progress
+use Rattle.seize.specs.declared.advance.Advance.TheVariants as progress
 use Rattle.run_logged.specs.Log.Goes.{GoesTo, MakingOn, far}
 use Rattle.run_logged.specs.Log.Makings.{MakingRan}
 use Rattle.run_logged.proofs.Log.MakingsRun.{making_left_of}

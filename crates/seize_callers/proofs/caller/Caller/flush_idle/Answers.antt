@@ -1,5 +1,5 @@
 use Rattle.seize_callers.proofs.Resting.{at_rest}
-use Rattle.seize_views.specs.declared.view.View.TheVariants.{Outside}
+use Rattle.seize_views.specs.declared.view.SlotView.TheVariants.{Outside}
 use Rattle.seize_callers.proofs.caller.Caller.flush_idle.Goals as goal
 
 pub sends-requires-clause-ends : goal.sends-requires-clause-ends

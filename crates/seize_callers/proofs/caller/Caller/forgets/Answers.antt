@@ -4,7 +4,7 @@ use Rattle.std.proofs.Common.{inr, ap, ◌∙◌}
 use Rattle.seize_views.specs.Views.Begun.{forgetting}
 use Rattle.seize_views.specs.Views.Notes.{still}
 use Rattle.seize_views.specs.Views.Watched.{open_at}
-use Rattle.seize_views.specs.declared.view.View.TheVariants.{Inside}
+use Rattle.seize_views.specs.declared.view.SlotView.TheVariants.{Inside}
 use Rattle.seize_callers.proofs.Turns.{may_turn, leans_turn, forgets_next, forgets_so}
 use Rattle.seize_callers.proofs.caller.Caller.forgets.Goals as goal
 

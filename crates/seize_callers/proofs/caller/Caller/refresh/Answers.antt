@@ -1,5 +1,5 @@
 use Rattle.seize_callers.proofs.Resting.{at_rest}
-use Rattle.seize_views.specs.declared.view.View.TheVariants.{Inside}
+use Rattle.seize_views.specs.declared.view.SlotView.TheVariants.{Inside}
 use Rattle.seize_views.specs.declared.view.Has.TheVariants.{Nothing}
 use Rattle.seize_callers.proofs.caller.Caller.refresh.Goals as goal
 

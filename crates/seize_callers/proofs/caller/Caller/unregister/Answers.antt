@@ -1,5 +1,5 @@
 use Rattle.seize_callers.proofs.Resting.{at_rest}
-use Rattle.seize_views.specs.declared.view.View.TheVariants.{Rests}
+use Rattle.seize_views.specs.declared.view.SlotView.TheVariants.{Rests}
 use Rattle.seize_callers.proofs.caller.Caller.unregister.Goals as goal
 
 pub sends-requires-clause-ends : goal.sends-requires-clause-ends

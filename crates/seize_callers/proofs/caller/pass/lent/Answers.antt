@@ -1,5 +1,5 @@
 use Rattle.std.proofs.Common.{ap, sym, ◌∙◌}
-use Rattle.seize_views.specs.declared.view.View.TheVariants.{Under}
+use Rattle.seize_views.specs.declared.view.SlotView.TheVariants.{Under}
 use Rattle.seize_views.proofs.Views.Notes.{comings_are_noted}
 use Rattle.seize_views.proofs.Views.Passing.{leanings_keep, kept_are_there}
 use Rattle.seize_callers.proofs.caller.pass.lent.Goals as goal

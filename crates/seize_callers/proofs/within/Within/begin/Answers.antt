@@ -2,7 +2,7 @@ use Rattle.std.proofs.Common.{refl, ap, ◌∙◌, inl}
 use Rattle.seize_views.specs.Views.Begun.{registering}
 use Rattle.seize_views.specs.Views.Notes.{still}
 use Rattle.seize_views.specs.Views.Promises.{op_of}
-use Rattle.seize_views.specs.declared.view.View.TheVariants.{Rests}
+use Rattle.seize_views.specs.declared.view.SlotView.TheVariants.{Rests}
 use Rattle.seize_callers.proofs.Turns.{may_turn, leans_turn}
 use Rattle.seize_callers.proofs.within.Within.begin.Goals as goal
 

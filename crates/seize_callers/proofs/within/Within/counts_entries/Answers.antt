@@ -7,7 +7,7 @@ use Rattle.seize_views.specs.Views.Notes.{still, noted}
 use Rattle.seize_views.specs.Views.Told.{list_taken}
 use Rattle.seize_views.specs.Views.Watched.{known_by}
 use Rattle.seize_views.specs.declared.view.Becomes.{Becomes}
-use Rattle.seize_views.specs.declared.view.View.TheVariants.{Settles, Left}
+use Rattle.seize_views.specs.declared.view.SlotView.TheVariants.{Settles, Left}
 use Rattle.seize_views.specs.declared.view.Why.TheVariants.{Ending}
 use Rattle.seize_callers.specs.Made.{IsSettling, task_of}
 use Rattle.seize_callers.proofs.Turns.{may_turn, leans_turn, row_told}

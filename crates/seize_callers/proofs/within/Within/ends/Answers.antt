@@ -2,7 +2,7 @@ use Rattle.std.proofs.Common.{refl, ap, ◌∙◌}
 use Rattle.seize_views.specs.Views.Begun.{ended, left_with}
 use Rattle.seize_views.specs.Views.Notes.{still}
 use Rattle.seize_views.specs.Views.Watched.{known_by}
-use Rattle.seize_views.specs.declared.view.View.TheVariants.{Settles}
+use Rattle.seize_views.specs.declared.view.SlotView.TheVariants.{Settles}
 use Rattle.seize_views.specs.declared.view.Why.TheVariants.{Retiring}
 use Rattle.seize_callers.specs.Made.{task_of}
 use Rattle.seize_callers.proofs.Turns.{may_turn, leans_turn}

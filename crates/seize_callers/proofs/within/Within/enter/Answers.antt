@@ -2,7 +2,7 @@ use Rattle.std.proofs.Common.{inl, refl, ap, ◌∙◌}
 use Rattle.seize_views.specs.Views.Begun.{entering}
 use Rattle.seize_views.specs.Views.Promises.{op_of}
 use Rattle.seize_views.specs.declared.view.Began.TheVariants.{Section}
-use Rattle.seize_views.specs.declared.view.View.TheVariants.{Outside}
+use Rattle.seize_views.specs.declared.view.SlotView.TheVariants.{Outside}
 use Rattle.seize_callers.proofs.Turns.{may_turn, leans_turn}
 use Rattle.seize_callers.proofs.within.Within.enter.Goals as goal
 

@@ -7,7 +7,7 @@ use Rattle.seize_views.specs.Views.Notes.{still}
 use Rattle.seize_views.specs.Views.Promises.{op_of}
 use Rattle.seize_views.specs.Views.Told.{list_taken}
 use Rattle.seize_views.specs.declared.view.Becomes.TheVariants.{Idle}
-use Rattle.seize_views.specs.declared.view.View.TheVariants.{Inside, Left}
+use Rattle.seize_views.specs.declared.view.SlotView.TheVariants.{Inside, Left}
 use Rattle.seize_callers.proofs.Turns.{may_turn, leans_turn, leaves_next, leaves_so, list_told}
 use Rattle.seize_callers.proofs.within.Within.leave.Given as given
 use Rattle.seize_callers.proofs.within.Within.leave.Goals as goal

@@ -8,7 +8,7 @@ use Rattle.seize_views.specs.Views.Promises.{op_of}
 use Rattle.seize_views.specs.Views.Told.{list_taken}
 use Rattle.seize_views.specs.declared.view.Began.TheVariants.{Section}
 use Rattle.seize_views.specs.declared.view.Becomes.TheVariants.{Active}
-use Rattle.seize_views.specs.declared.view.View.TheVariants.{Inside, Left}
+use Rattle.seize_views.specs.declared.view.SlotView.TheVariants.{Inside, Left}
 use Rattle.seize_callers.proofs.Turns.{may_turn, leans_turn, refreshes_next, refreshes_so, list_told}
 use Rattle.seize_callers.proofs.within.Within.refresh.Given as given
 use Rattle.seize_callers.proofs.within.Within.refresh.Goals as goal

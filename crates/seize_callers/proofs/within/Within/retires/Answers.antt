@@ -8,7 +8,7 @@ use Rattle.seize.specs.declared.rows.settle.Settling.TheVariants.{Over}
 use Rattle.seize.specs.Settle.{retiring}
 use Rattle.seize_views.specs.Views.Begun.{IsBegun, ended, left_with}
 use Rattle.seize_views.specs.declared.view.Becomes.{Becomes}
-use Rattle.seize_views.specs.declared.view.View.TheVariants.{Settles}
+use Rattle.seize_views.specs.declared.view.SlotView.TheVariants.{Settles}
 use Rattle.seize_views.specs.declared.view.Why.TheVariants.{Retiring}
 use Rattle.seize_views.specs.Views.Notes.{still}
 use Rattle.seize_views.specs.Views.Watched.{known_by}

@@ -2,7 +2,7 @@ use Rattle.std.proofs.Common.{inl, inr, refl, ap, ◌∙◌}
 use Rattle.seize_views.specs.Views.Begun.{freeing}
 use Rattle.seize_views.specs.Views.Notes.{still}
 use Rattle.seize_views.specs.Views.Promises.{op_of}
-use Rattle.seize_views.specs.declared.view.View.TheVariants.{Outside}
+use Rattle.seize_views.specs.declared.view.SlotView.TheVariants.{Outside}
 use Rattle.seize_callers.proofs.Turns.{may_turn, leans_turn}
 use Rattle.seize_callers.proofs.within.Within.unregister.Goals as goal
 

@@ -1,6 +1,6 @@
 use Rattle.std.specs.Prelude.{ℕ, Option, Some}
 use Rattle.std.proofs.Common.{◌≡◌, Bool, refl, sym, subst, ap, ◌∙◌}
-use Rattle.papaya_raw.specs.declared.machines.asking.Reply.{Reply}
+use Rattle.papaya_raw.specs.declared.machines.asking.MachineReply.{MachineReply}
 use Rattle.papaya_raw.specs.declared.machines.asking.Takes.TheVariants.{Choices}
 use Rattle.threads_rule.specs.Views.Looks.{shown_in}
 use Rattle.threads_errands.specs.Asking.{MayTest, TestSays, removes_if, reply_of}
@@ -26,7 +26,7 @@ tells-requires g c = record {
     removes_if,
     c.requires.asks.0,
     c.requires.asks.1,
-    subst (λ (r : Reply g.row.V.Denot). IsFit Choices c.requires.asks.0.told c.args.pair r) (sym c.said.ensures)
+    subst (λ (r : MachineReply g.row.V.Denot). IsFit Choices c.requires.asks.0.told c.args.pair r) (sym c.said.ensures)
         (subst (λ (o : Option ℕ). IsFit {V = g.row.V.Denot} Choices c.requires.asks.0.told o (reply_of c.tested-yes.result)) (sym c.word_of-word.ensures)
         (test_fits g.row.V.Denot c.requires.asks.0.told c.word_of-word.result c.tested-yes.result)),
   );
@@ -35,7 +35,7 @@ tells-requires g c = record {
 pub returns-clause-goes : goal.returns-clause-goes
 returns-clause-goes g c = λ s is.
     let fit : IsFit Choices s.told (Some c.word_of-word.result) c.said.result =
-    subst (λ (r : Reply g.row.V.Denot). IsFit Choices s.told (Some c.word_of-word.result) r) (sym c.said.ensures) (test_fits g.row.V.Denot s.told c.word_of-word.result c.tested-yes.result) in
+    subst (λ (r : MachineReply g.row.V.Denot). IsFit Choices s.told (Some c.word_of-word.result) r) (sym c.said.ensures) (test_fits g.row.V.Denot s.told c.word_of-word.result c.tested-yes.result) in
     subst (λ (x : Stage). IsUnderWay removes_if x c.args.hasher.now c.tells.new.machine c.tells.new.self.seat.now.view)
     (ap (λ (o : Option ℕ). stage_after s o c.said.result) c.word_of-word.ensures ∙ same_stage s c.word_of-word.result c.said.result fit)
     (c.tells.ensures.goes removes_if s is (subst (λ (o : Option ℕ). IsFit Choices s.told o c.said.result) (sym c.word_of-word.ensures) fit))
@@ -52,7 +52,7 @@ returns-clause-told g c =
       c.said.result,
       c.requires.asks.1.at.works,
       asks_pair removes_if c.requires.asks.0 c.args.hasher.now v p.0 c.args.machine.now is shows.0 shows.1 shows.2,
-      subst (λ (r : Reply g.row.V.Denot). TestSays (MayTest g.F.Fn c.args.test.now) (Some (shows.0, shows.1)) r) (sym c.said.ensures)
+      subst (λ (r : MachineReply g.row.V.Denot). TestSays (MayTest g.F.Fn c.args.test.now) (Some (shows.0, shows.1)) r) (sym c.said.ensures)
           (test_says (MayTest g.F.Fn c.args.test.now) (shows.0, shows.1) c.tested-yes.result (c.tested-yes.ensures.tests shows.0 shows.1 (shown_at v.held p.0 c.word_of-word.result one shows.0 shows.1 shows.2))),
       c.tells.ensures.told,
     )

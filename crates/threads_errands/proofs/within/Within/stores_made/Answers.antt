@@ -1,7 +1,7 @@
 use Rattle.std.specs.Prelude.{ℕ, Option, Some, None, Result}
 use Rattle.std.proofs.Common.{◌≡◌, inr, refl, sym, subst, ap, ◌∙◌}
 use Rattle.seize_words.specs.declared.fault.Fault.{Fault}
-use Rattle.papaya_raw.specs.declared.machines.asking.Reply.TheVariants.{Insert}
+use Rattle.papaya_raw.specs.declared.machines.asking.MachineReply.TheVariants.{Insert}
 use Rattle.papaya_raw.specs.declared.machines.progress.Answer.{Answer}
 use Rattle.threads_rule.specs.declared.view.View.{View}
 use Rattle.threads_errands.specs.Asking.{MakingSays, PausedSo, makes_pair}

@@ -1,7 +1,7 @@
 use Rattle.std.proofs.Common.{sym, ap, ◌∙◌}
 use Rattle.papaya_raw.specs.declared.machines.machine.Machine.{Machine}
 use Rattle.threads_rule.specs.Views.Begun.{replied}
-use Rattle.threads_rule.specs.declared.view.Work.TheVariants.{Calls}
+use Rattle.threads_rule.specs.declared.view.SeatWork.TheVariants.{Calls}
 use Rattle.seize_callers.proofs.Keeping.{still_kept}
 use Rattle.threads_rule.proofs.Errands.Beginnings.{may_tell, told_leans}
 use Rattle.threads_errands.proofs.within.Within.tells_as.Goals as goal

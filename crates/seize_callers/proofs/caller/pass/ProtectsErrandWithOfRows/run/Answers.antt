@@ -7,8 +7,8 @@ use Rattle.seize_views.specs.Views.Notes.{NotedHolds}
 use Rattle.seize_views.specs.Views.Rows.{IsAtRest}
 use Rattle.seize_views.specs.declared.view.Fixed.{Fixed}
 use Rattle.seize_views.specs.Views.Watched.{LeansOn}
-use Rattle.seize_views.specs.declared.view.View.{View}
-use Rattle.seize_views.specs.declared.view.View.TheVariants.{Under}
+use Rattle.seize_views.specs.declared.view.SlotView.{SlotView}
+use Rattle.seize_views.specs.declared.view.SlotView.TheVariants.{Under}
 use Rattle.seize_views.proofs.Views.Passing.{leanings_begin, leanings_end}
 use Rattle.seize_callers.proofs.caller.pass.ProtectsErrandWithOfRows.run.Given as given
 use Rattle.seize_callers.proofs.caller.pass.ProtectsErrandWithOfRows.run.Goals as goal
@@ -29,7 +29,7 @@ learn-requires-clause-errand g c = λ home rests w told. absurd (subst (λ (e : 
 pub learn-requires-clause-leans : goal.learn-requires-clause-leans
 learn-requires-clause-leans g c = λ w told n leans.
     let asks = c.requires.1.3 in
-    let here : c.args.self.guard.now.id ≡ n = subst (λ (x : View g.row.T.Denot). LeansOn x n) (told asks.4.0 asks.4.1).0 leans in
+    let here : c.args.self.guard.now.id ≡ n = subst (λ (x : SlotView g.row.T.Denot). LeansOn x n) (told asks.4.0 asks.4.1).0 leans in
     inr (subst (λ (k : ℕ). Lends c.args.seat.now.away k) (sym asks.3 ∙ here) c.requires.1.2)
 
 under : (g : given.Over) (c : After-learn g) → c.learn.new.seat.view.knows ≡ Under c.args.self.guard.now.id c.requires.1.3.4.0 0
@@ -78,7 +78,7 @@ pub turn-requires-clause-errand : goal.turn-requires-clause-errand
 turn-requires-clause-errand g c = λ home rests w so. subst IsAtRest (sym so.0) tt
 
 pub turn-requires-clause-leans : goal.turn-requires-clause-leans
-turn-requires-clause-leans g c = λ w so n leans. absurd (subst (λ (x : View g.row.T.Denot). LeansOn x n) so.0 leans)
+turn-requires-clause-leans g c = λ w so n leans. absurd (subst (λ (x : SlotView g.row.T.Denot). LeansOn x n) so.0 leans)
 
 pub returns : goal.returns
 returns g c =

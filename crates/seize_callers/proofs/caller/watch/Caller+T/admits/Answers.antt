@@ -2,8 +2,8 @@ use Rattle.std.proofs.Common.{inl, subst}
 use Rattle.seize_callers.proofs.Resting.{at_rest}
 use Rattle.seize_views.specs.Views.Resting.{upright}
 use Rattle.seize_views.specs.Views.Watched.{LeansOn}
-use Rattle.seize_views.specs.declared.view.View.{View}
-use Rattle.seize_views.specs.declared.view.View.TheVariants.{Watches}
+use Rattle.seize_views.specs.declared.view.SlotView.{SlotView}
+use Rattle.seize_views.specs.declared.view.SlotView.TheVariants.{Watches}
 use Rattle.seize_views.proofs.Views.Guarding.{watches_begin}
 use Rattle.seize_callers.proofs.caller.watch.Caller+T.admits.Goals as goal
 
@@ -22,5 +22,5 @@ pub meet-requires-clause-leans : goal.meet-requires-clause-leans
 meet-requires-clause-leans g c = λ p q so.
     let k = so c.args._slot c.requires.inside in (
       λ n leans. absurd (upright p n (at_rest p.knows (Watches c.args._slot 0) k.0 tt) leans),
-      λ n leans. inl (subst (λ (x : View g.row.T.Denot). LeansOn x n) k.2 leans),
+      λ n leans. inl (subst (λ (x : SlotView g.row.T.Denot). LeansOn x n) k.2 leans),
     )

@@ -2,8 +2,8 @@ use Rattle.std.proofs.Common.{inl, subst}
 use Rattle.seize_callers.proofs.Resting.{at_rest}
 use Rattle.seize_views.specs.Views.Resting.{upright}
 use Rattle.seize_views.specs.Views.Watched.{LeansOn}
-use Rattle.seize_views.specs.declared.view.View.{View}
-use Rattle.seize_views.specs.declared.view.View.TheVariants.{Rests}
+use Rattle.seize_views.specs.declared.view.SlotView.{SlotView}
+use Rattle.seize_views.specs.declared.view.SlotView.TheVariants.{Rests}
 use Rattle.seize_views.proofs.Views.Guarding.{watches_end}
 use Rattle.seize_callers.proofs.caller.watch.Caller+T.excuses.Goals as goal
 
@@ -20,5 +20,5 @@ meet-requires-clause-errand g c = λ p q so.
 pub meet-requires-clause-leans : goal.meet-requires-clause-leans
 meet-requires-clause-leans g c = λ p q so. (
   λ n leans. absurd (upright p n (at_rest p.knows Rests so.0 tt) leans),
-  λ n leans. inl (subst (λ (x : View g.row.T.Denot). LeansOn x n) so.2 leans),
+  λ n leans. inl (subst (λ (x : SlotView g.row.T.Denot). LeansOn x n) so.2 leans),
 )

@@ -1,0 +1,17 @@
+-- The words may go to another thread.
+use Rattle.seize_atoms.specs.Visiting.{HoldsSince, seat_coded}
+use denote.RattleType.{RattleType}
+use denote.Param.Send.{IsSend, IsSync, sendable}
+use Rattle.core.specs.contracts.option.Option.{the_row as OptionOf}
+use Rattle.seize_seats.proofs.Seats.Views.Sent.{owns_keyless}
+use Rattle.seize_atoms.specs.declared.rule.Rule.{Ghosts}
+use Rattle.seize_atoms.specs.contracts.words.StripWords.{the_row}
+use Rattle.seize_seats.specs.contracts.kept.Kept as kept_of
+use Rattle.seize_seats.specs.Plots.Pieces.{kept_words}
+
+pub send : (T R V F : RattleType) (g : Ghosts R.Denot T.Denot V.Denot F.Denot) → IsSend T → IsSync T → IsSend (the_row T R V F g)
+send T R V F g s y = let sent : IsSend (OptionOf (kept_of.the_row T)) = search sendable depth 20 in let synced : IsSync (OptionOf (kept_of.the_row T)) = search sendable depth 20 in record {
+  owned =
+      λ d vs. ((λ vss. (tt, (tt, ((λ uss. (tt, tt)), tt)))), owns_keyless (kept_of.the_row T) kept_words sent synced (seat_coded V.coded) (HoldsSince g.rests g.leans d.start (g.holds d.fixed) g.keeps) d.words d.id);
+  leaving = λ k d w. tt;
+}

@@ -1,0 +1,114 @@
+-- `look` loads a door: what lies behind is told to whoever finds an address there.
+use Rattle.seize_atoms.specs.Visiting.{HoldsSince, keeps_here, seat_coded}
+use Rattle.std.proofs.Common.{◌≡◌, ℕ, suc, List, [], ◌∷◌, ◌+◌, ◌*◌, ◌^◌, ◌<◌, sym, refl, ◌∙◌, subst, w64, arith}
+use mir.Syntax.{dcons, dnil, a_type, named}
+use mir.MapTy.{inst_fn}
+use mir.Val.{Val, vint, vptr}
+use prog.Wp.{WpFn}
+use base.Logic.{SProp, ent, emp, via, id⊢}
+use base.Fml.{Lft, Fml, ftrue, fsep, flft, fhide}
+use types.Kit.{‵, raw, ◌⊛◌, given, mean, at_ret, ◌$◌, ◌∵◌, !, qed, by, move, keep, drop, split, join, fsplit, fjoin, learn, suffices, use0, use1, use3}
+use types.Run.{lit, of_opd, bin, no_more, and_then, first, blocks, exec, Calls-last, returns, enter}
+use types.ByLocal.{alloc_all, pass_all, free_all, look_at, get, sets, env, lands_last}
+use types.Part.{agg}
+use types.Tokens.{shr_bor-open, obor_close}
+use types.Within.{tokens_halve}
+use contract.Running.{tables}
+use contract.Monad.{fact, fact_i}
+use denote.Exit.{yes}
+use denote.RattleType.{RattleType, owns}
+use denote.Signature.{types_at, plain}
+use denote.RawPtr.{Ptr, InBlock, Testable, block_ptr, block_of, count_of, at_block, ptr_val, rawptr_vals, rawptr_Tells}
+use denote.Steps.{nothing, heard}
+use denote.Opens.{unhide}
+use denote.Memory.{hidden_shr}
+use denote.Param.{param, bounded}
+use denote.Builtin.{RefOf, RawPtr, u64}
+use denote.Plain.{uint_vals, uint_Tells}
+use denote.Ref.{shr_vals, shr_Tells}
+use denote.Struct.Tuple.{Tuple}
+use denote.Struct.Lending.{lent_out}
+use denote.Triple.Walked.{Stays, stay_dropped, walk_of, Goes-dropped}
+use Rattle.core.proofs.atomic.Steps.{tail, Ptr-Good}
+use Rattle.std.specs.contracts.marker.PhantomData as marker
+use Rattle.std.proofs.raw_atomic.Walks.{proved, leaves}
+use Rattle.std.proofs.raw_atomic.Calls.{fm, seq_cst}
+use Rattle.std.proofs.raw_atomic.PtrCalls.{found, finds, loads, seq_cst_good}
+use Rattle.seize_seats.specs.Seats.Doors.{before}
+use Rattle.seize_seats.specs.Seats.Owned.{BaseId, IsPlaced, age, core_of, common, stride, strip_told, words_share}
+use Rattle.seize_seats.proofs.Seats.Views.Shown.{placed}
+use Rattle.seize_seats.proofs.Seats.Growing.Looks.{glimpse, Fits, looks, at_door, tells_more}
+use Rattle.seize_atoms.specs.contracts.words.StripWords as words
+use Rattle.seize_atoms.specs.contracts.strip.Strip as strip
+use Rattle.seize_atoms.proofs.Fields.{word_laws, hand_of, hand_good, Data, StripData, strip_made}
+use Rattle.seize_atoms.specs.contracts.words.StripWords.look.{ended, clauses}
+use Rattle.seize_atoms.specs.contracts.words.StripWords.look.Key.{name as #self}
+use Rattle.seize_atoms.proofs.words.StripWords.look.Statement.{statement}
+use Rattle.seize_atoms.proofs.words.StripWords.look.Code as code
+use Rattle.seize_seats.specs.contracts.kept.Kept as kept_of
+use Rattle.seize_seats.specs.Plots.Pieces.{kept_words}
+
+pub look_spec : {M : Type 1} → statement M
+look_spec 𝓤 𝓛 𝓜 𝓡 wired X P U F LX LP LU LF g d _ =
+    let H = 𝓛.H in let 𝓣 = tables 𝓤 H 𝓜 𝓡 𝓡.env in let R₀ : RattleType = param 0 X in let K₀ : RattleType = kept_of.the_row R₀ in let R₁ : RattleType = param 1 P in let R₂ : RattleType = param 2 U in
+    let R₃ : RattleType = param 3 F in
+    let En = ended X P U F g d in let c = clauses X P U F g d 𝓛 𝓜.mem 𝓡.returns in
+    let inst = bounded (a_type ∷ a_type ∷ a_type ∷ a_type ∷ []) (X, (P, (U, (F, tt)))) (dcons d dnil) in let fn = inst_fn inst code.function in
+    let Row : RattleType = words.the_row R₀ R₁ R₂ R₃ g in let St : RattleType = strip.the_row R₀ in let D : RattleType = Data R₀ R₁ R₂ R₃ g in
+    let self = RefOf (0 ∷ []) tt (plain (λ _. Row)) (λ _. tt) in let addr = plain (λ _. RawPtr) in let num = plain (λ _. u64) in
+    let hs : Stays En.signature.params En.kept = (stay_dropped self yes, (stay_dropped addr yes, (stay_dropped num yes, tt))) in
+    proved 𝓛 En hs c 𝓜 𝓡
+    (Goes-dropped 𝓛 5 self yes (λ κs x f. refl), (Goes-dropped 𝓛 5 addr yes (λ κs x f. refl), (Goes-dropped 𝓛 5 num yes (λ κs x f. refl), tt)))
+    (#self inst) fn (code.unfolded 𝓤 H 𝓜 𝓡 wired (X, (P, (U, (F, tt)))) d)
+    (λ κs. (shr_vals, (rawptr_vals, (uint_vals w64, tt)))) (λ κs. (shr_Tells (named 0) κs.0 Row, (rawptr_Tells, (uint_Tells w64, tt)))) (λ κs qs bounds a gh are.
+    let b : ℕ = a.0.ref_ptr.0 in let o : ℕ = a.0.ref_ptr.1 in let κ : Lft = κs.0 in
+    let t : Row.Denot = a.0.now in let p : Ptr = t.words in let z : BaseId = t.id in let pd : Ptr = a.1.0 in let j : ℕ = a.1.1.0 in
+    let cv = seat_coded R₂.coded in let α : Lft = age z in let rule = g.holds t.fixed in let holds = HoldsSince g.rests g.leans t.start rule g.keeps in let keeps = keeps_here g.keeps in
+    let db : ℕ = block_of z.doors in let d₀ : ℕ = count_of z.doors in let e : ℕ = j * 8 + d₀ in let p' : Ptr = block_ptr db d₀ in
+    let others : Fml = fsep (flft κs.1.0 qs.1.0) (fsep (flft κs.1.1.0 qs.1.1.0) (fsep (flft κs.1.1.1.0 qs.1.1.1.0)
+    (fsep (flft κs.1.1.1.1.0 qs.1.1.1.1.0) ftrue))) in
+    let Asked : Type 0 = (pd ≡ z.doors) × (j < 32) in
+    let us : Ptr → List Val = λ r. vptr b o ∷ ptr_val r ∷ vint w64 j ∷ [] in
+    let y : (walk_of 𝓛 En hs c).Ghost = ((κs, qs, bounds, a, (vptr b o ∷ [], (ptr_val pd ∷ [], (vint w64 j ∷ [], tt)))), gh) in
+    let Post : Val → SProp 𝓤 = (walk_of 𝓛 En hs c).post y in let Run : List Val → SProp 𝓤 = λ ws. WpFn 𝓤 H 𝓣.C 𝓣.Λ fn ws Post in
+    qed 𝓛 (((‵ (flft κs.0 qs.0) ⊛ ‵ others) ⊛ ‵ (owns (types_at En.signature.params κs) a y.0.4)) ∷ raw (fact 𝓤 _) ∷ raw (fact 𝓤 _) ∷ raw (fact 𝓤 _) ∷
+    raw (fact 𝓤 _) ∷ raw (fact 𝓤 Asked) ∷ []) ∵
+    keep ! (5 ∷ 0 ∷ []) $ heard ! Asked (λ asked. split ! $ split ! $ move ! (2 ∷ []) $ fsplit ! $ fsplit ! $ keep ! (1 ∷ 3 ∷ 4 ∷ []) $
+    use1 𝓛 (‵ (hidden_shr D κ (p, (tt, tt)) b o) ⊛ ‵ (fhide (words_share K₀ kept_words cv holds p z κ)))
+    (lent_out 𝓛 (words.struct R₀ R₁ R₂ R₃ g)
+    (words.the_codes X.Denot P.Denot U.Denot F.Denot R₀.coded R₁.coded R₂.coded R₃.coded (marker.the_row (Tuple (R₀ ∷ R₁ ∷
+    []))).coded) (words.the_heap R₀ R₁ R₂ R₃ g) (words.the_lent R₀ R₁ R₂ R₃ g) κ t b o) $
+    split ! $ drop ! $ unhide ! $ fsplit ! $ move ! (1 ∷ []) $
+    use1 𝓛 (given (IsPlaced K₀ p z) (‵ (common K₀ kept_words cv holds p z))) (placed K₀ kept_words cv holds p z 𝓛) $ learn ! (λ there. fsplit ! $ drop ! $
+    -- [the invariant; its lifetime lasts; the token; the others]
+    let at_d : pd ≡ p' = asked.0 ∙ at_block z.doors there.4 in let few = asked.1 in let small : j * 8 < 2 ^ 64 = omega (arith, few) in
+    suffices ! (Run (us p')) (subst (λ (r : Ptr). ent 𝓤 (Run (us p')) (Run (us r))) (sym at_d) (id⊢ 𝓤 (Run (us p')))) $
+    enter ! 𝓣.C 𝓣.Λ fn (us p') Post $ alloc_all ! (λ l. pass_all ! refl ((tt, tt), (Ptr-Good p', ((tt, record { fits = are.1.1.0.1 }), tt))) $
+    let Ev = env fn.locals l in
+    move ! (1 ∷ 2 ∷ []) $ shr_bor-open ! tt (tokens_halve 𝓛 α) (λ s. let out : Ptr → Fml = λ r. fsep (flft α s) (glimpse 𝓛 K₀ kept_words cv holds p z s j e asked.1 refl r) in
+    -- [open; the token; the invariant; the others]
+    first ! $ blocks ! $ sets ! (of_opd ! (get ! refl)) refl (tt, record { fits = are.1.1.0.1 }) $
+    sets ! (bin ! (get ! refl) (lit ! tt) (record { fits = small })) refl (tt, record { fits = small }) $
+    sets ! (bin ! (get ! refl) (get ! refl) tt) refl (tt, tt) $
+    nothing ! $ move ! (3 ∷ 2 ∷ 0 ∷ []) $
+    use3 𝓛 (raw (𝓣.C _ (vptr db e ∷ seq_cst ∷ []) (λ u. mean 𝓛 (found 𝓛 out u))))
+    (via 𝓤 _ (looks 𝓛 K₀ kept_words cv holds p z s j e asked.1 refl)
+    (loads 𝓛 𝓜 𝓡 (code.calls-core::raw_atomic::ptr::load 𝓡.env wired) u64 word_laws (block_ptr db e) out)) $
+    sets ! (agg ! (and_then ! (lit ! tt) (no_more !))) refl seq_cst_good $
+    Calls-last ! (fm 𝓛 𝓜 𝓡) (found 𝓛 out) (and_then ! (get ! refl) (and_then ! (get ! refl) (no_more !))) (λ u. finds ! out (λ w.
+    lands_last ! refl (Ptr-Good w) $ exec ! 𝓣.C 𝓣.Λ Ev (tail fn.body) (at_ret Ev Post) $
+    sets ! (of_opd ! (get ! refl)) refl (Ptr-Good w) $ sets ! (agg ! (no_more !)) refl (tt, tt) $
+    sets ! (agg ! (and_then ! (get ! refl) (and_then ! (get ! refl) (no_more !)))) refl (hand_good w) $
+    fsplit ! $ move ! (2 ∷ 0 ∷ []) $ obor_close ! tt $ drop ! $ move ! (1 ∷ []) $
+    let y' : BaseId = at_door 𝓛 K₀ kept_words cv holds p z s j e asked.1 refl w in let r : St.Denot = record { words = w; marker = record {}; id = y' } in
+    let n : ℕ = z.least * 2 ^ j in
+    let Told : Type 0 = (core_of y' ≡ core_of z) × (before K₀ n ≡ before K₀ n) × (w ≡ w) × (n ≡ n) × (n ≡ n) × (suc j ≡ j + 1) × Testable w
+    × (InBlock w → ((before K₀ n + n * 5) * 8 < 2 ^ 63) × (n * stride K₀ < 2 ^ 63)) in
+    -- [what is told; the token; the others]
+    use1 𝓛 (given (Fits 𝓛 K₀ kept_words cv holds p z s j e asked.1 refl w) (‵ (strip_told K₀ w y'))) (tells_more 𝓛 K₀ kept_words cv holds p z s j e asked.1 refl there.4 w) $ learn ! (λ fit.
+    let next : suc j ≡ j + 1 = omega arith in
+    nothing ! $ move ! (1 ∷ 0 ∷ []) $ fjoin ! $ use0 𝓛 (‵ ((StripData R₀).own_val (w, (tt, tt)) (hand_of w ∷ []))) (strip_made 𝓛 R₀ w) $ fjoin ! $
+    nothing ! $ nothing ! $ fjoin ! $ nothing ! $ fjoin ! $ nothing ! $ fjoin ! $ move ! (2 ∷ 3 ∷ []) $ join ! $
+    use0 𝓛 (raw (fact 𝓤 Told)) (fact_i 𝓤 Told (emp 𝓤) (refl, refl, refl, refl, refl, next, fit.0, fit.1)) $
+    returns ! (look_at ! 0 refl) $ free_all ! refl $ keep ! (1 ∷ 2 ∷ 3 ∷ 0 ∷ []) $
+    by ! (leaves 𝓛 En hs c y (hand_of w) r (tt, (tt, (tt, tt))) (tt, (tt, (tt, tt))))))))))))

@@ -1,0 +1,116 @@
+-- `meet` opens the invariant once for both seats, and takes no step of the machine.
+use Rattle.seize_atoms.specs.Visiting.{Seen, HoldsSince, keeps_here, seat_coded}
+use Rattle.seize_seats.specs.Seats.Visits.{onward}
+use Rattle.seize_seats.specs.Seats.Errands.{coded_of, MayMeet, MayLeanBoth}
+use Rattle.seize_atoms.proofs.Allowed.{meet_allowed}
+use Rattle.std.proofs.Common.{◌≡◌, ℕ, List, [], ◌∷◌, sym, refl}
+use mir.Syntax.{dcons, dnil, a_type, named}
+use mir.MapTy.{inst_fn}
+use mir.Val.{Val, vptr, vunit}
+use base.Logic.{SProp, emp}
+use base.Fml.{Lft, Fml, ftrue, fsep, flft, fhide}
+use types.Kit.{‵, raw, ◌⊛◌, later, ◌$◌, ◌∵◌, !, qed, by, move, keep, drop, split, split3, join, fsplit, fsplit3, fjoin, fjoin3, fpick, use0, use1, use3, await, rewrite, feq_i, some as items, pick}
+use types.Run.{of_opd, unit_lit, returns, enter}
+use types.ByLocal.{alloc_all, pass_all, free_all, look_at, sets, env}
+use contract.Running.{tables}
+use contract.Monad.{fact, fact_i}
+use denote.Exit.{yes}
+use denote.RattleType.{RattleType, owns}
+use denote.Signature.{types_at, plain}
+use denote.RawPtr.{Ptr}
+use denote.Steps.{nothing, heard, opens, closes}
+use denote.Opens.{unhide}
+use denote.Memory.{hidden_shr}
+use denote.Param.{param, bounded}
+use denote.Builtin.{RefOf}
+use denote.Ref.{shr_vals, shr_Tells, mut_vals, mut_Tells}
+use denote.Struct.Tuple.{Tuple}
+use denote.Struct.Lending.{lent_out}
+use denote.Triple.Walked.{Stays, stay_dropped, stay_ref, walk_of, Goes-dropped, Goes-ref}
+use Rattle.std.specs.contracts.marker.PhantomData as marker
+use Rattle.std.proofs.raw_atomic.Walks.{proved, leaves}
+use Rattle.seize_seats.specs.Seats.State.{Meets}
+use Rattle.seize_seats.specs.Seats.Owned.{BaseId, words_share}
+use Rattle.seize_seats.proofs.Seats.Stepping.Moves.{seat as seat_of}
+use Rattle.seize_seats.proofs.Seats.Stepping.Meetings.{meets, met}
+use Rattle.seize_atoms.specs.contracts.words.StripWords as words
+use Rattle.seize_atoms.specs.contracts.seat.Seat as seat
+use Rattle.seize_atoms.proofs.Fields.{Data}
+use Rattle.seize_atoms.specs.contracts.words.StripWords.meet.{ended, clauses}
+use Rattle.seize_atoms.specs.contracts.words.StripWords.meet.Key.{name as #self}
+use Rattle.seize_atoms.proofs.words.StripWords.meet.Statement.{statement}
+use Rattle.seize_atoms.proofs.words.StripWords.meet.Code as code
+use Rattle.seize_seats.specs.Seats.Stretches.{seat_owns}
+use Rattle.seize_seats.proofs.Seats.Views.Stretches.{ends, begins}
+use Rattle.seize_seats.specs.contracts.kept.Kept as kept_of
+use Rattle.seize_seats.specs.Plots.Pieces.{kept_words}
+
+pub meet_spec : {M : Type 1} → statement M
+meet_spec 𝓤 𝓛 𝓜 𝓡 wired X P U F N LX LP LU LF LN g d g' d' _ _ =
+    let H = 𝓛.H in let 𝓣 = tables 𝓤 H 𝓜 𝓡 𝓡.env in let R₀ : RattleType = param 0 X in let K₀ : RattleType = kept_of.the_row R₀ in let R₁ : RattleType = param 1 P in let R₂ : RattleType = param 2 U in
+    let R₃ : RattleType = param 3 F in
+    let En = ended X P U F N g d g' d' in let c = clauses X P U F N g d g' d' 𝓛 𝓜.mem 𝓡.returns in
+    let inst = bounded (a_type ∷ a_type ∷ a_type ∷ a_type ∷ a_type ∷ []) (X, (P, (U, (F, (N, tt))))) (dcons d (dcons d' dnil)) in
+    let fn = inst_fn inst code.function in
+    let Row : RattleType = words.the_row R₀ R₁ R₂ R₃ g in let Sr : RattleType = seat.the_row R₀ R₁ R₂ R₃ g in let D : RattleType = Data R₀ R₁ R₂ R₃ g in
+    let self = RefOf (0 ∷ []) tt (plain (λ _. Row)) (λ _. tt) in let sitter = plain (λ _. Sr) in
+    let hs : Stays En.signature.params En.kept = (stay_dropped self yes, (stay_ref (1 ∷ []) tt sitter, (stay_ref (2 ∷ []) tt sitter, tt))) in
+    proved 𝓛 En hs c 𝓜 𝓡 (Goes-dropped 𝓛 8 self yes (λ κs x f. refl), (Goes-ref 𝓛 8 1 tt sitter, (Goes-ref 𝓛 8 2 tt sitter, tt)))
+    (#self inst) fn (code.unfolded 𝓤 H 𝓜 𝓡 wired (X, (P, (U, (F, (N, tt))))) d d')
+    (λ κs. (shr_vals, (mut_vals, (mut_vals, tt))))
+    (λ κs. (shr_Tells (named 0) κs.0 Row, (mut_Tells (named 1) κs.1.0 Sr, (mut_Tells (named 2) κs.1.1.0 Sr, tt)))) (λ κs qs bounds a gh are.
+    let b : ℕ = a.0.ref_ptr.0 in let o : ℕ = a.0.ref_ptr.1 in let b' : ℕ = a.1.0.ref_ptr.0 in let o' : ℕ = a.1.0.ref_ptr.1 in
+    let b₂ : ℕ = a.1.1.0.ref_ptr.0 in let o₂ : ℕ = a.1.1.0.ref_ptr.1 in let κ : Lft = κs.0 in
+    let t : Row.Denot = a.0.now in let p : Ptr = t.words in let z : BaseId = t.id in let h : Sr.Denot = a.1.0.now in let k : Sr.Denot = a.1.1.0.now in
+    let i : ℕ = h.id in let v : Seen U.Denot = ((h.view, h.visit), h.away) in let j : ℕ = k.id in let u : Seen U.Denot = ((k.view, k.visit), k.away) in
+    let cv = seat_coded R₂.coded in let rule = g.holds t.fixed in let holds = HoldsSince g.rests g.leans t.start rule g.keeps in let keeps = keeps_here g.keeps in let to : U.Denot → U.Denot → Type 0 = g'.to t.fixed h.view k.view in
+    let so : Seen U.Denot → Seen U.Denot → Type 0 = λ c d. (to c.0.0 d.0.0 × (c.0.1 ≡ onward h.visit) × (d.0.1 ≡ onward k.visit)) × (c.1 ≡ h.away) × (d.1 ≡ k.away) in
+    let others : Fml = fsep (flft κs.1.1.1.0 qs.1.1.1.0) (fsep (flft κs.1.1.1.1.0 qs.1.1.1.1.0) (fsep (flft κs.1.1.1.1.1.0 qs.1.1.1.1.1.0)
+    (fsep (flft κs.1.1.1.1.1.1.0 qs.1.1.1.1.1.1.0) (fsep (flft κs.1.1.1.1.1.1.1.0 qs.1.1.1.1.1.1.1.0) ftrue)))) in
+    let Asked : Type 0 = (h.base ≡ z.views_name) × (k.base ≡ z.views_name) × Meets rule i h.view j k.view to × MayMeet g.rests h.away h.view k.away k.view to
+    × MayLeanBoth g.leans h.away h.view k.away k.view to in
+    let y : (walk_of 𝓛 En hs c).Ghost = ((κs, qs, bounds, a, (vptr b o ∷ [], (vptr b' o' ∷ [], (vptr b₂ o₂ ∷ [], tt)))), gh) in
+    let Post : Val → SProp 𝓤 = (walk_of 𝓛 En hs c).post y in
+    qed 𝓛 (((‵ (flft κs.0 qs.0) ⊛ ‵ (flft κs.1.0 qs.1.0) ⊛ ‵ (flft κs.1.1.0 qs.1.1.0) ⊛ ‵ others) ⊛ ‵ (owns (types_at En.signature.params κs) a y.0.4)) ∷
+    raw (fact 𝓤 _) ∷ raw (fact 𝓤 _) ∷ raw (fact 𝓤 _) ∷ raw (fact 𝓤 _) ∷ raw (fact 𝓤 _) ∷ raw (fact 𝓤 Asked) ∷ []) ∵
+    keep ! (6 ∷ 0 ∷ []) $ heard ! Asked (λ asked. let law = meet_allowed g.rests g.leans g.upright rule g.keeps t.start i h.view h.visit h.away j k.view k.visit k.away to asked.3 asked.4 asked.2 in split ! $ split3 ! $ move ! (2 ∷ []) $ split ! $ move ! (4 ∷ []) $ fsplit3 ! $ move ! (2 ∷ []) $ fsplit ! $
+    fsplit3 ! $ move ! (5 ∷ []) $ fsplit3 ! $ move ! (7 ∷ []) $ fsplit ! $
+    -- [self; its token; the one seat, by two; its token; the other, by two; its token; the others]
+    keep ! (1 ∷ 11 ∷ 3 ∷ 4 ∷ 12 ∷ 6 ∷ 7 ∷ 9 ∷ 10 ∷ []) $
+    enter ! 𝓣.C 𝓣.Λ fn (vptr b o ∷ vptr b' o' ∷ vptr b₂ o₂ ∷ []) Post $ alloc_all ! (λ l. pass_all ! refl ((tt, tt), ((tt, tt), ((tt, tt), tt))) $
+    let Ev = env fn.locals l in
+    use1 𝓛 (‵ (hidden_shr D κ (p, (tt, tt)) b o) ⊛ ‵ (fhide (words_share K₀ kept_words cv holds p z κ)))
+    (lent_out 𝓛 (words.struct R₀ R₁ R₂ R₃ g)
+    (words.the_codes X.Denot P.Denot U.Denot F.Denot R₀.coded R₁.coded R₂.coded R₃.coded (marker.the_row (Tuple (R₀ ∷ R₁ ∷
+    []))).coded) (words.the_heap R₀ R₁ R₂ R₃ g) (words.the_lent R₀ R₁ R₂ R₃ g) κ t b o) $
+    split ! $ drop ! $ unhide ! $ move ! (2 ∷ 3 ∷ 4 ∷ []) $ opens ! tt Sr b' o' (λ ts. move ! (1 ∷ []) $ fsplit ! $
+    rewrite ! 1 (λ (w : ℕ). ‵ (seat_owns cv.code w i v h.stretch h.mark)) asked.0 refl $ move ! (1 ∷ []) $
+    use1 𝓛 (later (‵ (seat_of 𝓛 K₀ kept_words cv holds keeps p z i v))) (ends 𝓛 (coded_of cv) z.views_name i v h.stretch h.mark) $ await ! tt $
+    -- [the one; its fields; four of it; what the words share; the token; the other, by two; its token; the others]
+    move ! (8 ∷ 9 ∷ 10 ∷ []) $ opens ! tt Sr b₂ o₂ (λ us. move ! (1 ∷ []) $ fsplit ! $
+    rewrite ! 1 (λ (w : ℕ). ‵ (seat_owns cv.code w j u k.stretch k.mark)) asked.1 refl $ move ! (1 ∷ []) $
+    use1 𝓛 (later (‵ (seat_of 𝓛 K₀ kept_words cv holds keeps p z j u))) (ends 𝓛 (coded_of cv) z.views_name j u k.stretch k.mark) $ await ! tt $
+    -- [the other; its fields; four of it; the one; its fields; four of it; what the words share; the token; the others]
+    move ! (6 ∷ 0 ∷ []) $ join ! $ move ! (11 ∷ 12 ∷ 0 ∷ []) $
+    use3 𝓛 (later (‵ (met 𝓛 K₀ kept_words cv holds keeps p z i v j u so (λ c d told. (told.1, told.2)) law) ⊛ ‵ (flft κ qs.0))) (meets 𝓛 K₀ kept_words cv holds keeps p z i v j u so (λ c d told. (told.1, told.2)) law κ qs.0) $
+    await ! tt $ split ! $ fpick ! (λ w. fsplit ! $ fpick ! (λ such. drop ! $ fsplit ! $
+    use1 𝓛 (later (items (λ (st : ℕ × ℕ). ‵ (seat_owns cv.code z.views_name i w.0 st.0 st.1)))) (begins 𝓛 (coded_of cv) z.views_name i w.0) $ await ! tt $
+    pick ! (λ st. move ! (1 ∷ []) $
+    use1 𝓛 (later (items (λ (st : ℕ × ℕ). ‵ (seat_owns cv.code z.views_name j w.1 st.0 st.1)))) (begins 𝓛 (coded_of cv) z.views_name j w.1) $ await ! tt $
+    pick ! (λ su.
+    let h' : Sr.Denot = record { marker = h.marker; base = z.views_name; id = i; view = w.0.0.0; visit = w.0.0.1; away = w.0.1; stretch = st.0; mark = st.1 } in
+    let k' : Sr.Denot = record { marker = k.marker; base = z.views_name; id = j; view = w.1.0.0; visit = w.1.0.1; away = w.1.1; stretch = su.0; mark = su.1 } in
+    let Told : Type 0 = (z.views_name ≡ h.base) × (i ≡ i) × (z.views_name ≡ k.base) × (j ≡ j) × (w.0.1 ≡ h.away) × (w.1.1 ≡ k.away) × to w.0.0.0 w.1.0.0 in
+    -- [the other; the one; the token; the other's fields; four; the one's fields; four; the others]
+    move ! (3 ∷ 0 ∷ []) $ fjoin ! $ move ! (3 ∷ 0 ∷ 4 ∷ 5 ∷ 6 ∷ []) $ closes ! tt Sr k' us b₂ o₂ $
+    feq_i ! (List Val) (vptr b₂ o₂ ∷ []) (vptr b₂ o₂ ∷ []) refl $ fjoin3 ! $
+    -- [the other; its token; the one; the token; the one's fields; four; the others]
+    move ! (4 ∷ 2 ∷ []) $ fjoin ! $ move ! (4 ∷ 0 ∷ 5 ∷ 6 ∷ 7 ∷ []) $ closes ! tt Sr h' ts b' o' $
+    feq_i ! (List Val) (vptr b' o' ∷ []) (vptr b' o' ∷ []) refl $ fjoin3 ! $
+    -- [the one; its token; the other; its token; the token; the others]
+    nothing ! $ move ! (3 ∷ 0 ∷ []) $ fjoin ! $ move ! (1 ∷ 0 ∷ []) $ fjoin ! $ nothing ! $ fjoin ! $
+    move ! (2 ∷ 4 ∷ []) $ join ! $ move ! (2 ∷ 0 ∷ []) $ join ! $ move ! (2 ∷ 0 ∷ []) $ join ! $
+    sets ! (of_opd ! (unit_lit !)) refl (tt, tt) $ feq_i ! (List Val) (vunit ∷ []) (vunit ∷ []) refl $
+    use0 𝓛 (raw (fact 𝓤 Told)) (fact_i 𝓤 Told (emp 𝓤) (sym asked.0, refl, sym asked.1, refl, such.1, such.2, such.0.0)) $
+    returns ! (look_at ! 0 refl) $ free_all ! refl $ keep ! (2 ∷ 3 ∷ 1 ∷ 0 ∷ []) $
+    by ! (leaves 𝓛 En hs c y vunit tt (tt, (h', (k', tt))) (tt, (tt, (tt, tt)))))))))))))

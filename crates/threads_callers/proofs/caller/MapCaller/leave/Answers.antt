@@ -1,0 +1,31 @@
+use Rattle.std.proofs.Common.{refl}
+use Rattle.seize_views.specs.declared.view.Has.TheVariants.{Nothing}
+use Rattle.seize_views.specs.declared.view.SlotView.TheVariants.{Inside, Outside}
+use Rattle.threads_rule.specs.Views.Notes.{notes_of}
+use Rattle.threads_rule.proofs.Views.Contents.{knows_free}
+use Rattle.seize_callers.proofs.Keeping.{none_away}
+use Rattle.seize_callers.proofs.Resting.{at_rest}
+use Rattle.threads_callers.proofs.Rows.{calls_stay, known_free, map_stays}
+use Rattle.threads_callers.proofs.caller.MapCaller.leave.Goals as goal
+
+pub errand-requires-clause-home : goal.errand-requires-clause-home
+errand-requires-clause-home g c = none_away c.args.self.now.seat.away c.args.self.now.home
+
+pub errand-requires-clause-asks : goal.errand-requires-clause-asks
+errand-requires-clause-asks g c =
+    (c.requires.sized, (Nothing, tt, known_free c.args.self.now.seat.view (Inside c.args.slot Nothing) c.args.self.now.lone c.requires.inside c.requires.free), refl)
+
+pub errand-requires-clause-ends : goal.errand-requires-clause-ends
+errand-requires-clause-ends g c = λ answer w did. at_rest (notes_of w).knows (Outside c.args.slot) did.0 tt
+
+pub returns-clause-outside : goal.returns-clause-outside
+returns-clause-outside g c = (knows_free c.errand.new.seat.view (Outside c.args.slot) tt c.errand.ensures.did.0).2
+
+pub returns-clause-free : goal.returns-clause-free
+returns-clause-free g c = (knows_free c.errand.new.seat.view (Outside c.args.slot) tt c.errand.ensures.did.0).1
+
+pub returns-clause-map : goal.returns-clause-map
+returns-clause-map g c = map_stays c.args.self.now.seat.view c.errand.new.seat.view c.errand.ensures.did.2
+
+pub returns-clause-calls : goal.returns-clause-calls
+returns-clause-calls g c = calls_stay c.args.self.now.seat.view c.errand.new.seat.view c.errand.ensures.did.2

@@ -1,0 +1,18 @@
+use Rattle.std.specs.Fn.{FnOnceReturns}
+use Rattle.seize_callers.proofs.Keeping.{none_away}
+use Rattle.threads_errands.specs.Asking.{MakingSays}
+use Rattle.threads_rule.specs.Errands.Calling.{wanted_of}
+use Rattle.threads_callers.proofs.Rows.{rests_answered}
+use Rattle.threads_callers.proofs.caller.MapCaller.makes_pair.Goals as goal
+
+pub errand-ran-requires-clause-home : goal.errand-ran-requires-clause-home
+errand-ran-requires-clause-home g c = none_away c.args.self.now.seat.away c.args.self.now.home
+
+pub errand-ran-requires-clause-asks : goal.errand-ran-requires-clause-asks
+errand-ran-requires-clause-asks g c = (c.requires.may.0, c.requires.may.1, c.requires.may.2, c.requires.callable)
+
+pub errand-ran-requires-clause-ends : goal.errand-ran-requires-clause-ends
+errand-ran-requires-clause-ends g c =
+    λ answer w did.
+    rests_answered g.K.PartialEq.eq g.S.Hashes.hash (MakingSays {K = g.row.K.Denot} (FnOnceReturns g.F.FnOnce c.args.make tt)) (wanted_of c.args.machine) answer.told c.args.self.now.seat.view w
+    c.requires.may.2.slot c.args.self.now.lone c.requires.may.2.inside did

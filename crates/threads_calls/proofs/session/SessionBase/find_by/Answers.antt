@@ -1,0 +1,13 @@
+use Rattle.std.proofs.Common.{ap, ◌∙◌}
+use Rattle.map_machines.specs.Lookup.{looking}
+use Rattle.threads_calls.proofs.Sessions.{may_look}
+use Rattle.threads_calls.proofs.session.SessionBase.find_by.Goals as goal
+
+pub finds_by-requires : goal.finds_by-requires
+finds_by-requires g c =
+    let x = c.args.self.now in record {
+      own = c.requires.own;
+      may =
+          may_look g.S.Hashes.hash x.caller.seat.view x.setting x.hasher.now c.args.key.now c.new-lookup.result x.slot x.caller.lone c.requires.inside x.free x.knows x.incremental
+          (c.new-lookup.ensures ∙ ap (looking x.setting.root x.setting.mode) c.hash_of-hash.ensures);
+    }

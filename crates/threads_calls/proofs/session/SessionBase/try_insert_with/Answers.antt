@@ -1,0 +1,31 @@
+use Rattle.std.specs.Fn.{FnOnceReturns}
+use Rattle.std.proofs.Common.{refl, sym}
+use Rattle.threads_errands.specs.Asking.{MakingSays}
+use Rattle.threads_calls.proofs.Asks.{answered_by, asked_by, first, may_make}
+use Rattle.threads_calls.proofs.session.SessionBase.try_insert_with.Goals as goal
+
+pub makes_pair-ran-requires-clause-may : goal.makes_pair-ran-requires-clause-may
+makes_pair-ran-requires-clause-may g c =
+    let x = c.args.self.now in (
+      first,
+      refl,
+      may_make g.K.PartialEq.eq g.S.Hashes.hash x.caller.seat.view x.setting c.setting_in-setting.result x.hasher.now c.args.key c.hash_of-hash.result x.slot c.try_insert_with-call.result
+          x.caller.lone c.requires.inside x.free x.knows x.incremental c.setting_in-setting.ensures c.hash_of-hash.ensures c.try_insert_with-call.ensures,
+    )
+
+pub returns-in-Ok-clause-tried : goal.returns-in-Ok-clause-tried
+returns-in-Ok-clause-tried g c = (
+  c.in-Ok.answer,
+  answered_by g.K.PartialEq.eq g.S.Hashes.hash (MakingSays {K = g.row.K.Denot} (FnOnceReturns g.F.FnOnce c.args.make tt)) c.args.self.now.caller.seat.view c.makes_pair-ran.new.self.seat.view c.try_insert_with-call.ensures c.told_of.ensures c.in-Ok.is c.makes_pair-ran.ensures.answered,
+  c.is_put.ensures,
+)
+
+pub returns-in-Err-clause-refused : goal.returns-in-Err-clause-refused
+returns-in-Err-clause-refused g c =
+    answered_by g.K.PartialEq.eq g.S.Hashes.hash (MakingSays {K = g.row.K.Denot} (FnOnceReturns g.F.FnOnce c.args.make tt)) c.args.self.now.caller.seat.view c.makes_pair-ran.new.self.seat.view c.try_insert_with-call.ensures c.told_of.ensures c.in-Err.is c.makes_pair-ran.ensures.answered
+
+pub returns-in-Ok-clause-asked : goal.returns-in-Ok-clause-asked
+returns-in-Ok-clause-asked g c = asked_by g.K.PartialEq.eq g.S.Hashes.hash (MakingSays {K = g.row.K.Denot} (FnOnceReturns g.F.FnOnce c.args.make tt)) c.args.self.now.caller.seat.view c.makes_pair-ran.new.self.seat.view c.try_insert_with-call.ensures c.makes_pair-ran.ensures.answered
+
+pub returns-in-Err-clause-asked : goal.returns-in-Err-clause-asked
+returns-in-Err-clause-asked g c = asked_by g.K.PartialEq.eq g.S.Hashes.hash (MakingSays {K = g.row.K.Denot} (FnOnceReturns g.F.FnOnce c.args.make tt)) c.args.self.now.caller.seat.view c.makes_pair-ran.new.self.seat.view c.try_insert_with-call.ensures c.makes_pair-ran.ensures.answered
