@@ -34,6 +34,7 @@ pub use Rattle.seize_model.proofs.Alone.Laws as SeizeAloneLaws
 pub use Rattle.seize_model.proofs.Alone.Spared as SeizeAloneSpared
 pub use Rattle.seize_model.proofs.Ends.Rows as SeizeEndsRows
 pub use Rattle.seize_model.proofs.Ends.Settling as SeizeEndsSettling
+pub use Rattle.seize_model.proofs.Given.General
 pub use Rattle.seize_model.proofs.Given.SeizeMemoryWords
 pub use Rattle.seize_model.proofs.Given.SeizeMemoryWritten
 pub use Rattle.seize_model.proofs.Given.SeizeMovesMoves

@@ -1,6 +1,7 @@
 -- What is so by the crates below, given on to the crates above: these list this crate in place of those.
 pub use Rattle.many_calls.proofs.Asked as CallersAsked
 pub use Rattle.many_calls.proofs.Claims as CallersClaims
+pub use Rattle.many_calls.proofs.Given.General
 pub use Rattle.many_calls.proofs.Given.LateCalls
 pub use Rattle.many_calls.proofs.Given.LateCopiers
 pub use Rattle.many_calls.proofs.Given.LateKindsKept

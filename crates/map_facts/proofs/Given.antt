@@ -1,4 +1,5 @@
 -- What is so by the crates below, given on to the crates above: these list this crate in place of those.
+pub use Rattle.map_rule.proofs.Given.General
 pub use Rattle.map_rule.proofs.Given.SeizeMemoryWords
 pub use Rattle.map_rule.proofs.Given.SeizeRuleRows
 pub use Rattle.map_rule.proofs.Given.SeizeWordsOneOwner

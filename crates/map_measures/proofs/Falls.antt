@@ -9,5 +9,5 @@ pub mod Within
 pub mod Copiers
 pub mod Calls
 pub mod Reserves
-mod Samples
+pub mod Samples
 pub mod Laws

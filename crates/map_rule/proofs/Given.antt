@@ -1,4 +1,5 @@
 -- What is so by the crates below, given on to the crates above: these list this crate in place of those.
+pub use Rattle.map_machines.proofs.Given.General
 pub use Rattle.map_machines.proofs.Given.SeizeWordsOneOwner
 pub use Rattle.map_machines.proofs.Given.SeizeWordsPlans
 pub use Rattle.seize_rule.proofs.Given.SeizeMemoryWords

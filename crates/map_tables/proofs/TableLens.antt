@@ -20,7 +20,7 @@ if_few-holds places number Holds holds =
       | inr many ↦ rw many.0 tt
     ]
 
-greater : (left right : ℕ) → IsPowerOfTwo left → IsPowerOfTwo right → IsPowerOfTwo (max left right)
+pub greater : (left right : ℕ) → IsPowerOfTwo left → IsPowerOfTwo right → IsPowerOfTwo (max left right)
 greater left right is_left is_right =
     elim (cases_lt left right) as (λ _. IsPowerOfTwo (max left right)) [
       | inl below ↦ (is_right.0, omega (arith, is_right.1, below))

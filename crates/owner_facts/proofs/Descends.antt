@@ -1,5 +1,5 @@
 -- Countings, makings and ends of maps come to their ends, whatever others do.
-mod Lists
-mod Points
+pub mod Lists
+pub mod Points
 pub mod Ends
 pub mod Owned

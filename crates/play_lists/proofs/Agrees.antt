@@ -2,7 +2,7 @@
 pub mod Shards
 pub mod Leads
 pub mod Lists
-mod Opens
+pub mod Opens
 pub mod Rows
 pub mod Slots
 pub mod Guards

@@ -8,4 +8,4 @@ pub mod Along
 pub mod PlayedAs
 pub mod Tied
 pub mod Noted
-mod Samples
+pub mod Samples

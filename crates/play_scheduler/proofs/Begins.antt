@@ -40,10 +40,7 @@ use Rattle.run_executor.specs.Executing.Beginning.{BeginsThere}
 use Rattle.run_executor.specs.Executing.IsThere.{IsThere, use_at, work_of}
 use Rattle.run_shows.specs.Scenes.Replying.{scene_with}
 use Rattle.run_shows.specs.Scenes.Scene.{Scene, slot_of}
-
-and_parts : (a b : Bool) → (a && b) ≡ true → (a ≡ true) × (b ≡ true)
-and_parts true b e = (refl, e)
-and_parts false b e = absurd (cc e)
+use Rattle.seize_words.proofs.General.{both_true as and_parts}
 
 module _ {K V S : Type 0} (same : K → K → Bool) (hash : K → ℕ) (terms : Terms) (m : Moment K V) (p : Scheduler K V S) (stands : StandsFor same hash terms m p) where
   abbrev calls : List (NamedCaller V)

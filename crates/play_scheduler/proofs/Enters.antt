@@ -1,5 +1,5 @@
 -- A guard enters.
-use Rattle.std.specs.Prelude.{◌&&◌, ◌⊎◌, ◌≢◌, not, cond, nat_lt, is_some, option_map, slice_index_or, slice_set, Option, Some, None, if◌then◌else◌}
+use Rattle.std.specs.Prelude.{◌&&◌, ◌⊎◌, ◌≢◌, not, cond, nat_lt, is_some, option_map, slice_index_or, slice_set, Some, None, if◌then◌else◌}
 use Rattle.std.specs.List.{AllByRecursion}
 use Rattle.std.proofs.Common.{◌≡◌, ℕ, ◌+◌, ◌<◌, Bool, true, false, List, [], ◌∷◌, ◌++◌, length, refl, sym, ap, subst, ◌∙◌, inl, inr, arith}
 use Rattle.std.proofs.lemmas.Bool.{cases_eq, eq-eqb, ne_eqb}
@@ -46,10 +46,7 @@ use Rattle.play_scheduler.proofs.Rights.{entry, in_turn, out_of_turn, plays, qui
 use Rattle.run_executor.specs.Executing.IsThere.{use_at}
 use Rattle.run_executor.specs.Executing.OnSlots.{MayBegin}
 use Rattle.run_shows.specs.Scenes.Scene.{slot_of}
-
-pub none_is : {X : Type 0} (o : Option X) → is_some o ≡ false → o ≡ None
-none_is None e = refl
-none_is (Some x) e = absurd (cc e)
+use Rattle.seize_words.proofs.General.{none_of as none_is}
 
 -- guards that are there are found as before where one more comes
 pub found_more : (name : List ℕ) (guards more : List NamedGuard) (slot : ℕ) → living_slot (guard_of name guards) ≡ Some slot → living_slot (guard_of name (guards ++ more)) ≡ Some slot

@@ -43,6 +43,7 @@ use Rattle.play_scheduler.proofs.Rights.{entry, in_turn, out_of_turn, plays, qui
 use Rattle.run_logged.proofs.Rows.There.{living_is}
 use Rattle.run_executor.specs.Executing.IsThere.{use_at}
 use Rattle.run_executor.specs.Executing.OnSlots.{MayBegin}
+use Rattle.seize_words.proofs.General.{same_some as one_slot}
 
 -- a word that is there is read so
 read_there : (o : Option ℕ) → IsSome o → (word : ℕ) × (o ≡ Some word)
@@ -146,9 +147,6 @@ module _ {K V S : Type 0} (same : K → K → Bool) (hash : K → ℕ) (terms : 
           subst (λ (x : Scheduler K V S). Plays same hash terms log (entry (Flush guard) Done 0 after) x) (sym same_p)
           (subst (λ (xs : List Effect). Plays same hash terms log (entry (Flush guard) Done 0 xs) (record p { logged = q.logged })) (sym did)
           (flushed said before after q.logged ran))
-
-one_slot : (here slot : ℕ) → Some here ≡ Some slot → here ≡ slot
-one_slot here slot e = cc e
 
 module _ {K V S : Type 0} (p : Scheduler K V S) (guard : List ℕ) where
   -- what a flush comes to, by whether the batch was found in hand

@@ -30,10 +30,9 @@ use Rattle.play_scheduler.proofs.Dropped.{lives_on}
 use Rattle.run_logged.proofs.Rows.Facts.{row_rests}
 use Rattle.run_logged.proofs.Rows.Holders.{held, works_there}
 use Rattle.run_logged.proofs.Rows.Lists.{all_so, both_some, found_alike, found_has, found_once}
-use Rattle.play_scheduler.proofs.RanOn.{both_true}
-use Rattle.run_shows.proofs.Scenes.NoCall.{none_of}
 use Rattle.run_executor.specs.Executing.IsThere.{call_in, work_of}
 use Rattle.run_shows.specs.Scenes.Scene.{slot_of}
+use Rattle.seize_words.proofs.General.{both_true, none_mapped as none_of}
 
 -- where a slot's batch is held, a call under way that may hold it hands something over
 abbrev pub HeldIsTold : {K V S : Type 0} → Moment K V → Scheduler K V S → Type 0

@@ -28,7 +28,7 @@ use Rattle.run_logged.specs.Rows.Taking.{SlotTaken, told_as}
 use Rattle.play_scheduler.specs.Quiet.{IsQuiet}
 use Rattle.play_scheduler.specs.declared.scheduler.Scheduler.{Scheduler}
 use Rattle.play_scheduler.proofs.Busy.{slot_quiet}
-use Rattle.play_scheduler.proofs.Enters.{found_more, none_is, used_now}
+use Rattle.play_scheduler.proofs.Enters.{found_more, used_now}
 use Rattle.run_logged.proofs.Rows.Lists.{all_so}
 use Rattle.run_logged.proofs.Rows.Names.{enters_named}
 use Rattle.play_scheduler.proofs.Quiet.{stands_on}
@@ -37,6 +37,7 @@ use Rattle.play_scheduler.proofs.SlotTaken.{gets_none, gets_slot, led_taking, ov
 use Rattle.run_logged.proofs.Rows.There.{guard_is}
 use Rattle.play_scheduler.proofs.Rights.{entry, in_turn, out_of_turn, plays, quiet}
 use Rattle.run_shows.specs.Scenes.Scene.{slot_of}
+use Rattle.seize_words.proofs.General.{none_of as none_is}
 
 module _ {K V S : Type 0} (same : K → K → Bool) (hash : K → ℕ) (terms : Terms) (log : List (Entry K V)) (p : Scheduler K V S) (guard : List ℕ)
     (due : IsDue same hash terms log (Own guard) p) where

@@ -35,6 +35,7 @@ use Rattle.run_logged.proofs.Rows.There.{on_its_slot}
 use Rattle.run_executor.specs.Executing.IsThere.{use_at, work_of}
 use Rattle.run_executor.specs.Executing.OnSlots.{MayBegin, NobodyIn}
 use Rattle.run_shows.specs.Scenes.Scene.{Scene, slot_of}
+use Rattle.seize_words.proofs.General.{both_true}
 
 -- names and numbers of maps stay, whatever effects there are
 same_named : (t : TableId) (f : MapThere) → named (promoted t f) ≡ named f
@@ -60,10 +61,6 @@ module _ {K V : Type 0} where
 pub some_setting : {K : Type 0} (o : Option (Standing K)) (x : Setting) → option_map (λ st. st.setting) o ≡ Some x → (standing : Standing K) × (o ≡ Some standing)
 some_setting None x e = absurd (cc e)
 some_setting (Some st) x e = (st, refl)
-
-pub both_true : (a b : Bool) → (a && b) ≡ true → (a ≡ true) × (b ≡ true)
-both_true true b e = (refl, e)
-both_true false b e = absurd (cc e)
 
 module _ {K V S : Type 0} (same : K → K → Bool) (hash : K → ℕ) (terms : Terms) (m : Moment K V) (p : Scheduler K V S) (stands : StandsFor same hash terms m p) where
   -- while no guard of calls is on a slot, nobody has anything under way in it

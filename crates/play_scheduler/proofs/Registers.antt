@@ -27,7 +27,6 @@ use Rattle.run_logged.specs.Rows.Taking.{SlotTaken, told_as}
 use Rattle.play_scheduler.specs.Quiet.{IsQuiet}
 use Rattle.play_scheduler.specs.declared.scheduler.Scheduler.{Scheduler}
 use Rattle.play_scheduler.proofs.Busy.{slot_quiet}
-use Rattle.play_scheduler.proofs.Enters.{none_is}
 use Rattle.play_scheduler.proofs.Quiet.{stands_on}
 use Rattle.play_scheduler.proofs.RanOn.{stands_ran, there_stays}
 use Rattle.run_logged.proofs.Rows.Registered.{has_more, registers_named}
@@ -35,6 +34,7 @@ use Rattle.play_scheduler.proofs.SlotTaken.{first, gets_none, gets_slot, led_tak
 use Rattle.run_logged.proofs.Rows.There.{is_outside, registered_is, slot_some, used_alike}
 use Rattle.play_scheduler.proofs.Rights.{entry, in_turn, out_of_turn, plays, quiet}
 use Rattle.run_logged.proofs.Rows.InUse.{vacant_free}
+use Rattle.seize_words.proofs.General.{none_of as none_is}
 
 module _ {K V S : Type 0} (same : K → K → Bool) (hash : K → ℕ) (terms : Terms) (log : List (Entry K V)) (p : Scheduler K V S) (registration : List ℕ)
     (due : IsDue same hash terms log (Register registration) p) where

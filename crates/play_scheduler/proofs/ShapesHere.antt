@@ -1,6 +1,6 @@
 -- The tables of a map from its root on are those that a moment of the run has.
 use Rattle.std.specs.Prelude.{◌-◌, ◌⊎◌, ◌^◌, ◌&&◌, nat_le, filter, map, is_some, Option, Some, None}
-use Rattle.std.proofs.Common.{◌≡◌, ℕ, zero, suc, ◌+◌, ◌≤◌, ◌<◌, Bool, true, false, cond, List, [], ◌∷◌, ◌++◌, refl, ap, sym, subst, ◌∙◌, inl, inr, arith}
+use Rattle.std.proofs.Common.{◌≡◌, ℕ, zero, suc, ◌+◌, ◌≤◌, ◌<◌, Bool, false, cond, List, [], ◌∷◌, ◌++◌, refl, ap, sym, subst, ◌∙◌, inl, inr, arith}
 use Rattle.std.proofs.lemmas.Bool.{cases_lt}
 use Rattle.std.proofs.lemmas.List.{map-append}
 use Rattle.std.proofs.lemmas.List.Elements.{filter-append}
@@ -32,6 +32,7 @@ use Rattle.play_scheduler.specs.declared.scheduler.Scheduler.{Scheduler}
 use Rattle.play_scheduler.proofs.Maps.{setting_of_it, setting_some}
 use Rattle.play_scheduler.proofs.Quiet.{stands_on}
 use Rattle.play_scheduler.proofs.Rights.{in_turn, out_of_turn, plays, quiet}
+use Rattle.seize_words.proofs.General.{at_most_true as below}
 
 module _ {K : Type 0} (c : Chart K) (blocks : Blocks) where
   -- one table more at the end
@@ -44,9 +45,6 @@ module _ {K : Type 0} (c : Chart K) (blocks : Blocks) where
   module _ (number : ℕ) (stage : ℕ → Stage) where
     abbrev is_from : ℕ → TableThere → Bool
     is_from f t = nat_le f t.table.turn
-
-    below : (a b : ℕ) → a ≤ b → nat_le a b ≡ true
-    below a b l = grind (arith, l)
 
     above : (a b : ℕ) → b < a → nat_le a b ≡ false
     above a b l = grind (arith, l)

@@ -49,6 +49,7 @@ use Rattle.run_executor.specs.Executing.IsThere.{held_by, work_of}
 use Rattle.run_shows.proofs.Scenes.May.{standing_is}
 use Rattle.run_shows.specs.Scenes.Replying.{unless_stopped}
 use Rattle.run_shows.specs.Scenes.Scene.{HasCall, Scene, slot_of}
+use Rattle.seize_words.proofs.General.{none_is as nothing}
 
 shows_seen : (stands : Stands) → is_ready stands ≡ shows (far_of stands)
 shows_seen Going = refl
@@ -240,10 +241,6 @@ module _ {K V S : Type 0} (same : K → K → Bool) (hash : K → ℕ) (terms : 
             second : (a b : Bool) → (a && b) ≡ true → b ≡ true
             second true b e = e
             second false b e = absurd (cc e)
-
-        nothing : {X : Type 0} (o : Option X) → ((x : X) → o ≡ Some x → ⊥) → o ≡ None
-        nothing None never = refl
-        nothing (Some x) never = absurd (never x refl)
 
         -- no row is under way where a walk shows pairs
         row_of_it : (v : UnderWay K V K) → u ≡ v → s.world.row i ≡ Rests

@@ -25,9 +25,9 @@ use Rattle.play_scheduler.specs.Played.{StandsFor}
 use Rattle.play_scheduler.specs.declared.scheduler.Scheduler.{Scheduler}
 use Rattle.run_logged.proofs.Rows.Facts.{row_rests, used_once}
 use Rattle.run_logged.proofs.Rows.Least.{least_is, least_past}
-use Rattle.run_shows.proofs.Scenes.NoCall.{none_of}
 use Rattle.run_executor.specs.Executing.IsThere.{IsUsedAs, call_in, use_at, work_of}
 use Rattle.run_shows.specs.Scenes.Scene.{Scene}
+use Rattle.seize_words.proofs.General.{none_mapped as none_of}
 
 module _ {K V S : Type 0} (same : K → K → Bool) (hash : K → ℕ) (terms : Terms) (m : Moment K V) (p : Scheduler K V S) (stands : StandsFor same hash terms m p) where
   abbrev e : Executor K V S

@@ -70,4 +70,5 @@ pub use Rattle.run_grows.proofs.Needs.Steps as NeedsSteps
 pub use Rattle.run_grows.proofs.Needs.TablesMade as NeedsTablesMade
 pub use Rattle.run_grows.proofs.Quiet.AfterEffects as QuietAfterEffects
 pub use Rattle.run_grows.proofs.Quiet.RoomSays as QuietRoomSays
+pub use Rattle.seize_words.proofs.General
 pub use Rattle.seize_words.proofs.OneMemory.Places as SeizeWordsPlaces

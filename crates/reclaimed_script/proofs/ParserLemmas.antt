@@ -12,7 +12,7 @@ use Rattle.reclaimed_script.specs.declared.fault.ScriptStop.TheVariants.{Line, R
 use Rattle.reclaimed_script.specs.Lines.{ScriptEvent, event_of}
 use Rattle.reclaimed_script.specs.Script.{lines_of, one_event, events_of, line_at, script_from, script_of, Adds, AddsNothing}
 use Rattle.reclaimed_script.specs.Reading.{StartsWell, StopsAt, Answers, IsAt}
-use Rattle.reclaimed_script.proofs.ScriptLemmas.{is_open, lines_of-feed, lines_of-open, lines_of-begins, script_from-more, script_from-fault, line_at-long, BeginsLine}
+use Rattle.reclaimed_script.proofs.ScriptLemmas.{is_open, lines_of-feed, lines_of-open, lines_of-begins, script_from-more, script_from-fault, line_at-long, BeginsLine, done as fine}
 
 -- ---- one line
 
@@ -83,9 +83,6 @@ Answers-stop text left (NoMemory n) h = h
 Answers-stop text left (ReadFailed n) h = absurd h
 
 -- ---- one byte
-
-abbrev fine : List ScriptEvent → Result (List ScriptEvent) (ℕ × LineFault)
-fine events = Ok events
 
 feeds_push : (read : List ℕ) (b n : ℕ) → cond (eqb b 10) 1 0 ≡ n → count_by (λ c. eqb c 10) (read ++ b ∷ []) ≡ count_by (λ c. eqb c 10) read + n
 feeds_push read b n e = sum_by-append (λ c. cond (eqb c 10) 1 0) read (b ∷ []) ∙ ap (λ (k : ℕ). count_by (λ c. eqb c 10) read + k) (omega (arith, e))

@@ -1,5 +1,5 @@
 -- The lines of a text, and the events of lines one after another.
-use Rattle.std.proofs.Common.{◌≡◌, ℕ, suc, ◌+◌, ◌<◌, Bool, true, false, not, ◌&&◌, eqb, ltb, List, [], ◌∷◌, ◌++◌, length, Result, Ok, Err, refl, sym, ap, subst, ◌∙◌, append_assoc, arith}
+use Rattle.std.proofs.Common.{◌≡◌, ℕ, suc, ◌+◌, ◌<◌, Bool, true, false, not, eqb, ltb, List, [], ◌∷◌, ◌++◌, length, Result, Ok, Err, refl, sym, ap, subst, ◌∙◌, append_assoc, arith}
 use Rattle.std.specs.List.{onto_first, list_all}
 use Rattle.std.proofs.lemmas.List.{append-nil}
 use Rattle.reclaimed_script.specs.declared.fault.LineFault.{LineFault}
@@ -7,14 +7,11 @@ use Rattle.std.proofs.lemmas.Bool.{lt-ltb}
 use Rattle.reclaimed_script.specs.declared.fault.LineFault.TheVariants.{TooLong}
 use Rattle.reclaimed_script.specs.Lines.{ScriptEvent}
 use Rattle.reclaimed_script.specs.Script.{lines_of, line_at, in_front, then_lines, script_from}
+use Rattle.run_schedules.proofs.Given.General.{both_true as and_parts}
 
 -- bytes of one line
 abbrev pub is_open : List ℕ → Bool
 is_open line = list_all (λ b. not (eqb b 10)) line
-
-and_parts : (a b : Bool) → (a && b) ≡ true → (a ≡ true) × (b ≡ true)
-and_parts true b e = (refl, e)
-and_parts false b e = absurd cc
 
 not_true : (a : Bool) → not a ≡ true → a ≡ false
 not_true true e = absurd cc
@@ -77,7 +74,7 @@ pub record BothSay (said : Result (List ScriptEvent) LineFault) (others : Result
   pub rest_is : others ≡ Ok rest
   pub parts : first ++ rest ≡ events
 
-abbrev done : List ScriptEvent → Result (List ScriptEvent) (ℕ × LineFault)
+abbrev pub done : List ScriptEvent → Result (List ScriptEvent) (ℕ × LineFault)
 done events = Ok events
 
 ok_is : (a b : List ScriptEvent) → done a ≡ done b → a ≡ b

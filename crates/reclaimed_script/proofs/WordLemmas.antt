@@ -9,6 +9,7 @@ use Rattle.std.proofs.lemmas.Bool.{ltb-true, ltb-false, le-ltb, lt-ltb}
 use Rattle.std.proofs.lemmas.Option.{cond_some}
 use Rattle.reclaimed_script.specs.declared.fault.LineFault.TheVariants.{BadWord}
 use Rattle.reclaimed_script.specs.Words.{value_from, number_of, is_decimal}
+use Rattle.run_schedules.proofs.Given.General.{and_true, and_false}
 
 cond_none : (b : Bool) (n : ℕ) → cond b (Some n) None ≡ None → b ≡ false
 cond_none true n e = absurd cc
@@ -36,13 +37,6 @@ pub value_from-ge : (n : ℕ) (digits : List ℕ) → n ≤ value_from n digits
 unfolding value_from
 value_from-ge n [] = omega arith
 value_from-ge n (d ∷ ds) = omega (arith, value_from-ge (10 * n + (d - 48)) ds)
-
-and_false : (a b : Bool) → b ≡ false → (a && b) ≡ false
-and_false true b e = e
-and_false false b e = refl
-
-and_true : (a b : Bool) → a ≡ true → b ≡ true → (a && b) ≡ true
-and_true a b p q = rw (p, q) refl
 
 -- a word that is not decimal is no number
 pub number_of-not_decimal : (word : List ℕ) → is_decimal word ≡ false → number_of word ≡ Err BadWord

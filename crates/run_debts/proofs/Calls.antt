@@ -20,7 +20,7 @@ use Rattle.owner_facts.specs.Given.FinishesMachines.{machine_of, GoesOnAs}
 use Rattle.run_places.specs.Given.FollowsCalls.{IsCalled}
 use Rattle.run_places.specs.Given.FollowsShows.{Shows}
 use Rattle.run_places.specs.Given.FollowsSteps.{TakesNone}
-use Rattle.run_places.proofs.Given.FollowsSteps.{WentTo, went_to, DidSo, OfNoRow, one_of}
+use Rattle.run_places.proofs.Given.FollowsSteps.{WentTo, went_to, DidSo, OfNoRow}
 use Rattle.run_places.specs.Hands.Asked.{IsAskedAs}
 use Rattle.run_places.proofs.Hands.Asking.{which}
 use Rattle.run_places.proofs.Hands.Calling.{caller_is}
@@ -35,6 +35,7 @@ use Rattle.run_places.proofs.Given.ScenesGoes.{goes_as}
 use Rattle.run_places.specs.Given.ScenesHeld.{Held, IsAt}
 use Rattle.run_places.specs.Given.ScenesScene.{Scene}
 use Rattle.run_places.specs.Given.ScenesStepping.{StepLeads, going_on, has_ended, scene_after}
+use Rattle.run_places.proofs.Given.General.{same_some as one_of}
 
 -- a call that goes on is the machine that it has come to
 pub goes_as_one : {K V : Type 0} (machine : Machine K V K) (said : Progress (Node K V)) (next : Option (UnderWay K V K)) → GoesOnAs machine said next → (x : UnderWay K V K) → next ≡ Some x → machine_of x ≡ machine

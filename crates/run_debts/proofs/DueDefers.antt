@@ -40,7 +40,7 @@ use Rattle.run_places.specs.Given.EffectsDeclared.role.Role.{Role}
 use Rattle.run_places.specs.Given.EffectsDeclared.role.Role.TheVariants as role
 use Rattle.run_debts.specs.Due.{ToPut, due_in_defer, RowTells, TellsNone, TellsDeferred}
 use Rattle.run_debts.proofs.DueSettles.{effects_by, plan_none}
-use Rattle.run_debts.proofs.EntryRows.{named as named_by}
+use Rattle.owner_facts.proofs.Given.SeizeRulePoints.Retire.{of_link as named_by}
 
 -- each block that has a list, and may carry what is put on it, is noted as a table
 abbrev pub AreTables : {K V : Type 0} → Mem (Node K V) → (ℕ → Life) → Known → Type 0

@@ -25,7 +25,7 @@ use Rattle.run_places.specs.Given.SeizeWorld.{World, Hand, Cutting, Row, Settles
 use Rattle.owner_facts.proofs.Given.SeizeMovesState.Ghost.{State}
 use Rattle.owner_facts.proofs.Given.SeizeRulePoints.Aside.{HandFits}
 use Rattle.owner_facts.proofs.Given.SeizeRulePoints.Known.{FitsAt, bare, open_blocks}
-use Rattle.owner_facts.proofs.Given.SeizeRulePoints.Retire.{open_chain}
+use Rattle.owner_facts.proofs.Given.SeizeRulePoints.Retire.{open_chain, of_link as named}
 use Rattle.owner_facts.proofs.Given.SeizeRulePoints.Settle.{is_over, settle_steps}
 use Rattle.owner_facts.proofs.Given.SeizeRulePoints.Stepped.{IsGoing}
 use Rattle.owner_facts.proofs.Given.SeizeRuleRows.Known.{FitsRow}
@@ -64,12 +64,8 @@ use Rattle.run_debts.specs.Due.{Due, ToPut, due_in_settle, due_in_defer, due_in_
 use Rattle.run_debts.specs.Entries.{IsSomebodys, IsBlank, OneAt, RetiresOne}
 use Rattle.run_debts.proofs.DueDefers.{AreTables, defer_tells}
 use Rattle.run_debts.proofs.DueSettles.{effects_by, settle_tells}
-use Rattle.run_debts.proofs.EntryRows.{named}
 use Rattle.run_places.proofs.Given.ScenesTold.{as_step}
-
-over_is : (p : Settling) → is_over p ≡ true → p ≡ at.Over
-over_is at.Over e = refl
-over_is _ e = absurd (cc e)
+use Rattle.run_places.proofs.Given.SeizeRuleRows.Leave.{over_is}
 
 -- a row that has put a block behind another has none in hand
 abbrev pub EndsNone : Defer → Advance Unit → Type 0

@@ -30,11 +30,11 @@ use Rattle.owner_facts.proofs.Given.SeizeMovesMoves.Tries.{first_pending}
 use Rattle.owner_facts.proofs.Given.SeizeMovesState.Ghost.{Life, IsDeferring, IsPending, IsIn, State}
 use Rattle.owner_facts.proofs.Given.SeizeRulePoints.Deferred.{puts_some}
 use Rattle.owner_facts.proofs.Given.SeizeRulePoints.Known.{FitsAt, Appends, bare, open_blocks}
-use Rattle.owner_facts.proofs.Given.SeizeRulePoints.Retire.{open_stage, some_last}
+use Rattle.owner_facts.proofs.Given.SeizeRulePoints.Retire.{open_stage, some_last, of_link as named}
 use Rattle.owner_facts.proofs.Given.SeizeRuleRows.Known.{FitsLeave, FitsDefer, FitsRow}
 use Rattle.owner_facts.proofs.Given.SeizeMemoryWords.Apart.{is_pending_put}
 use Rattle.owner_facts.proofs.Given.SeizeMemoryWords.Chains.{last_of, last_from, count_last}
-use Rattle.owner_facts.proofs.Given.SeizeMemoryWords.Named.{link, link-block}
+use Rattle.owner_facts.proofs.Given.SeizeMemoryWords.Named.{link}
 use Rattle.owner_facts.proofs.Given.SeizeMemoryWords.View.{view}
 use Rattle.owner_facts.proofs.Given.SeizeRuleWorld.Kept.{row_may}
 use Rattle.owner_facts.proofs.Given.SeizeMemoryWritten.Retire.{in_batch}
@@ -47,10 +47,6 @@ IsSpared i (IsDeferring j s t) = ⊥
 IsSpared i (IsPending j) = j ≡ i → ⊥
 IsSpared i (IsIn y) = ⊥
 IsSpared i _ = Unit {0}
-
--- the word of a block names it
-pub named : (w d : ℕ) → w ≡ link d → w / 2048 ≡ d
-named w d e = ap (λ (k : ℕ). k / 2048) e ∙ link-block d
 
 module _ {T : Type 0} (defers : T → Option ℕ) {size : ℕ} (w : World T) (r : Reached defers size w) (i x f : ℕ) (only : (f ≡ NEXT) ⊎ (f ≡ FIRST)) (spared : IsSpared i (r.good.state.life x)) where
   abbrev n : ℕ

@@ -37,9 +37,10 @@ use Rattle.run_places.proofs.Given.RuleWorld.Hands.{at_cases}
 use Rattle.run_places.specs.Hands.Rows.{SettlesAside, ReclaimsNone}
 use Rattle.run_debts.specs.Entries.{IsSomebodys, OneAt, RetiresOne}
 use Rattle.run_debts.proofs.EntryOps.{IsPlanApart, plan_zero}
-use Rattle.run_debts.proofs.EntryRows.{IsSpared, named, row_keeps_zero}
+use Rattle.run_debts.proofs.EntryRows.{IsSpared, row_keeps_zero}
 use Rattle.run_debts.proofs.EntrySettles.{goes_one}
 use Rattle.run_debts.proofs.EntryUsers.{IsNotLeft, IsZero, AllZero, theirs_with, event_zero, event_rows}
+use Rattle.owner_facts.proofs.Given.SeizeRulePoints.Retire.{of_link as named}
 
 -- no row touches what somebody has
 spared_life : (i : ℕ) (h : Hand) (l : Life) → IsSomebodys h → HandFits h l → IsSpared i l

@@ -30,6 +30,7 @@ pub use Rattle.run_places.proofs.Given.FollowsRows
 pub use Rattle.run_places.proofs.Given.FollowsSteps
 pub use Rattle.run_places.proofs.Given.FollowsTold
 pub use Rattle.run_places.proofs.Given.FollowsWrites
+pub use Rattle.run_places.proofs.Given.General
 pub use Rattle.run_places.proofs.Given.OthersEnds
 pub use Rattle.run_places.proofs.Given.OthersLeads
 pub use Rattle.run_places.proofs.Given.OthersMakes

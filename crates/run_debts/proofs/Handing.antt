@@ -30,7 +30,7 @@ use Rattle.run_places.specs.Given.FollowsCalls.{IsCalled, ShowsCalls}
 use Rattle.run_places.specs.Given.FollowsShows.{Shows}
 use Rattle.run_places.proofs.Given.FollowsCalling.{apart_back, found_kept, come, come_of_same, replied_same}
 use Rattle.run_places.proofs.Given.FollowsCalls.{IsOfSame, changed, found}
-use Rattle.run_places.proofs.Given.FollowsSteps.{DidSo, WentTo, one_of, went_to}
+use Rattle.run_places.proofs.Given.FollowsSteps.{DidSo, WentTo, went_to}
 use Rattle.run_places.proofs.Hands.Asking.{which}
 use Rattle.run_places.proofs.Hands.Calling.{caller_is}
 use Rattle.run_places.proofs.Changes.Changes.{acted_on}
@@ -44,6 +44,7 @@ use Rattle.run_debts.proofs.Owing.{due_owes}
 use Rattle.run_places.specs.Given.ScenesHeld.{Held, IsAt}
 use Rattle.run_places.specs.Given.ScenesScene.{Scene}
 use Rattle.run_places.specs.Given.ScenesStepping.{StepLeads, scene_after}
+use Rattle.run_places.proofs.Given.General.{same_some as one_of}
 
 -- A call that hands something over does so after whatever effects of it.
 abbrev hands : List Thing → Bool → Bool

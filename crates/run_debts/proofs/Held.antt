@@ -43,6 +43,7 @@ use Rattle.run_debts.proofs.Keys.{steps}
 use Rattle.run_debts.proofs.Rest.{sweep_takes, steps as sweep_steps}
 use Rattle.run_debts.proofs.Taken.{disposal_word}
 use Rattle.run_places.proofs.Given.ScenesTold.{as_step}
+use Rattle.owner_facts.specs.Maps.EndingsEnds.{HasMore as IsGoingOn}
 
 -- what is always so of a step is so as a step of its own
 module _ {T A B : Type 0} (Q : A → Type 0) (P : B → Type 0) (f : A → B) (turn : (a : A) → Q a → P (f a)) where
@@ -58,11 +59,6 @@ module _ {T A B : Type 0} (Q : A → Type 0) (P : B → Type 0) (f : A → B) (t
 -- the word is of this block
 abbrev pub IsOf : ℕ → Option ℕ → Type 0
 IsOf block o = (word : ℕ) × (o ≡ Some word) × (block_in word ≡ block)
-
--- it is not done
-abbrev pub IsGoingOn : {T : Type 0} → Settled T → Type 0
-IsGoingOn settled.Done = ⊥
-IsGoingOn _ = Unit {0}
 
 module _ (K V : Type 0) where
   -- a disposal that has no pair in hand is done

@@ -1,12 +1,11 @@
 -- What a call owes follows the effects of its steps.
-use Rattle.std.specs.Prelude.{◌≡◌, ℕ, ◌+◌, ◌==◌, ◌&&◌, ◌||◌, Bool, true, false, MatchBool, List, [], ◌∷◌, Option, Some, if◌then◌else◌}
+use Rattle.std.specs.Prelude.{◌≡◌, ℕ, ◌+◌, ◌||◌, Bool, true, false, MatchBool, List, [], ◌∷◌, Option, Some, if◌then◌else◌}
 use Rattle.std.proofs.Common.{refl, ap, sym, subst, ◌∙◌}
 use Rattle.std.proofs.lemmas.Bool.{eq-eqb}
 use Rattle.run_places.specs.Given.RunsDeclared.call.Call.{Call}
 use Rattle.run_places.specs.Given.RunsDeclared.call.Call.TheVariants as call
 use Rattle.run_places.specs.Given.RunsDeclared.effect.Effect.{Effect}
 use Rattle.run_places.specs.Given.RunsDeclared.effect.Effect.TheVariants as effect
-use Rattle.run_places.specs.Given.RunsDeclared.effect.TableId.{TableId}
 use Rattle.run_places.specs.Given.RunsDeclared.effect.Thing.{Thing}
 use Rattle.run_places.specs.Given.RunsDeclared.effect.Thing.TheVariants.{APair, ATable}
 use Rattle.run_places.specs.Given.SchedulesEffects.{AtEachEffect, call_by, due_for, with_effect, with_effects}
@@ -14,15 +13,13 @@ use Rattle.run_places.specs.Given.SchedulesEntry.{ByCall, acting}
 use Rattle.run_places.specs.Given.SchedulesLists.{is_in, without_one}
 use Rattle.run_places.specs.Given.SchedulesLives.{is_first_table}
 use Rattle.run_places.specs.Given.SchedulesMoment.{UnderWay as CallThere, Moment}
-use Rattle.run_places.specs.Given.SchedulesThings.{same_table, same_thing}
+use Rattle.run_places.specs.Given.SchedulesThings.{same_thing}
 use Rattle.run_places.specs.Given.SchedulesViews.{call_of}
 use Rattle.run_places.proofs.Changes.Changes.{acted_on}
 use Rattle.run_debts.specs.Owing.{HandsOver, leaves_owed, AllLeave, OwesGo, KeepsOwed, TakesOut, PutsOver, Passes, HandsFirst, FindsOwed, OwesFollow}
+use Rattle.run_places.proofs.Spots.Unreclaimed.{same_itself as table_itself}
 
-table_itself : (t : TableId) → same_table t t ≡ true
-table_itself t = ap (λ (q : Bool). q && (t.turn == t.turn)) (eq-eqb t.map t.map refl) ∙ eq-eqb t.turn t.turn refl
-
-thing_itself : (x : Thing) → same_thing x x ≡ true
+pub thing_itself : (x : Thing) → same_thing x x ≡ true
 thing_itself (APair n) = eq-eqb n n refl
 thing_itself (ATable t) = table_itself t
 

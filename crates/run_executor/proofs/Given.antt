@@ -99,12 +99,14 @@ pub use Rattle.run_shows.proofs.Others.Leads as OthersLeads
 pub use Rattle.run_shows.proofs.Others.Makes as OthersMakes
 pub use Rattle.run_shows.proofs.Others.MakingPlans as OthersMakingPlans
 pub use Rattle.run_shows.proofs.Others.Outcomes as OthersOutcomes
+pub use Rattle.run_shows.proofs.Others.Outside as OthersOutside
 pub use Rattle.run_shows.proofs.Others.RowPlans as OthersRowPlans
 pub use Rattle.run_shows.proofs.Others.Walks as OthersWalks
 pub use Rattle.run_shows.proofs.Scenes.Goes as ScenesGoes
 pub use Rattle.run_shows.proofs.Scenes.May as ScenesMay
 pub use Rattle.run_shows.proofs.Scenes.NoCall as ScenesNoCall
 pub use Rattle.run_shows.proofs.Scenes.Told as ScenesTold
+pub use Rattle.seize_words.proofs.General
 pub use Rattle.seize_words.proofs.OneMemory.OneOwner as SeizeWordsOneOwner
 pub use Rattle.seize_words.proofs.OneMemory.Places as SeizeWordsPlaces
 pub use Rattle.seize_words.proofs.OneMemory.Plans as SeizeWordsPlans

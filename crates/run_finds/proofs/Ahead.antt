@@ -1,7 +1,7 @@
 -- As the root comes to a table it leaves no pair behind: after that each pair of the map lies there or behind it, and so it did before, or had its copy there.
 use Rattle.std.specs.Prelude.{◌≡◌, ℕ, zero, suc, ◌≤◌, ◌==◌, nat_le, Bool, true, false, not, ◌&&◌, ◌||◌, List, [], ◌∷◌, length, Some, if◌then◌else◌}
 use Rattle.std.specs.List.{list_all}
-use Rattle.std.proofs.Common.{refl, ap, sym, subst, ◌∙◌, arith}
+use Rattle.std.proofs.Common.{refl, ap, sym, subst, ◌∙◌}
 use Rattle.run_executor.specs.Given.RunsDeclared.effect.Effect.TheVariants as effect
 use Rattle.run_executor.specs.Given.RunsDeclared.effect.Spot.{Spot}
 use Rattle.run_executor.specs.Given.RunsDeclared.effect.TableId.{TableId}
@@ -12,7 +12,6 @@ use Rattle.run_executor.specs.Given.SchedulesMoment.{Place, MapThere, Moment}
 use Rattle.run_executor.specs.Given.SchedulesViews.{is_in_map, map_at, first_or, first_of}
 use Rattle.run_executor.proofs.Given.FollowsLinked.{own_found}
 use Rattle.run_executor.proofs.Given.FollowsStored.{in_map_true}
-use Rattle.run_executor.proofs.Given.SpotsUnreclaimed.{or_right}
 use Rattle.run_executor.specs.Given.EffectsKnown.{Known}
 use Rattle.run_executor.specs.Given.FinishesMaps.{Standing}
 use Rattle.run_executor.specs.Given.FollowsShows.{Shows}
@@ -20,9 +19,7 @@ use Rattle.run_executor.specs.Given.SpotsSpots.{ShowsPlaces}
 use Rattle.run_finds.proofs.FromRoot.{root_is, from_root}
 use Rattle.run_executor.specs.Given.ScenesHeld.{Held, IsAt}
 use Rattle.run_executor.specs.Given.ScenesScene.{Scene}
-
-at_most : (a b : ℕ) → a ≤ b → nat_le a b ≡ true
-at_most a b l = grind (arith, l)
+use Rattle.run_executor.proofs.Given.General.{at_most_true as at_most, or_second as or_right}
 
 -- what passes at each number does so at all of them
 all_numbers : (test : ℕ → Bool) → ((n : ℕ) → test n ≡ true) → (first many : ℕ) → list_all test (numbers_from first many) ≡ true

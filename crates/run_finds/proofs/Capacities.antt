@@ -30,7 +30,6 @@ use Rattle.run_executor.specs.Given.EffectsDeclared.acting.Acting.TheVariants as
 use Rattle.run_executor.specs.Given.FinishesMakings.{Beginning}
 use Rattle.run_executor.specs.Given.FinishesMachines.{StandsOn}
 use Rattle.run_executor.specs.Given.FinishesMaps.{Standing, IsSameMap}
-use Rattle.run_executor.proofs.Given.FollowsSteps.{one_of}
 use Rattle.run_executor.specs.Given.OthersMakings.{making_after}
 use Rattle.run_finds.specs.Capacities.{ShowsCapacities, StoodSo, GivenAreFor, CapacitiesStay, EffectsKeepCapacities, SameMapsStood, CallsKeepCapacities, MakingsKeepCapacities}
 use Rattle.run_finds.specs.Linking.{IsMadeFor}
@@ -38,6 +37,7 @@ use Rattle.run_executor.specs.Given.ScenesHeld.{Held}
 use Rattle.run_executor.specs.Given.ScenesMaking.{MakingComesTo}
 use Rattle.run_executor.specs.Given.ScenesScene.{Scene}
 use Rattle.run_executor.specs.Given.ScenesStepping.{scene_after}
+use Rattle.run_executor.proofs.Given.General.{same_some as one_of}
 
 -- A capacity that is no fault has so many places.
 

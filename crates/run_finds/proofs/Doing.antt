@@ -6,8 +6,8 @@ use Rattle.std.proofs.lemmas.List.Folds.{list_all-append}
 use Rattle.run_executor.specs.Given.RunsDeclared.effect.Effect.{Effect}
 use Rattle.run_executor.specs.Given.RunsDeclared.event.Event.TheVariants.{Step, Go, OneCall}
 use Rattle.run_executor.specs.Given.SchedulesHanding.{is_call_effect, may_do}
-use Rattle.run_executor.proofs.Given.SpotsUnreclaimed.{and_both}
 use Rattle.run_finds.specs.Doing.{SeveralDoTheirs, EventsMayDo}
+use Rattle.run_executor.proofs.Given.General.{both_true as and_both}
 
 pub several_do_theirs : SeveralDoTheirs
 several_do_theirs done effects before after = list_all-append is_call_effect done effects ∙ ap (λ (q : Bool). q && list_all is_call_effect effects) before ∙ after

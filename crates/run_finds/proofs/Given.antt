@@ -15,6 +15,7 @@ pub use Rattle.run_blocks.proofs.Shards.KeyAdds as ShardsKeyAdds
 pub use Rattle.run_blocks.proofs.Shards.RestAdds as ShardsRestAdds
 pub use Rattle.run_blocks.proofs.Shards.ShardCalls as ShardsShardCalls
 pub use Rattle.run_executor.proofs.Executing.Again as ExecutorAgain
+pub use Rattle.run_executor.proofs.Executing.OnSlotBegun as ExecutingOnSlotBegun
 pub use Rattle.run_executor.proofs.Given.CallersAsked
 pub use Rattle.run_executor.proofs.Given.CallersSights
 pub use Rattle.run_executor.proofs.Given.CallersTogether
@@ -37,6 +38,7 @@ pub use Rattle.run_executor.proofs.Given.FollowsOperations
 pub use Rattle.run_executor.proofs.Given.FollowsRows
 pub use Rattle.run_executor.proofs.Given.FollowsSteps
 pub use Rattle.run_executor.proofs.Given.FollowsStored
+pub use Rattle.run_executor.proofs.Given.General
 pub use Rattle.run_executor.proofs.Given.HandsAsking
 pub use Rattle.run_executor.proofs.Given.HandsCalling
 pub use Rattle.run_executor.proofs.Given.HandsReplacing

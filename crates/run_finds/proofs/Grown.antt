@@ -1,5 +1,5 @@
 -- What is found in lists; how many tables a map has had, and where pairs lie, after an effect.
-use Rattle.std.specs.Prelude.{◌≡◌, ℕ, ◌+◌, ◌≤◌, ◌==◌, Bool, true, false, cond, ◌||◌, List, [], ◌∷◌, ◌++◌, length, filter, find, Option, Some, None, if◌then◌else◌}
+use Rattle.std.specs.Prelude.{◌≡◌, ℕ, ◌+◌, ◌≤◌, ◌==◌, Bool, true, false, cond, ◌||◌, List, [], ◌∷◌, ◌++◌, length, filter, find, Option, Some, None}
 use Rattle.std.specs.List.{AllByRecursion, list_any}
 use Rattle.std.proofs.Common.{refl, ap, sym, subst, ◌∙◌, arith, length-append}
 use Rattle.std.proofs.lemmas.List.Elements.{filter-append}
@@ -10,10 +10,9 @@ use Rattle.run_executor.specs.Given.RunsDeclared.effect.Effect.TheVariants as ef
 use Rattle.run_executor.specs.Given.RunsDeclared.effect.Spot.{Spot}
 use Rattle.run_executor.specs.Given.RunsDeclared.effect.TableId.{TableId}
 use Rattle.run_executor.specs.Given.RunsDeclared.effect.Thing.TheVariants.{APair, ATable}
-use Rattle.run_executor.specs.Given.SchedulesEffects.{born_by, spot_by, at_stage, with_effect}
+use Rattle.run_executor.specs.Given.SchedulesEffects.{born_by, spot_by, with_effect}
 use Rattle.run_executor.specs.Given.SchedulesGrowing.{ComesNext}
-use Rattle.run_executor.specs.Given.SchedulesMoment.{Place, UnderWay, Stage, IsLinked, IsRetired, IsReclaimed, IsTaken, TableThere, Moment}
-use Rattle.run_executor.specs.Given.SchedulesThings.{same_table}
+use Rattle.run_executor.specs.Given.SchedulesMoment.{Place, UnderWay, IsLinked, IsRetired, IsReclaimed, IsTaken, TableThere, Moment}
 use Rattle.run_executor.specs.Given.SchedulesViews.{tables_of}
 use Rattle.run_executor.proofs.Given.FollowsCalling.{is_same_is}
 use Rattle.run_finds.specs.Waiting.{AreApart}
@@ -21,6 +20,8 @@ use Rattle.run_finds.specs.Within.{many_of}
 use Rattle.run_finds.proofs.Lists.{none_of_them, all_so}
 use Rattle.run_finds.proofs.Somewhere.{is_storing}
 use Rattle.run_finds.proofs.Tables.{same_length}
+use Rattle.run_executor.proofs.Given.General.{equal_so as number_is}
+use Rattle.run_executor.proofs.Given.MomentsNumbers.{stage_same}
 
 -- lists
 
@@ -51,9 +52,6 @@ module _ {X : Type 0} (test : X → Bool) where
       by true e rest = (y, refl)
       by false e rest = rest e
 
-pub number_is : (a b : ℕ) → (a == b) ≡ true → a ≡ b
-number_is a b e = grind (arith, e)
-
 -- of callers that are apart only the one that is found has the name
 pub only_one : {K V : Type 0} (own : List ℕ) (calls : List (UnderWay K V)) (c : UnderWay K V) → AreApart calls → find (λ d. is_same d.caller own) calls ≡ Some c
     → AllByRecursion (λ d. is_same d.caller own ≡ true → d ≡ c) calls
@@ -70,14 +68,6 @@ only_one {K} {V} own (d ∷ calls) c apart is = by (is_same d.caller own) refl i
     by false e here rest = ((λ same. absurd (cc (e, same))), rest here)
 
 -- tables of a map
-
--- a table is none of another one, and keeps its name at another stage
-pub stage_same : (t : TableId) (to : Stage) (u : TableThere) → (at_stage t to u).table ≡ u.table
-stage_same t to u = by (same_table u.table t)
-  where
-    by : (q : Bool) → (if q then record u { stage = to } else u).table ≡ u.table
-    by true = refl
-    by false = refl
 
 -- pairs stored are born where they were
 pub born_same : (acted : Option ℕ) (f : Effect) (born : ℕ → TableId) → is_storing f ≡ false → born_by acted f born ≡ born

@@ -24,11 +24,11 @@ use Rattle.run_blocks.proofs.Owes.Events.{several_find}
 use Rattle.run_blocks.proofs.Owes.Fields.{its_effect}
 use Rattle.run_blocks.specs.Given.SettlesOwing.{FindsOwed}
 use Rattle.run_blocks.specs.Given.SettlesShards.{is_counting}
-use Rattle.run_executor.proofs.Given.SpotsUnreclaimed.{and_both}
 use Rattle.run_finds.proofs.Life.{each_so}
 use Rattle.run_finds.proofs.Over.{acts}
 use Rattle.run_finds.specs.Joined.{FindParts, PartsAreAll, SeveralFindAll, EventsFindAll}
 use Rattle.run_finds.specs.Parts.{FindsPlace, FindsAhead, FindsRest, FindsAll, FindOwed, FindRest, FindAll}
+use Rattle.run_executor.proofs.Given.General.{both_true as and_both}
 
 module _ {K V : Type 0} (terms : Terms) (moments : List (Moment K V)) where
   -- by the kind of effect

@@ -17,12 +17,10 @@ use Rattle.run_finds.specs.Orderly.{is_left_over, WaitsInOrder, NothingIsRetired
 use Rattle.run_finds.specs.Tables.{is_owed_table, PassedIsOwed, WaitsBehindOne}
 use Rattle.run_finds.proofs.Placed.{placed_at_first}
 use Rattle.run_finds.proofs.Lists.{one_of_them, none_of_them, any_so, any_kept, all_so, all_both, each_passes, passes_each, numbers_pass}
+use Rattle.run_executor.proofs.Given.General.{equal_so as number_is}
 
 pub order_at_first : (K V : Type 0) → OrderAtFirst K V
 order_at_first K V = record { placed = placed_at_first K V; tables = record { passed = tt; behind = tt }; found = λ k d l. absurd (omega (arith, l)) }
-
-number_is : (a b : ℕ) → (a == b) ≡ true → a ≡ b
-number_is a b e = grind (arith, e)
 
 le_from : (a b : ℕ) → nat_le a b ≡ true → a ≤ b
 le_from a b e = leb-true a b e

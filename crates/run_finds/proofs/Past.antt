@@ -13,7 +13,6 @@ use Rattle.run_executor.specs.Given.SchedulesMoment.{Place, UnderWay as CallTher
 use Rattle.run_executor.specs.Given.SchedulesViews.{call_of, is_in_a_map, first_or, first_of, map_at, grows_in_chunks, tables_of}
 use Rattle.run_executor.specs.Given.FollowsFinds.{FindsMap}
 use Rattle.run_executor.proofs.Given.FollowsAlike.{put_elsewhere, others_found}
-use Rattle.run_executor.proofs.Given.FollowsHanded.{not_in}
 use Rattle.run_executor.proofs.Given.FollowsLinked.{own_found}
 use Rattle.run_blocks.proofs.Owes.Fields.{its_effect}
 use Rattle.run_executor.specs.Given.SpotsDeferred.{FindsNumbers}
@@ -23,9 +22,8 @@ use Rattle.run_executor.proofs.Given.SpotsElsewhere.{stored_grows}
 use Rattle.run_finds.specs.Parts.{FindsPlace, FindPlacesOf}
 use Rattle.run_finds.proofs.Grown.{comes_on}
 use Rattle.run_finds.specs.Past.{HasLeftMaps, FindsOnward, CallsFindOnward}
-
-itself : (n : ℕ) → n ≤ n
-itself n = omega arith
+use Rattle.run_executor.proofs.Given.General.{at_most_itself as itself}
+use Rattle.run_executor.proofs.Given.OthersOutside.{not_in}
 
 none_less : (n : ℕ) → 0 ≤ n
 none_less n = omega arith

@@ -20,6 +20,7 @@ use Rattle.run_executor.proofs.Given.SpotsElsewhere.{stored_grows}
 use Rattle.run_finds.specs.Waiting.{is_unborn, is_out, is_behind_one, is_back, is_let_go, once_if, owed_in, put_in, owed_by, AreApart, PairsArePlaced, OwesPair, TakesOut, FindsPlaced, PlacedAtFirst, EffectsKeepPlaced, OthersKeepPlaced}
 use Rattle.run_finds.proofs.Counted.{Counts, gains, loses, stays, lets_go, others_stay, born_stay}
 use Rattle.run_finds.proofs.Owed.{due_keeps, owed_append, owed_without, table_without, passed_none, owed_there, apart_still, all_owe, its_owe, owed_at_least}
+use Rattle.run_executor.proofs.Given.General.{and_nothing as plus_none}
 
 pub placed_at_first : (K V : Type 0) → PlacedAtFirst K V
 placed_at_first K V = record { owed = λ n. refl; put = λ n. refl; back = λ n. refl; stored = λ n e. absurd (cc e); apart = tt }
@@ -32,9 +33,6 @@ others_keep_placed K V m v h place deferred given stored owed apart = record {
   stored = λ n e. subst (λ (l : List (K × V)). n ≤ length l) (sym stored) (h.stored n (sym (ap is_unborn (place n)) ∙ e));
   apart = apart;
 }
-
-plus_none : (x : ℕ) → x + 0 ≡ x
-plus_none x = omega arith
 
 other_way : (x y : ℕ) → x + y ≡ y + x
 other_way x y = omega arith

@@ -1,13 +1,9 @@
 -- Effects of which nothing is left to be found, and effects that hand nothing over.
-use Rattle.std.specs.Prelude.{◌≡◌, Bool, true, false, ◌||◌, ◌∷◌, Some}
-use Rattle.std.proofs.Common.{refl}
+use Rattle.std.specs.Prelude.{◌∷◌, Some}
 use Rattle.run_blocks.proofs.Owes.Events.{several_find}
 use Rattle.run_finds.specs.Quiet.{SeveralStoreOne}
 use Rattle.run_finds.specs.Life.{StoresOne}
-
-pub neither : (a b : Bool) → (a || b) ≡ false → (a ≡ false) × (b ≡ false)
-neither true b e = absurd (cc e)
-neither false b e = (refl, e)
+use Rattle.run_executor.proofs.Given.General.{both_false as neither}
 
 pub several_store_one : (K V : Type 0) → SeveralStoreOne K V
 several_store_one K V own map done effects m before after = several_find (StoresOne (Some own)) own map done effects m before after

@@ -1,5 +1,5 @@
 -- A reservation knows from its counting on that a table can be had, and so it may ask for the blocks of one that follows another.
-use Rattle.std.specs.Prelude.{◌≡◌, ℕ, zero, suc, ◌+◌, ◌-◌, ◌^◌, ◌≤◌, ◌==◌, nat_le, nat_lt, max, Bool, true, false, List, [], ◌∷◌, ◌++◌, Some, Ok, Err, if◌then◌else◌}
+use Rattle.std.specs.Prelude.{◌≡◌, ℕ, zero, suc, ◌+◌, ◌-◌, ◌^◌, ◌==◌, nat_le, nat_lt, max, Bool, true, false, List, [], ◌∷◌, ◌++◌, Some, Ok, Err, if◌then◌else◌}
 use Rattle.std.proofs.Common.{refl, ap, sym, subst, ◌∙◌, inl, inr, arith}
 use Rattle.std.proofs.lemmas.Bool.{ltb-false, leb-true}
 use Rattle.run_executor.specs.Given.SeizeWordsMem.{Mem}
@@ -34,13 +34,13 @@ use Rattle.run_executor.specs.Given.EffectsDeclared.changed.Changed.{Changed}
 use Rattle.run_executor.specs.Given.EffectsDeclared.changed.Changed.TheVariants as changed
 use Rattle.run_executor.proofs.Given.RuleKeys.Always.{Always, AlwaysOf, always_if, always_plan_as, always_steps}
 use Rattle.run_executor.specs.Given.CallersTogether.{ForRoom}
-use Rattle.run_executor.proofs.Given.FollowsSteps.{one_of}
 use Rattle.run_executor.proofs.Given.OthersOutcomes.{told_in}
 use Rattle.run_blocks.specs.Owes.Making.{making_in_reserving}
 use Rattle.run_blocks.proofs.Owes.Walks.{reserve_makes}
 use Rattle.run_finds.specs.Reserving.{FitsAt, ReservesAt, SumTells, MakesFirst, RoomsKeepCount, RoomsMayAsk}
 use Rattle.run_finds.proofs.Grows.Asked.{Asks, made_of, may_ask}
 use Rattle.run_executor.proofs.Given.ScenesTold.{as_step}
+use Rattle.run_executor.proofs.Given.General.{less_false as not_less, same_some as one_of}
 
 -- what is so at one of some moments is so at one of more
 module _ {X : Type 0} where
@@ -58,9 +58,6 @@ module _ {K V : Type 0} (of : ℕ) (moments : List (Moment K V)) (x : Moment K V
 
   fits_after : (p : Reserve) → FitsAt of moments p → FitsAt of (x ∷ moments) p
   fits_after p (n, counts, few) = (n, (counts.0, adds_after (suc p.setting.mask) counts.0 counts.1, counts.2), few)
-
-not_less : (a b : ℕ) → b ≤ a → nat_lt a b ≡ false
-not_less a b l = grind (arith, l)
 
 -- where the places that it needs can be had, they are not too many
 few_enough : (additional count : ℕ) → nat_lt (2 ^ 48) (reserves.needed additional count) ≡ false → is_too_many (count + additional) ≡ false

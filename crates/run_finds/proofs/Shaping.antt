@@ -94,10 +94,10 @@ first_begun setting = (refl, refl)
 
 -- The table after one that is full.
 
-at_least_eight : (x len : ℕ) → len ≡ max x 8 → max len 8 ≡ len
+pub at_least_eight : (x len : ℕ) → len ≡ max x 8 → max len 8 ≡ len
 at_least_eight x len e = omega (arith, e)
 
-few_is : (x len : ℕ) → if_few x x ≡ Ok len → len ≡ x
+pub few_is : (x len : ℕ) → if_few x x ≡ Ok len → len ≡ x
 few_is x len e = by (nat_le x (2 ^ 48)) e
   where
     by : (q : Bool) → ◌≡◌ {A = Result ℕ Fault} (if q then Ok x else Err Capacity) (Ok len) → len ≡ x

@@ -22,7 +22,6 @@ use Rattle.run_executor.specs.Given.EffectsDeclared.changed.Changed.TheVariants 
 use Rattle.run_executor.specs.Given.EffectsEffects.{effects_of, known_after}
 use Rattle.run_executor.specs.Given.EffectsKnown.{Known}
 use Rattle.run_executor.specs.Given.EffectsDeclared.acting.Acting.TheVariants as acts
-use Rattle.run_executor.specs.Given.EffectsDeclared.role.Role.{Role}
 use Rattle.run_executor.specs.Given.EffectsDeclared.role.Role.TheVariants as role
 use Rattle.run_executor.specs.Given.FinishesMachines.{machine_of}
 use Rattle.run_executor.specs.Given.FinishesMaps.{Standing}
@@ -32,7 +31,7 @@ use Rattle.run_executor.specs.Given.FollowsShows.{Shows}
 use Rattle.run_executor.specs.Given.FollowsSteps.{HasPair, HasToStore, StoreTheirs, TakesNone, named_now}
 use Rattle.run_executor.proofs.Given.FollowsAlike.{is_calm, AllCalm, calm_still, put_here}
 use Rattle.run_executor.proofs.Given.FollowsFinds.{still_find}
-use Rattle.run_executor.proofs.Given.FollowsOnward.{IsLasting, IsOfMap}
+use Rattle.run_executor.proofs.Given.FollowsOnward.{IsOfMap}
 use Rattle.run_executor.proofs.Given.FollowsOperations.{LeavesBy, operated_leaves}
 use Rattle.run_executor.proofs.Given.FollowsRows.{HandsOn, IsStill, Puts, Retires, one_step_leaves}
 use Rattle.run_executor.proofs.Given.FollowsRowSteps.{row_done}
@@ -56,15 +55,7 @@ use Rattle.run_blocks.proofs.Owes.Shapes.{Shaped, all_shaped, all_of_calls}
 use Rattle.run_executor.specs.Given.ScenesHeld.{Held, IsAt}
 use Rattle.run_executor.specs.Given.ScenesScene.{Scene, slot_of}
 use Rattle.run_executor.specs.Given.ScenesStepping.{StepLeads, scene_after}
-
--- such blocks stay what they are
-lasting_of_map : (r : Role) → IsOfMap r → IsLasting r
-lasting_of_map (role.Pair n) of = tt
-lasting_of_map (role.Table t len) of = tt
-lasting_of_map role.Free of = absurd of
-lasting_of_map (role.OwnPair i) of = absurd of
-lasting_of_map (role.OwnTable turn shape) of = absurd of
-lasting_of_map (role.Counter map) of = absurd of
+use Rattle.run_executor.proofs.Given.SpotsUnreclaimed.{of_map_lasts as lasting_of_map}
 
 -- a call that has a pair to store stores one
 has_one : {K V : Type 0} (memory : Mem (Node K V)) (b : ℕ) (own : List ℕ) (m : Moment K V) (f : Effect) → HasPair memory b (acting (Some own) m) f → StoresOne (Some own) m f

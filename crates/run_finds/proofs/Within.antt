@@ -40,7 +40,9 @@ use Rattle.run_finds.proofs.Owed.{due_keeps, owed_append, owed_without, owed_the
 use Rattle.run_finds.proofs.Placed.{keeps_owed, its_same, effects_keep_placed}
 use Rattle.run_finds.proofs.Somewhere.{is_storing, none_stored, leads, maps_there, effects_keep_somewhere}
 use Rattle.run_finds.proofs.Tables.{all_under, all_append, effects_keep_tables}
-use Rattle.run_finds.proofs.Grown.{found_of, found_any, any_found, only_one, number_is, stage_same, many_grow, born_same, linked_as, comes_on, is_moving, spot_same, stores_none}
+use Rattle.run_finds.proofs.Grown.{found_of, found_any, any_found, only_one, many_grow, born_same, linked_as, comes_on, is_moving, spot_same, stores_none}
+use Rattle.run_executor.proofs.Given.General.{equal_so as number_is}
+use Rattle.run_executor.proofs.Given.MomentsNumbers.{stage_same}
 
 module _ {K V : Type 0} (terms : Terms) (everything : Bool) (moments : List (Moment K V)) (caller : Option (List ℕ)) (acted : Option ℕ) (m : Moment K V) (h : AllIsInOrder m) (on : ActsOn caller acted m) where
   abbrev many : ℕ → ℕ

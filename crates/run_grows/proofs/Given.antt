@@ -1,4 +1,5 @@
 -- What is so by the crates below, given on to the crates above: these list this crate in place of those.
+pub use Rattle.run_executor.proofs.Executing.OnSlotBegun as ExecutingOnSlotBegun
 pub use Rattle.run_executor.proofs.Executing.RowLeads as ExecutorRowLeads
 pub use Rattle.run_executor.proofs.Given.CallersTogether
 pub use Rattle.run_executor.proofs.Given.ChangesFound
@@ -14,6 +15,7 @@ pub use Rattle.run_executor.proofs.Given.FollowsOperations
 pub use Rattle.run_executor.proofs.Given.FollowsSteps
 pub use Rattle.run_executor.proofs.Given.FollowsStored
 pub use Rattle.run_executor.proofs.Given.FollowsTold
+pub use Rattle.run_executor.proofs.Given.General
 pub use Rattle.run_executor.proofs.Given.HandsAsking
 pub use Rattle.run_executor.proofs.Given.HandsCalling
 pub use Rattle.run_executor.proofs.Given.MomentsAfter
@@ -96,6 +98,7 @@ pub use Rattle.run_logged.proofs.Given.PromisesGuards
 pub use Rattle.run_logged.proofs.Given.PromisesProtected
 pub use Rattle.run_logged.proofs.Given.PromisesShelters
 pub use Rattle.run_logged.proofs.Given.PromisesWeights
+pub use Rattle.run_logged.proofs.Given.RemainsLists
 pub use Rattle.run_logged.proofs.Given.SettlesCalls
 pub use Rattle.run_logged.proofs.Given.SettlesHand
 pub use Rattle.run_logged.proofs.Given.SettlesUncounted

@@ -28,7 +28,7 @@ use Rattle.run_grows.proofs.Given.ChangesLogs.{events_are}
 use Rattle.run_grows.proofs.Given.PurposesNothing.{no_calls_are_swept}
 use Rattle.run_grows.specs.Given.PromisesReading.{HasLooked, LookupsStay, ShowsReading, looks}
 use Rattle.run_grows.specs.Given.PromisesSheltered.{SectionsHold}
-use Rattle.run_grows.proofs.Given.PromisesBrief.Meanwhile.{calls_begin_readings, calls_take_readings}
+use Rattle.run_grows.proofs.Given.PromisesBrief.Meanwhile.{calls_begin_readings, calls_take_readings, stands_so}
 use Rattle.run_grows.proofs.Given.PromisesBrief.Stays.{readings_stay}
 use Rattle.run_grows.proofs.Given.PromisesShelters.Begins.{sections_go_on}
 use Rattle.run_legal.specs.Between.{IsLike}
@@ -37,7 +37,6 @@ use Rattle.run_legal.specs.Carried.{ShowsCalls}
 use Rattle.run_legal.specs.Over.{BegunEventsEnd, StoppedEventsEnd, ToldEventsEnd}
 use Rattle.run_legal.proofs.Between.{calls_begin, calls_take, walks_stop}
 use Rattle.run_legal.proofs.Idle.{idle_events_are_legal}
-use Rattle.run_legal.proofs.Maps.{stands_so}
 use Rattle.run_legal.proofs.Over.{quiet_events_end}
 use Rattle.run_grows.specs.Given.ScenesReplying.{scene_with, unless_stopped}
 use Rattle.run_grows.specs.Given.ScenesScene.{Scene}

@@ -14,6 +14,7 @@ use Rattle.run_grows.specs.Given.SeizeReclaimsRoots.{all_lists}
 use Rattle.run_grows.specs.Given.ModelsNumbers.{things_of}
 use Rattle.run_grows.specs.Given.FindsOrderly.{is_left_over}
 use Rattle.run_legal.specs.AllEvents.{BehindIsTold}
+use Rattle.run_grows.proofs.Given.General.{map_append as each_two}
 
 -- blocks that are noted as these pairs
 module _ (roles : ℕ → Role) where
@@ -60,10 +61,6 @@ module _ (roles : ℕ → Role) where
           let both : role.Pair n ≡ role.Pair k = sym is ∙ ap roles e ∙ first in
           let one : n ≡ k = cc both in ap (λ (q : Bool). q || is_among n ns) (eq-eqb n k one)
       by (inr more) ih = later (n == k) (ih more)
-
-each_two : {X Y : Type 0} (g : X → Y) (a b : List X) → map g (a ++ b) ≡ map g a ++ map g b
-each_two g [] b = refl
-each_two {Y = Y} g (x ∷ a) b = ap (λ (l : List Y). g x ∷ l) (each_two g a b)
 
 all_things : (rs : List Remains) → map APair (flat_map (λ r. r.pairs) rs) ≡ flat_map (λ r. map APair r.pairs) rs
 all_things [] = refl

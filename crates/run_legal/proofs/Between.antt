@@ -26,7 +26,6 @@ use Rattle.run_grows.specs.Given.HandsAsked.{as_told}
 use Rattle.run_grows.specs.Given.OthersElsewhere.{HasSame}
 use Rattle.run_grows.specs.Given.OthersWalks.{given_up}
 use Rattle.run_grows.proofs.Given.HandsAsking.{which}
-use Rattle.run_grows.proofs.Given.FollowsSteps.{one_of}
 use Rattle.run_grows.specs.Given.MomentsNumbers.{NumbersMaps, PairsAreBelow}
 use Rattle.run_grows.proofs.Given.MomentsCalls.{calls_begin_whole, calls_take_whole}
 use Rattle.run_grows.proofs.Given.MomentsWalks.{walks_go_on_whole, walks_stop_whole}
@@ -69,6 +68,7 @@ use Rattle.run_grows.proofs.Grows.Finding.Between.{asked_same, fewer_calls, none
 use Rattle.run_grows.specs.Given.ScenesBeginning.{Begins}
 use Rattle.run_grows.specs.Given.ScenesReplying.{scene_with, unless_stopped}
 use Rattle.run_grows.specs.Given.ScenesScene.{HasCall, Scene}
+use Rattle.run_grows.proofs.Given.General.{same_some as one_of}
 
 pub likes_show : (K V : Type 0) (same : K → K → Bool) → LikesShow K V same
 likes_show K V same name log m v known s all like = subst (λ (x : Moment K V). ShowsCalls same name log x known s) (sym like) (record {
@@ -197,7 +197,7 @@ module _ {K V : Type 0} (same : K → K → Bool) (standing : Standing K) (i : �
   unchanged (OverAll o) begins x is = absurd (cc is)
 
 -- what a retaining asks about is the pair of its word
-about_pair : (known : Known) (word : ℕ) (question : Option ℕ) → IsToldQuestion known (Some word) question → (q : ℕ) × (question ≡ Some q) × NamesPair known word q
+pub about_pair : (known : Known) (word : ℕ) (question : Option ℕ) → IsToldQuestion known (Some word) question → (q : ℕ) × (question ≡ Some q) × NamesPair known word q
 about_pair known word (Some q) told = (q, refl, told)
 about_pair known word None told = absurd told
 
@@ -209,11 +209,11 @@ asks_about known u question asks o is word stands =
 
 -- where one goes on otherwise, or is under way no more, what it is about to add is what it was
 
-not_ready : (q : Bool) (removed : ℕ) → adds_in_sweeping (if q then sweeping.Words else sweeping.Over) ≡ Some removed → ⊥
+pub not_ready : (q : Bool) (removed : ℕ) → adds_in_sweeping (if q then sweeping.Words else sweeping.Over) ≡ Some removed → ⊥
 not_ready true removed adds = absurd (cc adds)
 not_ready false removed adds = absurd (cc adds)
 
-adds_next : (p : Sweeping) (c : Sweep) (removed : ℕ) → c.stands ≡ p → adds_in_sweeping (next_at p c).stands ≡ Some removed → adds_in_sweeping c.stands ≡ Some removed
+pub adds_next : (p : Sweeping) (c : Sweep) (removed : ℕ) → c.stands ≡ p → adds_in_sweeping (next_at p c).stands ≡ Some removed → adds_in_sweeping c.stands ≡ Some removed
 adds_next sweeping.Ready c removed is adds = absurd (not_ready (nat_lt c.place c.table.len) removed adds)
 adds_next _ c removed is adds = adds
 

@@ -16,20 +16,19 @@ use Rattle.run_grows.proofs.Given.CallersTogether.At.{at_same}
 use Rattle.run_grows.specs.Given.SweepsSweepPoints.{after_next}
 use Rattle.run_grows.specs.Given.FollowsCalls.{IsCalled}
 use Rattle.run_grows.proofs.Given.FollowsCalling.{is_same_refl}
-use Rattle.run_grows.proofs.Given.FollowsSteps.{one_of}
 use Rattle.run_grows.proofs.Given.HandsAsking.{which}
 use Rattle.run_grows.proofs.Given.ChangesLogs.{events_are}
 use Rattle.run_grows.specs.Given.PromisesReading.{LookupsStay, ShowsReading, looks}
-use Rattle.run_grows.proofs.Given.PromisesBrief.Meanwhile.{calls_begin_readings}
+use Rattle.run_grows.proofs.Given.PromisesBrief.Meanwhile.{calls_begin_readings, stands_so}
 use Rattle.run_grows.proofs.Given.PromisesBrief.Stays.{readings_stay}
 use Rattle.run_legal.specs.CallEvents.{NextsBegin, WholeCallsBegin}
 use Rattle.run_legal.specs.Carried.{ShowsCalls}
 use Rattle.run_legal.proofs.Between.{calls_begin, walks_go_on}
 use Rattle.run_legal.proofs.Calls.{call_events_begin_so}
-use Rattle.run_legal.proofs.Maps.{stands_so}
 use Rattle.run_grows.specs.Given.ScenesReplying.{scene_with}
 use Rattle.run_grows.specs.Given.ScenesScene.{Scene}
 use Rattle.run_grows.specs.Given.SchedulesTransition.{past}
+use Rattle.run_grows.proofs.Given.General.{same_some as one_of}
 
 -- what a caller has under way is there on its map
 pub now_there : {K V : Type 0} (s : Scene K V) (map i : ℕ) (u : UnderWay K V K) → (scene_with map i u s).calls map i ≡ Some u

@@ -20,7 +20,6 @@ use Rattle.run_grows.specs.Given.HistoriesInEvent.{InEvent}
 use Rattle.run_grows.specs.Given.ChangesKept.{ChangesFirst}
 use Rattle.run_grows.proofs.Given.HistoriesOtherMidsts.{first_change as other_changes_first}
 use Rattle.run_grows.proofs.Given.HistoriesSeveral.{first_change as key_changes_first}
-use Rattle.run_grows.proofs.Given.OwesCalls.{goes_as_one}
 use Rattle.run_grows.specs.Given.PurposesShards.{NoneCounted, ReadsShards}
 use Rattle.run_grows.proofs.Given.PurposesShardsRead.{steps_read_shards}
 use Rattle.run_grows.specs.Given.ShardsShardSteps.{AddsUp}
@@ -29,6 +28,7 @@ use Rattle.run_grows.specs.Given.ScenesHeld.{Held, IsAt}
 use Rattle.run_grows.specs.Given.ScenesScene.{Scene}
 use Rattle.run_grows.specs.Given.ScenesStepping.{StepLeads}
 use Rattle.run_grows.specs.Given.SchedulesTransition.{past}
+use Rattle.run_grows.proofs.Given.SettlesCalls.{goes_as_one}
 
 -- no class changes twice
 module _ {K V : Type 0} (same : K → K → Bool) (hash : ℕ → K → ℕ) (name : ℕ → List ℕ) (log : List (Entry K V)) (beginning : Moment K V) (map i : ℕ) (c : CallThere K V) (done : List Effect) (m : Moment K V)

@@ -5,9 +5,9 @@ use Rattle.run_grows.proofs.Given.SettlesHand.Calls.{calls_keep_owed}
 use Rattle.run_grows.proofs.Given.FindsJoined.{parts_are_all}
 use Rattle.run_grows.proofs.Given.FindsFound.{steps_find_parts}
 use Rattle.std.proofs.Common.{ap, sym, ◌∙◌}
-use Rattle.run_grows.proofs.Given.FollowsSteps.{one_of}
 use Rattle.run_grows.specs.Given.SchedulesMoment.{UnderWay as CallThere}
 use Rattle.run_legal.specs.CallRuns.{StepsFindAll}
+use Rattle.run_grows.proofs.Given.General.{same_some as one_of}
 
 module _ (K V : Type 0) (same : K → K → Bool) (hash : ℕ → K → ℕ) where
   pub steps_find_all : StepsFindAll K V same hash

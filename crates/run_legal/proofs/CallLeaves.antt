@@ -25,19 +25,18 @@ use Rattle.run_grows.specs.Given.FinishesMachines.{machine_of}
 use Rattle.run_grows.specs.Given.KeptKept.{ShowsKept}
 use Rattle.run_grows.proofs.Given.KeptCalls.{calls_keep_kept, own_made}
 use Rattle.run_grows.specs.Given.OwesEvents.{LeavesNothingMade}
-use Rattle.run_grows.proofs.Given.OwesCalls.{goes_as_one}
 use Rattle.run_grows.proofs.Given.OwesEvents.{events_leave_nothing_made}
 use Rattle.run_grows.proofs.Given.OwesKept.{calls_its}
 use Rattle.run_grows.proofs.Given.OwesReady.{ready_so}
 use Rattle.run_grows.specs.Given.SettlesCounts.{HasToCount, counts_in_sweeping, is_to_count}
-use Rattle.run_grows.proofs.Given.SettlesCalls.{calls_keep_counts}
+use Rattle.run_grows.proofs.Given.SettlesCalls.{calls_keep_counts, goes_as_one}
 use Rattle.run_grows.proofs.Given.SettlesHand.Asked.{walks_have_nothing}
 use Rattle.run_grows.proofs.Given.SettlesHand.Calls.{calls_keep_owed}
 use Rattle.run_legal.specs.CallRuns.{CallsLeaveNothing, TellsEnd}
 use Rattle.run_grows.proofs.Given.ScenesGoes.{goes_as}
-use Rattle.run_grows.proofs.Given.ScenesNoCall.{none_of}
 use Rattle.run_grows.specs.Given.ScenesScene.{Scene}
 use Rattle.run_grows.specs.Given.ScenesStepping.{has_ended, scene_after}
+use Rattle.run_grows.proofs.Given.General.{none_mapped as none_of}
 
 -- a walk that is ready has nothing to count
 none_ready : (p : Sweeping) → is_ready p ≡ true → counts_in_sweeping p ≡ false

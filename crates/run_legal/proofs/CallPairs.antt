@@ -17,7 +17,6 @@ use Rattle.run_grows.specs.Given.EffectsKnown.{Known}
 use Rattle.run_grows.specs.Given.EffectsDeclared.acting.Acting.TheVariants as acts
 use Rattle.run_grows.specs.Given.FinishesMaps.{Standing}
 use Rattle.run_grows.proofs.Given.FollowsContents.{lasts_more}
-use Rattle.run_grows.proofs.Given.FollowsSteps.{one_of}
 use Rattle.run_grows.proofs.Given.FollowsStored.{in_map_true}
 use Rattle.run_grows.specs.Given.MomentsWhole.{ShowsWhole}
 use Rattle.run_grows.specs.Given.HistoriesInEvent.{InEvent, here_of}
@@ -34,6 +33,7 @@ use Rattle.run_grows.specs.Given.ScenesHeld.{Held, IsAt}
 use Rattle.run_grows.specs.Given.ScenesScene.{Scene}
 use Rattle.run_grows.specs.Given.ScenesStepping.{StepLeads, scene_after}
 use Rattle.run_grows.specs.Given.SchedulesTransition.{past}
+use Rattle.run_grows.proofs.Given.General.{same_some as one_of}
 
 -- so it is at a moment that shows the map
 pub each_is_its_own : {K V : Type 0} (same : K → K → Bool) (hash : ℕ → K → ℕ) (name : ℕ → List ℕ) (m : Moment K V) (known : Known) (s : Scene K V) (e : Held K V) → IsAt same hash e s

@@ -29,7 +29,6 @@ use Rattle.run_grows.proofs.Given.HistoriesAnyCall.InEvent.{events_begin, events
 use Rattle.run_grows.specs.Given.ModelsCallEvents.{FollowsInEvent, IsInItsRow}
 use Rattle.run_grows.proofs.Given.ModelsCallEvents.{call_events_begin, call_events_go_on}
 use Rattle.run_grows.proofs.Given.ModelsMapEvents.{moments_note_once}
-use Rattle.run_grows.proofs.Given.SpotsUnreclaimed.{and_both}
 use Rattle.run_grows.specs.Given.FindsLife.{StoresOne}
 use Rattle.run_grows.proofs.Given.FindsDoing.{several_do_theirs}
 use Rattle.run_grows.proofs.Given.FindsQuiet.{several_store_one}
@@ -56,6 +55,7 @@ use Rattle.run_grows.specs.Given.ScenesScene.{Scene, slot_of}
 use Rattle.run_grows.specs.Given.ScenesStepping.{scene_after}
 use Rattle.run_grows.specs.Given.SchedulesTransition.{past}
 use Rattle.run_legal.proofs.OneStep.{calls_show_on}
+use Rattle.run_grows.proofs.Given.General.{both_true as and_both}
 
 -- no steps, whoever's
 none_made : (q : Bool) → ◌≡◌ {A = ℕ} 0 (if q then 0 else 0)

@@ -43,7 +43,6 @@ use Rattle.run_grows.proofs.Given.FindsRuns.{events_keep_order}
 use Rattle.run_grows.proofs.Given.FindsClosed.{over_stays_back}
 use Rattle.run_grows.specs.Given.RunsSame.{is_same}
 use Rattle.run_legal.proofs.LeftTold.{events_tell_left}
-use Rattle.run_legal.proofs.Maps.{stands_so}
 use Rattle.run_grows.specs.Given.EffectsDeclared.acting.Acting.TheVariants as acts
 use Rattle.run_legal.specs.Carried.{NoneCounted}
 use Rattle.run_grows.proofs.Given.SourcesSteps.{calls_keep_sources}
@@ -64,6 +63,7 @@ use Rattle.run_grows.specs.Given.ScenesScene.{Scene}
 use Rattle.run_grows.specs.Given.ScenesStepping.{scene_after}
 use Rattle.run_grows.specs.Given.SchedulesTransition.{past}
 use Rattle.run_grows.proofs.Given.ChangesLogs.{events_are}
+use Rattle.run_grows.proofs.Given.PromisesBrief.Meanwhile.{stands_so}
 
 -- numbers of maps are those after its effects
 module _ {K V : Type 0} (log : List (Entry K V)) (own : List ℕ) (outcome : Outcome V) (steps : ℕ) (effects : List Effect) where

@@ -36,12 +36,13 @@ use Rattle.run_grows.specs.Given.EffectsEffects.{effects_of}
 use Rattle.run_grows.specs.Given.EffectsKnown.{Known}
 use Rattle.run_grows.specs.Given.EffectsDeclared.acting.Acting.{Acting}
 use Rattle.run_grows.specs.Given.EffectsDeclared.acting.Acting.TheVariants.{Call}
-use Rattle.run_grows.proofs.Given.SpotsUnreclaimed.{or_right, same_itself}
+use Rattle.run_grows.proofs.Given.SpotsUnreclaimed.{same_itself}
 use Rattle.run_grows.proofs.Given.FindsLists.{all_so}
 use Rattle.run_grows.proofs.Given.FindsSomewhere.{is_storing, none_stored}
 use Rattle.run_grows.proofs.Given.ModelsNumbers.{still_in}
 use Rattle.run_legal.specs.Noted.{HaveCome, CallsBringThings, EventsBringThings, NothingHasCome}
 use Rattle.run_grows.proofs.Given.FollowsOfEach.{OfEach, each_operation_so}
+use Rattle.run_grows.proofs.Given.General.{or_second as or_right}
 
 -- the n-th pair that is stored has the number n
 abbrev pub IsNumbered : {K V : Type 0} → Moment K V → Effect → Type 0

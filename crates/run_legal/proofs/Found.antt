@@ -24,7 +24,7 @@ use Rattle.run_grows.specs.Given.EffectsKnown.{Known}
 use Rattle.run_grows.specs.Given.EffectsDeclared.acting.Acting.TheVariants as acts
 use Rattle.run_grows.specs.Given.MomentsOnSlots.{HadRetired}
 use Rattle.run_grows.proofs.Given.MomentsAfter.{each_parts}
-use Rattle.run_grows.proofs.Given.SpotsUnreclaimed.{and_both, or_right, same_itself}
+use Rattle.run_grows.proofs.Given.SpotsUnreclaimed.{same_itself}
 use Rattle.run_grows.specs.Given.FindsBounded.{HasRetiredTable}
 use Rattle.run_grows.specs.Given.FindsOrderly.{NothingIsRetired, is_left_over}
 use Rattle.run_grows.specs.Given.KeptKept.{ShowsKept}
@@ -38,6 +38,7 @@ use Rattle.run_legal.proofs.Chains.{chains_keep}
 use Rattle.run_legal.proofs.Slots.{each_join, slot_events_go_on_so}
 use Rattle.run_grows.specs.Given.ScenesHeld.{Held, IsAt}
 use Rattle.run_grows.specs.Given.ScenesScene.{Scene}
+use Rattle.run_grows.proofs.Given.General.{both_true as and_both, or_second as or_right}
 
 -- what was handed over may be reclaimed
 may_reclaim : (everything : Bool) (p : Place) → is_handed p ≡ true → MayReclaim everything p

@@ -28,7 +28,7 @@ use Rattle.run_legal.specs.MapEvents.{IdleEventsAreLegal}
 use Rattle.run_grows.specs.Given.SchedulesTransition.{past, transition}
 
 -- nothing was made
-none_made : (q : Bool) → (not q || true) ≡ true
+pub none_made : (q : Bool) → (not q || true) ≡ true
 none_made true = refl
 none_made false = refl
 

@@ -1,5 +1,5 @@
 -- What ended maps have left over is what a moment says of it: as maps end, as all is reclaimed, and where nothing of that is.
-use Rattle.std.specs.Prelude.{◌≡◌, ◌⊎◌, ◌<◌, ◌+◌, ◌==◌, ◌||◌, ℕ, nat_lt, Bool, true, false, not, cond, List, [], ◌∷◌, ◌++◌, filter, find, flat_map, length, map, Option, Some, None, MatchBool, if◌then◌else◌}
+use Rattle.std.specs.Prelude.{◌≡◌, ◌⊎◌, ◌<◌, ◌+◌, ◌==◌, ◌||◌, ℕ, nat_lt, Bool, true, false, not, cond, List, [], ◌∷◌, filter, find, flat_map, length, map, Option, Some, None, MatchBool, if◌then◌else◌}
 use Rattle.std.specs.List.{list_all}
 use Rattle.std.proofs.Common.{refl, ap, sym, subst, ◌∙◌, inl, inr, arith}
 use Rattle.std.proofs.Math.Bool.{or-false}
@@ -40,6 +40,7 @@ use Rattle.run_grows.proofs.Given.FindsLife.{life_finds_placed}
 use Rattle.run_grows.proofs.Given.FindsOver.{both_at}
 use Rattle.run_grows.proofs.Given.FindsPlaced.{effects_keep_placed}
 use Rattle.run_legal.specs.Carried.{EventsTellLeft, LeftIsTold}
+use Rattle.run_grows.proofs.Given.RemainsLists.{among_append as among_two}
 
 -- where a pair is that is elsewhere
 unborn_not : (p : Place) → is_unborn p ≡ true → is_left_over p ≡ false
@@ -200,14 +201,6 @@ module _ {K V : Type 0} (terms : Terms) (caller : Option (List ℕ)) (acted : Op
       ∙ one_stays terms caller acted moments m placed f finds.0.0 its none.0 n
 
 -- Of an end of a map: what waited behind the tables that it took is left over, too.
-
-among_two : (n : ℕ) (xs ys : List ℕ) → is_among n (xs ++ ys) ≡ (is_among n xs || is_among n ys)
-among_two n [] ys = refl
-among_two n (x ∷ xs) ys = ap (λ (q : Bool). (n == x) || q) (among_two n xs ys) ∙ by (n == x)
-  where
-    by : (q : Bool) → (q || (is_among n xs || is_among n ys)) ≡ ((q || is_among n xs) || is_among n ys)
-    by true = refl
-    by false = refl
 
 -- behind a table that is taken nothing waits any more
 none_behind : (t : TableId) (ds : List Deferral) → behind t (filter (λ (d : Deferral). not (same_table d.behind t)) ds) ≡ []

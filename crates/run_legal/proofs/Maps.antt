@@ -40,8 +40,7 @@ use Rattle.run_grows.proofs.Given.HistoriesQuestions.{effects_keep_questions}
 use Rattle.run_grows.proofs.Given.PurposesElsewhere.{purposes_stay}
 use Rattle.run_grows.specs.Given.PromisesProtected.{InMidst}
 use Rattle.run_grows.specs.Given.PromisesReading.{HasStood}
-use Rattle.run_grows.proofs.Given.PromisesBrief.Meanwhile.{other_work_keeps_readings}
-use Rattle.run_grows.proofs.Given.PromisesBrief.Stays.{same_tables}
+use Rattle.run_grows.proofs.Given.PromisesBrief.Meanwhile.{other_work_keeps_readings, stands_so}
 use Rattle.run_grows.proofs.Given.PromisesProtected.{endings_protect, makings_protect}
 use Rattle.run_grows.proofs.Given.PromisesWeights.{grants_add_up, operations_are_single}
 use Rattle.run_grows.specs.Given.ModelsEnds.{FollowsInEnd}
@@ -71,10 +70,6 @@ use Rattle.run_grows.specs.Given.ScenesMaking.{MakingLeads}
 use Rattle.run_grows.specs.Given.ScenesScene.{Scene}
 use Rattle.run_grows.specs.Given.SchedulesTransition.{past}
 use Rattle.run_legal.specs.OneStep.{EndsStep, MakingsStep}
-
--- a map that stands as it does
-pub stands_so : {K : Type 0} (maps : ℕ → Option (Standing K)) (n : ℕ) (st : Standing K) → maps n ≡ Some st → HasStood maps n st
-stands_so maps n st is = (st, is, refl, same_tables st.chart)
 
 -- numbers of maps by what works on one that was made
 module _ {K V : Type 0} (m : Moment K V) (numbers : NumbersMaps m × PairsAreBelow m) (map : ℕ) (below : map < m.made) (acting : Acting) (on_map : map_of acting ≡ map) (known : Known) (told : Changed) where

@@ -23,13 +23,13 @@ use Rattle.run_grows.specs.Given.PromisesProtected.{is_of_slots}
 use Rattle.run_grows.specs.Given.PromisesSheltered.{SectionsHold}
 use Rattle.run_grows.proofs.Given.PromisesProtected.{other_events_end_protected}
 use Rattle.run_grows.proofs.Given.PurposesNothing.{no_calls_are_swept}
-use Rattle.run_grows.proofs.Given.SpotsUnreclaimed.{and_both}
 use Rattle.run_legal.specs.MapEvents.{MapEventsAreLegal}
 use Rattle.run_grows.specs.Given.SchedulesTransition.{past, transition}
+use Rattle.run_grows.proofs.Given.General.{both_true as and_both}
 
 -- Its effects bring no pair and take none out that is not ended.
 
-making_none : (f : Effect) → is_first_making f ≡ true → shift_of f ≡ []
+pub making_none : (f : Effect) → is_first_making f ≡ true → shift_of f ≡ []
 making_none (Asked ABlock) is = refl
 making_none (TableMade t) is = refl
 making_none (Linked t shape) is = refl

@@ -18,10 +18,9 @@ use Rattle.run_grows.specs.Given.SchedulesMoment.{Moment}
 use Rattle.run_grows.proofs.Given.CallersTogether.At.{at_other, at_same}
 use Rattle.run_grows.specs.Given.FinishesMaps.{Standing}
 use Rattle.run_grows.specs.Given.OthersEndings.{without_map}
-use Rattle.run_grows.proofs.Given.SpotsUnreclaimed.{and_both}
 use Rattle.run_grows.specs.Given.PromisesReading.{HasStood, ShowsReading}
 use Rattle.run_grows.specs.Given.PromisesSheltered.{SectionsHold}
-use Rattle.run_grows.proofs.Given.PromisesBrief.Meanwhile.{other_work_keeps_readings}
+use Rattle.run_grows.proofs.Given.PromisesBrief.Meanwhile.{other_work_keeps_readings, stands_so}
 use Rattle.run_grows.proofs.Given.PromisesShelters.Begins.{sections_go_on}
 use Rattle.run_grows.specs.Given.ModelsCallEvents.{slot_of_call}
 use Rattle.run_grows.specs.Given.ModelsFollows.{IsFollowed}
@@ -39,10 +38,10 @@ use Rattle.run_legal.proofs.BetweenMaps.{ends_begin, makings_begin, maps_come, m
 use Rattle.run_legal.proofs.CallFollows.{by_model_so, of_no_slot, was_alone}
 use Rattle.run_grows.specs.Given.SourcesStays.{NoneBorn}
 use Rattle.run_legal.proofs.Sourced.{none_born}
-use Rattle.run_legal.proofs.Maps.{stands_so}
 use Rattle.run_legal.proofs.Over.{reading_like, runs_go_on}
 use Rattle.run_grows.specs.Given.ScenesEnding.{ending_begun}
 use Rattle.run_grows.specs.Given.SchedulesTransition.{past}
+use Rattle.run_grows.proofs.Given.General.{both_true as and_both}
 
 -- The beginnings.
 

@@ -22,7 +22,6 @@ use Rattle.run_grows.specs.Given.SchedulesTerms.{Terms}
 use Rattle.run_grows.specs.Given.SchedulesViews.{call_of}
 use Rattle.run_grows.specs.Given.CallersTogether.{UnderWay}
 use Rattle.run_grows.specs.Given.EffectsKnown.{Known}
-use Rattle.run_grows.proofs.Given.SpotsUnreclaimed.{and_both}
 use Rattle.run_grows.specs.Given.PromisesReading.{ShowsReading}
 use Rattle.run_grows.proofs.Given.PromisesBrief.Stays.{events_keep_readings}
 use Rattle.run_grows.specs.Given.ModelsCallEvents.{IsInItsRow}
@@ -41,6 +40,7 @@ use Rattle.run_legal.proofs.Between.{likes_show, logs_grow, named_as, names_chan
 use Rattle.run_grows.specs.Given.ScenesScene.{Scene, slot_of}
 use Rattle.run_grows.specs.Given.SchedulesTransition.{past}
 use Rattle.run_grows.proofs.Given.ChangesLogs.{events_are}
+use Rattle.run_grows.proofs.Given.General.{both_true as and_both}
 
 pub runs_go_on : (K V : Type 0) (same : K → K → Bool) → RunsGoOn K V same
 runs_go_on K V same name name2 terms log first known before s run e right life stores reclaims all reading sections follows = record {

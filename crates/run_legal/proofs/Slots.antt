@@ -11,12 +11,9 @@ use Rattle.run_grows.specs.Given.SchedulesAfter.{moment}
 use Rattle.run_grows.specs.Given.SchedulesEffects.{with_effect, with_effects, AtEachEffect}
 use Rattle.run_grows.specs.Given.SchedulesModel.{sets_in, things_in}
 use Rattle.run_grows.specs.Given.SchedulesMoment.{Moment}
-use Rattle.run_grows.specs.Given.CallersTogether.{IsOfSlots}
 use Rattle.run_grows.specs.Given.EffectsEffects.{effects_of, known_after}
 use Rattle.run_grows.specs.Given.EffectsKnown.{Known}
 use Rattle.run_grows.specs.Given.EffectsDeclared.acting.Acting.TheVariants as acts
-use Rattle.run_grows.specs.Given.ScenesDeclared.row.SlotCall.{SlotCall}
-use Rattle.run_grows.specs.Given.ScenesDeclared.row.SlotCall.TheVariants as call
 use Rattle.run_grows.specs.Given.MomentsWhole.{ShowsWhole}
 use Rattle.run_grows.proofs.Given.MomentsAfter.{effects_after}
 use Rattle.run_grows.specs.Given.PromisesProtected.{InMidst, is_of_slots}
@@ -33,16 +30,7 @@ use Rattle.run_grows.specs.Given.ScenesRows.{request_of}
 use Rattle.run_grows.specs.Given.ScenesScene.{slot_of}
 use Rattle.run_grows.specs.Given.SchedulesTransition.{past}
 use Rattle.run_legal.proofs.OneStep.{rows_begin, rows_step}
-
--- each row on a slot is one
-of_slots : (slot : ℕ) (called : SlotCall) → IsOfSlots (request_of slot called)
-of_slots slot (call.Register enters) = tt
-of_slots slot call.Enter = tt
-of_slots slot call.Leave = tt
-of_slots slot call.LeaveOwned = tt
-of_slots slot call.Refresh = tt
-of_slots slot call.Flush = tt
-of_slots slot call.Unregister = tt
+use Rattle.run_grows.proofs.Given.ExecutingOnSlotBegun.{of_slots}
 
 -- what is so at each of the first effects, and at each of those behind them, is so at each
 module _ {K V : Type 0} (P : Moment K V → Effect → Type 0) (caller : Option (List ℕ)) (acted : Option ℕ) where

@@ -15,13 +15,13 @@ use Rattle.run_grows.specs.Given.SchedulesEntry.{Entry, acted_on, caller_of}
 use Rattle.run_grows.specs.Given.SchedulesHanding.{asks_for_bucket, is_only, is_reclaiming, may_do}
 use Rattle.run_grows.specs.Given.SchedulesMoment.{Moment}
 use Rattle.run_grows.specs.Given.PromisesProtected.{is_of_slots}
-use Rattle.run_grows.proofs.Given.SpotsUnreclaimed.{and_both}
 use Rattle.run_grows.specs.Given.FindsLife.{StoresOne}
 use Rattle.run_legal.specs.Between.{IsLike}
 use Rattle.run_legal.specs.SlotEvents.{SlotEventsEnd}
 use Rattle.run_legal.proofs.Between.{likes_show}
 use Rattle.run_legal.proofs.Over.{reading_like, runs_go_on}
 use Rattle.run_grows.specs.Given.SchedulesTransition.{past}
+use Rattle.run_grows.proofs.Given.General.{both_true as and_both}
 
 -- Its effects store nothing.
 

@@ -30,13 +30,13 @@ use Rattle.run_grows.specs.Given.PromisesProtected.{is_of_slots}
 use Rattle.run_grows.specs.Given.PromisesSheltered.{SectionsHold}
 use Rattle.run_grows.proofs.Given.PromisesProtected.{slot_events_end_protected}
 use Rattle.run_grows.proofs.Given.PurposesNothing.{no_calls_are_swept}
-use Rattle.run_grows.proofs.Given.SpotsUnreclaimed.{and_both}
 use Rattle.run_legal.specs.CallEvents.{IsLegalBut}
 use Rattle.run_legal.specs.Carried.{ComesAlone}
 use Rattle.run_legal.specs.SlotEvents.{SlotEventsAreLegal}
 use Rattle.run_grows.specs.Given.ScenesRows.{request_of}
 use Rattle.run_grows.specs.Given.ScenesScene.{slot_of}
 use Rattle.run_grows.specs.Given.SchedulesTransition.{past, transition}
+use Rattle.run_grows.proofs.Given.General.{both_true as and_both}
 
 -- An event on slots acts for no call, and its effects bring no pair and take none out.
 

@@ -19,7 +19,6 @@ use Rattle.run_grows.specs.Given.EffectsKnown.{Known}
 use Rattle.run_grows.specs.Given.FinishesMakings.{Beginning, IsNewChart}
 use Rattle.run_grows.specs.Given.FinishesMaps.{Standing, IsSameMap}
 use Rattle.run_grows.specs.Given.FollowsShows.{Shows}
-use Rattle.run_grows.proofs.Given.FollowsSteps.{one_of}
 use Rattle.run_grows.specs.Given.OthersMakings.{making_after}
 use Rattle.run_grows.specs.Given.MomentsNumbers.{NumbersMaps}
 use Rattle.run_grows.proofs.Given.MomentsNumbers.{maps_come_by_number}
@@ -34,6 +33,7 @@ use Rattle.run_grows.specs.Given.ScenesEnding.{ending_begun}
 use Rattle.run_grows.specs.Given.ScenesHeld.{Held}
 use Rattle.run_grows.specs.Given.ScenesMaking.{MakingLeads}
 use Rattle.run_grows.specs.Given.ScenesScene.{Scene}
+use Rattle.run_grows.proofs.Given.General.{same_some as one_of}
 
 -- where the end of a map begins, each other one stands as it did
 pub ends_leave : {K V : Type 0} (s : Scene K V) (map i : ℕ) (standing : Standing K) (n : ℕ) (st : Standing K) → (ending_begun map i standing s).maps n ≡ Some st → s.maps n ≡ Some st

@@ -17,6 +17,7 @@ pub use Rattle.run_shows.proofs.Follows.Writes as FollowsWrites
 pub use Rattle.run_shows.proofs.Given.CallersRows
 pub use Rattle.run_shows.proofs.Given.CallersSights
 pub use Rattle.run_shows.proofs.Given.CallersTogether
+pub use Rattle.run_shows.proofs.Given.General
 pub use Rattle.run_shows.proofs.Given.PointsCalls
 pub use Rattle.run_shows.proofs.Given.PointsLookups
 pub use Rattle.run_shows.proofs.Given.PointsMovedLasts

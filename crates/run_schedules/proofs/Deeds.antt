@@ -1,2 +1,2 @@
 -- Histories whose entries know no script: what was done, what it came to, and what is promised of it.
-mod Samples
+pub mod Samples

@@ -42,6 +42,7 @@ pub use Rattle.seize_acts.proofs.Given.SeizeSetsTurns
 pub use Rattle.seize_acts.proofs.Quiet.Slots as SeizeQuietSlots
 pub use Rattle.seize_acts.proofs.Reclaims.AllReclaimed as SeizeReclaimsAllReclaimed
 pub use Rattle.seize_acts.proofs.Reclaims.Roots as SeizeReclaimsRoots
+pub use Rattle.seize_words.proofs.General
 pub use Rattle.seize_words.proofs.OneMemory.OneOwner as SeizeWordsOneOwner
 pub use Rattle.seize_words.proofs.OneMemory.Places as SeizeWordsPlaces
 pub use Rattle.seize_words.proofs.OneMemory.Plans as SeizeWordsPlans

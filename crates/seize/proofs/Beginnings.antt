@@ -60,7 +60,7 @@ pub bucket_needed-other : (slot place index : ℕ) → slot < LAST_SLOT → IsPl
 bucket_needed-other slot place index below at other = needed_below slot None below (sym (begun_nowhere 59 0 (slot + 1) place index at other))
 
 -- what is found is a bucket that begins with the slot, among those that are tried
-begun_is : (left bucket slot found : ℕ) → begun_of left bucket slot ≡ Some found → (slot + 32 ≡ capacity found) × (found < bucket + left)
+pub begun_is : (left bucket slot found : ℕ) → begun_of left bucket slot ≡ Some found → (slot + 32 ≡ capacity found) × (found < bucket + left)
 begun_is zero bucket slot found is = absurd (cc)
 begun_is (suc left) bucket slot found is =
     elim (cases_eq (slot + 32) (capacity bucket)) as (λ _. (slot + 32 ≡ capacity found) × (found < bucket + suc left)) [

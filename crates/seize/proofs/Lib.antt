@@ -1,4 +1,4 @@
-mod Beginnings
+pub mod Beginnings
 mod Numbers
 pub mod StepsInto
 mod Samples

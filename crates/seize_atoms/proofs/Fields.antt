@@ -36,13 +36,10 @@ use Rattle.seize_atoms.specs.contracts.strip.Strip as strip
 use Rattle.seize_seats.specs.contracts.place.ValuePlaces as place
 use Rattle.seize_seats.specs.contracts.place.Doors as doors
 use Rattle.seize_seats.specs.contracts.place.Address as address
+use Rattle.seize_words.proofs.OneMemory.Stored.{hand_of}
 
 pub word_laws : Laws u64
 word_laws = of_field u64-field u64-laws refl (copy_shared u64-field u64-copy)
-
--- an address and no more
-abbrev pub hand_of : Ptr → Val
-hand_of p = vstruct (vcons (ptr_val p) (vcons (vstruct vnil) vnil))
 
 module _ (X R V F : RattleType) (g : Ghosts R.Denot X.Denot V.Denot F.Denot) where
   abbrev pub Data : RattleType

@@ -5,7 +5,6 @@ use Rattle.seize_words.specs.OneMemory.Op.{Op, Swap, Exchange, Make, Take, Rewri
 use Rattle.seize_words.specs.OneMemory.Word.{block_in}
 use Rattle.seize_words.specs.declared.at.At.TheVariants.{Root}
 use Rattle.seize.specs.World.{HasListWord}
-use Rattle.seize_views.proofs.Given.SeizeActsAnswers.{same_some}
 use Rattle.seize_seats.specs.Seats.Lendings.{Shown, IsValueOf}
 use Rattle.seize_seats.specs.Seats.State.{Allows, Owns, Meets}
 use Rattle.seize_views.specs.Views.Begun.{Hands}
@@ -26,6 +25,7 @@ use Rattle.seize_callers.proofs.Calls.{by_view}
 use Rattle.seize_views.proofs.Views.Notes.{looks_are_noted, meetings_are_noted}
 use Rattle.seize_views.proofs.Views.Handing.{borne_are_handed_on}
 use Rattle.seize_views.proofs.Views.Roots.{own_are_linked, own_are_exchanged}
+use Rattle.seize_words.proofs.General.{same_some}
 
 module _ {T : Type 0} where
   -- which view it has

@@ -24,9 +24,7 @@ use Rattle.seize_views.specs.declared.view.Becomes.{Becomes}
 use Rattle.seize_views.specs.declared.view.Why.TheVariants.{Retiring}
 use Rattle.seize_callers.proofs.Drives.{Can, Has, shown, may_step, has_stepped}
 use Rattle.seize_callers.proofs.Turns.{settling_row}
-
-over_is : (p : Settling) → is_over p ≡ true → p ≡ at.Over
-over_is p e = grind arith
+use Rattle.seize_rule.proofs.Rows.Leave.{over_is}
 
 not_over : (p : Settling) → is_over p ≡ false → p ≡ at.Over → ⊥
 not_over p e is = let over = ap is_over is in cc (e, over)

@@ -10,5 +10,6 @@ pub use Rattle.seize_rule.proofs.Points as SeizeRulePoints
 pub use Rattle.seize_rule.proofs.Rows as SeizeRuleRows
 pub use Rattle.seize_rule.proofs.Words as SeizeRuleWords
 pub use Rattle.seize_rule.proofs.World as SeizeRuleWorld
+pub use Rattle.seize_words.proofs.General
 pub use Rattle.seize_words.proofs.OneMemory.OneOwner as SeizeWordsOneOwner
 pub use Rattle.seize_words.proofs.OneMemory.Plans as SeizeWordsPlans

@@ -5,7 +5,7 @@ pub mod Counts
 mod Emptied
 mod Ended
 pub mod Flushes
-mod Handed
+pub mod Handed
 mod Held
 pub mod Kept
 pub mod Laws

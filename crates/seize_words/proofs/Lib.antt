@@ -1,1 +1,2 @@
+pub mod General
 pub mod OneMemory

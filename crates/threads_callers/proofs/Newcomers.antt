@@ -1,6 +1,6 @@
 -- One that has nothing under way may come to know the map that another one knows, who stays as it is.
-use Rattle.std.specs.Prelude.{Some, slice_get, slice_set}
-use Rattle.std.proofs.Common.{◌≡◌, ℕ, zero, suc, List, [], ◌∷◌, Bool, refl, sym, subst, ap}
+use Rattle.std.specs.Prelude.{Some, slice_set}
+use Rattle.std.proofs.Common.{◌≡◌, ℕ, List, [], Bool, refl, sym, subst, ap}
 use Rattle.threads_rule.proofs.Views.Laws.{maps_are_handed_on}
 use Rattle.threads_rule.specs.Views.Begun.{shown_map}
 use Rattle.seize_blocks.specs.Given.SeizeSeatsState.{Learns}
@@ -10,12 +10,7 @@ use Rattle.threads_rule.specs.declared.view.Map.{Map}
 use Rattle.threads_rule.specs.declared.view.View.{View}
 use Rattle.threads_rule.specs.declared.view.SeatWork.TheVariants.{Nothing}
 use Rattle.threads_callers.specs.Standing.{LearnsMap}
-
--- what is at a place, put there once more, changes nothing
-as_before : {A : Type 0} (xs : List A) (i : ℕ) (x : A) → slice_get xs i ≡ Some x → slice_set xs i x ≡ xs
-as_before [] i x e = refl
-as_before (y ∷ ys) zero x e = let same : y ≡ x = cc e in ap (λ z. z ∷ ys) (sym same)
-as_before (y ∷ ys) (suc i) x e = ap (λ l. y ∷ l) (as_before ys i x e)
+use Rattle.seize_words.proofs.General.{set_same as as_before}
 
 module _ {K V S : Type 0} (same : K → K → Bool) (hash : S → K → ℕ) (fixed : Fixed) (i : ℕ) (v : View K V S) (j : ℕ) (u : View K V S) where
   pub may_learn : (map : Map S) → u.map ≡ Some map → v.work ≡ Nothing → Learns (Holds same hash fixed) KeepsFor i v j u (LearnsMap v u)

@@ -1,6 +1,6 @@
 -- A seat leans on one that is within its section, looks a key up there, and comes back: that it may, and what that has come to.
-use Rattle.std.specs.Prelude.{List, Option, Some, None, IsSome, IfSome, IfNone, ◌∷◌}
-use Rattle.std.proofs.Common.{◌≡◌, ℕ, Bool, refl, sym, subst, ap, ◌∙◌}
+use Rattle.std.specs.Prelude.{List, Option, Some, None, IfSome, IfNone, ◌∷◌}
+use Rattle.std.proofs.Common.{◌≡◌, ℕ, Bool, sym, subst, ap, ◌∙◌}
 use Rattle.threads_rule.specs.Views.Begun.{machine_for, shown_map}
 use Rattle.threads_rule.specs.Given.ActsActs.{Wanted, Get}
 use Rattle.papaya_raw.specs.declared.machines.progress.Progress.{Progress}
@@ -19,11 +19,7 @@ use Rattle.threads_rule.specs.declared.view.View.{View}
 use Rattle.threads_rule.specs.Errands.Looking.{HasFound, HasRun, MayLook, Shows, StaysThere, found_of}
 use Rattle.threads_callers.specs.Passing.{BeginsUnder, ComesBack, HasFoundUnder, HasRunUnder, IsBack, IsLentBy}
 use Rattle.threads_callers.proofs.Rows.{own_inside, rests_so}
-
--- what is there is something
-pub what : {A : Type 0} (o : Option A) → IsSome o → (x : A) × (o ≡ Some x)
-what None some = absurd (cc some)
-what (Some x) some = (x, refl)
+use Rattle.seize_words.proofs.General.{some_there as what}
 
 module _ {K V S : Type 0} (same : K → K → Bool) (hash : S → K → ℕ) (fixed : Fixed) where
   -- a seat that has nothing under way may lean on one that may look a key up within its own section

@@ -1,7 +1,6 @@
 -- A session may store a pair, store one where its key is missing, and remove one: calls on one key that ask nothing.
 use Rattle.std.specs.Prelude.{◌<◌, ◌^◌, Option, Result, Ok, Some, None}
-use Rattle.std.proofs.Common.{◌≡◌, ℕ, Bool, true, false, inr, refl, sym, subst, ◌∙◌}
-use Rattle.seize_views.proofs.Given.SeizeActsAnswers.{same_some}
+use Rattle.std.proofs.Common.{◌≡◌, ℕ, Bool, true, inr, refl, sym, subst, ◌∙◌}
 use Rattle.seize_words.specs.declared.fault.Fault.{Fault}
 use Rattle.map_tables.specs.Chunks.{is_incremental}
 use Rattle.map_tables.specs.declared.node.Node.{Node}
@@ -21,16 +20,14 @@ use Rattle.threads_rule.specs.declared.view.View.{View}
 use Rattle.threads_rule.specs.declared.view.SeatWork.TheVariants.{Nothing}
 use Rattle.threads_rule.specs.Errands.Calling.{HasCalled, IsBack, IsToStore, MachineStores, MayCall, is_put, outcome_of, pair_wanted, wanted_of}
 use Rattle.threads_rule.specs.Errands.Looking.{HasRun}
-use Rattle.threads_rule.specs.CallKinds.Kinds.{Kind, Stage}
+use Rattle.threads_rule.specs.CallKinds.Kinds.{Kind}
 use Rattle.threads_calls.specs.Answers.{CameBack, IsOutOf, has_stored}
 use Rattle.threads_calls.specs.declared.session.keys.Attempt.{Attempt}
 use Rattle.threads_calls.specs.declared.session.keys.Attempt.TheVariants.{Stored, Present}
 use Rattle.threads_callers.specs.Standing.{known_by}
 use Rattle.threads_calls.proofs.Sessions.{may_do}
-
--- a call that asks nothing has no value left that it was told
-abbrev quiet : Stage
-quiet = record { told = true; gap = false }
+use Rattle.seize_words.proofs.General.{same_some}
+use Rattle.threads_calls.proofs.Asks.{testing as quiet}
 
 abbrev stores : Kind
 stores = record { present = there.Puts; absent = missing.Puts; takes = takes.Nothing }

@@ -3,7 +3,6 @@ use Rattle.std.specs.Prelude.{zero, suc, Option, Some, None, IsSome, Result, Ok,
 use Rattle.std.specs.Fn.{Shared, FnReturns}
 use denote.Ref.{Bor}
 use Rattle.std.proofs.Common.{◌≡◌, ◌⊎◌, ℕ, Bool, true, false, List, inl, inr, refl, sym, subst, ap, ◌∙◌}
-use Rattle.seize_views.proofs.Given.SeizeActsAnswers.{same_some}
 use Rattle.seize_words.specs.OneMemory.Word.{block_in}
 use Rattle.seize_words.specs.declared.fault.Fault.{Fault}
 use Rattle.map_tables.specs.declared.node.Node.{Node}
@@ -34,6 +33,7 @@ use Rattle.threads_errands.specs.declared.within.asking.Pause.{Pause}
 use Rattle.threads_errands.specs.declared.within.asking.Pause.TheVariants as pause
 use Rattle.threads_rule.proofs.Errands.Beginnings.{stays_begun, stays_on}
 use Rattle.threads_rule.proofs.Errands.Runs.{has_run, told_last}
+use Rattle.seize_words.proofs.General.{same_some}
 
 module _ {K V S : Type 0} (k : Kind) (s : Stage) (hasher : S) (machine : Machine K V K) where
   -- a step of a call on one key tells what such a call may tell,

@@ -12,7 +12,6 @@ use Rattle.run_shows.specs.Given.SeizeDeclared.rows.reclaim_all.Reclaiming.{Recl
 use Rattle.run_shows.specs.Given.SeizeDeclared.rows.reclaim_all.Reclaiming.TheVariants as at
 use Rattle.run_shows.specs.Given.SeizeDeclared.rows.settle.Settled.{Settled}
 use Rattle.seize_acts.specs.Acts.Answers.{Grant, stepped}
-use Rattle.seize_acts.proofs.Acts.Answers.{same_some}
 use Rattle.seize_acts.proofs.Given.SeizeRuleRows.Others.{begins_others, steps_others}
 use Rattle.run_shows.specs.Given.TablesNodes.{deferred_word, was_left}
 use Rattle.run_shows.specs.Given.TablesDeclared.node.Node.{Node}
@@ -27,6 +26,7 @@ use Rattle.many_acts.specs.Acts.Lists.{Course, Reached, LedOn, nothing_done, on_
 use Rattle.many_acts.specs.Acts.Reclaiming.{ReclaimedOn}
 use Rattle.many_acts.proofs.Acts.Courses.{by_act, same_set_up}
 use Rattle.run_shows.specs.Scenes.Scene.{Scene, HasNoCall}
+use Rattle.run_shows.proofs.Given.General.{same_some}
 
 module _ {K V : Type 0} (size i : ℕ) where
   -- who reclaims all leaves the rows of others as they are

@@ -5,7 +5,7 @@ use Rattle.std.specs.Result.{is_err}
 use Rattle.std.proofs.Common.{refl, sym, ap, subst, ◌∙◌, inr}
 use Rattle.run_shows.specs.Given.SeizeWorld.{with_at}
 use Rattle.seize_acts.specs.Acts.Answers.{Grant, then_on}
-use Rattle.seize_acts.proofs.Acts.Answers.{some, same_some, was_stepped}
+use Rattle.seize_acts.proofs.Acts.Answers.{some, was_stepped}
 use Rattle.seize_acts.proofs.Acts.Begun.{rests_is}
 use Rattle.seize_acts.proofs.Given.SeizeRuleRows.Leaving.{with_same}
 use Rattle.run_shows.specs.Given.SeizeWordsMem.{Mem}
@@ -51,6 +51,7 @@ use Rattle.many_acts.proofs.Acts.Tests.{some_is, inside_is, its_class}
 use Rattle.run_shows.proofs.Scenes.NoCall.{none_is}
 use Rattle.run_shows.specs.Scenes.Replying.{scene_with, unless_stopped}
 use Rattle.run_shows.specs.Scenes.Scene.{Scene}
+use Rattle.run_shows.proofs.Given.General.{same_some}
 
 -- a stage that is ready is that one
 pub ready_is : (stage : Sweeping) → is_ready stage ≡ true → stage ≡ sweeping.Ready

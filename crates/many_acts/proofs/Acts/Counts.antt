@@ -11,7 +11,6 @@ use Rattle.run_shows.specs.Given.SeizeDeclared.advance.Advance.TheVariants as co
 use Rattle.run_shows.specs.Given.SeizeDeclared.rows.settle.Settled.{Settled}
 use Rattle.run_shows.specs.Given.SeizeDeclared.rows.settle.Settled.TheVariants as settled
 use Rattle.seize_acts.proofs.Acts.Answers.{was_stepped}
-use Rattle.seize_acts.proofs.Acts.Begun.{and_both}
 use Rattle.seize_acts.proofs.Given.SeizeRuleRows.Leaving.{steps_back}
 use Rattle.run_shows.specs.Given.TablesCounts.{count_in}
 use Rattle.run_shows.specs.Given.TablesDeclared.node.Node.{Node}
@@ -45,6 +44,7 @@ use Rattle.many_acts.specs.Acts.Lists.{Course, Reached, LedOn, LedTo, nothing_do
 use Rattle.many_acts.proofs.Acts.Sums.{Added, adds_on}
 use Rattle.run_shows.specs.Scenes.Replying.{unless_stopped}
 use Rattle.run_shows.specs.Scenes.Scene.{Scene}
+use Rattle.run_shows.proofs.Given.General.{both_true as and_both}
 
 module _ {X : Type 0} (calls : ℕ → ℕ → Option X) (i m j n : ℕ) (it : Option X) where
   -- the call of this caller on this map, where one of some caller on some map is another one

@@ -11,7 +11,6 @@ use Rattle.run_shows.specs.Given.SeizeDeclared.rows.settle.Settled.{Settled}
 use Rattle.run_shows.specs.Given.SeizeDeclared.rows.settle.Settled.TheVariants as settled
 use Rattle.seize_acts.specs.Acts.Acts.{row_steps}
 use Rattle.seize_acts.specs.Acts.Answers.{Grant, stepped}
-use Rattle.seize_acts.proofs.Acts.Answers.{same_some}
 use Rattle.seize_acts.proofs.Given.SeizeRuleRows.Others.{begins_others, steps_others}
 use Rattle.seize_acts.proofs.Given.SeizeEndsBatches.Rows.{begins_memory}
 use Rattle.run_shows.specs.Given.TablesNodes.{deferred_word}
@@ -48,11 +47,12 @@ use Rattle.many_acts.proofs.Acts.Calls.{asked_machine, ready_is}
 use Rattle.many_acts.proofs.Acts.Counts.{its_call, other_call}
 use Rattle.many_acts.proofs.Acts.Lists.{all_may_step}
 use Rattle.many_acts.proofs.Acts.RowSteps.{row_step_alike, row_begin_alike}
-use Rattle.run_shows.proofs.Scenes.NoCall.{none_is, none_of}
+use Rattle.run_shows.proofs.Scenes.NoCall.{none_is}
 use Rattle.run_shows.proofs.Scenes.Goes.{goes_as}
 use Rattle.run_shows.specs.Scenes.Replying.{unless_stopped}
 use Rattle.run_shows.specs.Scenes.Scene.{Scene, HasNoCall}
 use Rattle.run_shows.specs.Scenes.Stepping.{going_on}
+use Rattle.run_shows.proofs.Given.General.{same_some, none_mapped as none_of}
 
 -- what is there in both, if the same is told of both
 told_both : {A B : Type 0} (f : A → B) (o p : Option A) → option_map f o ≡ option_map f p → (a b : A) → o ≡ Some a → p ≡ Some b → f a ≡ f b

@@ -10,7 +10,6 @@ use Rattle.run_shows.specs.Given.SeizeDeclared.advance.Advance.{Advance}
 use Rattle.run_shows.specs.Given.SeizeDeclared.advance.Advance.TheVariants as progress
 use Rattle.run_shows.specs.Given.SeizeDeclared.rows.settle.Settled.{Settled}
 use Rattle.run_shows.specs.Given.SeizeDeclared.rows.settle.Settled.TheVariants as settled
-use Rattle.seize_acts.proofs.Acts.Answers.{same_some}
 use Rattle.run_shows.specs.Given.TablesDeclared.node.Node.{Node}
 use Rattle.run_shows.specs.Given.TablesDeclared.setting.Setting.{Setting}
 use Rattle.run_shows.specs.Given.ResizeDeclared.new_map.NewMap.{NewMap}
@@ -32,6 +31,7 @@ use Rattle.many_acts.specs.Acts.Doings.{IsLeft, ActsLeaveIt}
 use Rattle.many_acts.specs.Acts.Leads.{MayBe, AllStand, Led, MakingCame, EndingCame}
 use Rattle.run_shows.proofs.Scenes.NoCall.{none_is}
 use Rattle.run_shows.specs.Scenes.Scene.{Scene}
+use Rattle.run_shows.proofs.Given.General.{same_some}
 
 -- an end goes on, with what it has reclaimed by now, and what waits
 pub goes_on_by : {K V Q : Type 0} (same : K → K → Bool) (asks : Q → K → Bool) (batch_size roots : ℕ) (slot : ℕ → ℕ) (w : World (Node K V)) (maps : ℕ → Option (Standing K))

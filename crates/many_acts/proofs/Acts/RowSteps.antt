@@ -22,9 +22,10 @@ use Rattle.run_shows.specs.Given.SeizeDeclared.rows.settle.Settled.{Settled}
 use Rattle.run_shows.specs.Given.SeizeDeclared.rows.settle.Settled.TheVariants as settled
 use Rattle.seize_acts.specs.Acts.Acts.{row_steps}
 use Rattle.seize_acts.specs.Acts.Answers.{Grant, then_on, stepped}
-use Rattle.seize_acts.proofs.Acts.Answers.{some, same_some}
+use Rattle.seize_acts.proofs.Acts.Answers.{some}
 use Rattle.seize_acts.proofs.Given.SeizeRuleRows.Others.{with_here}
 use Rattle.owner_facts.specs.Given.CallersTogether.{IsOfSlots}
+use Rattle.run_shows.proofs.Given.General.{same_some}
 
 module _ {T : Type 0} (defers : T → Option ℕ) (i : ℕ) where
   abbrev RowAlike : World T → World T → Type 0

@@ -1,5 +1,5 @@
 -- A step of a counting adds what its next shard says.
-use Rattle.std.specs.Prelude.{◌≡◌, ℕ, suc, ◌+◌, ◌%◌, ◌^◌, ◌≤◌, false, List, ◌∷◌, ◌++◌, length, nat_lt, Option}
+use Rattle.std.specs.Prelude.{◌≡◌, ℕ, suc, ◌+◌, ◌%◌, ◌^◌, ◌≤◌, List, ◌∷◌, ◌++◌, length, nat_lt, Option}
 use Rattle.std.proofs.Common.{inl, inr, refl, sym, ap, subst, ◌∙◌, arith}
 use Rattle.std.proofs.lemmas.List.Sums.{sum_by-cons}
 use Rattle.std.specs.List.{sum}
@@ -17,6 +17,7 @@ use Rattle.run_shows.specs.Given.ResizeDeclared.sum.Sum.{Sum}
 use Rattle.run_shows.specs.Given.ResizeDeclared.sum.Summing.{Summing}
 use Rattle.run_shows.specs.Given.ResizeDeclared.sum.Summing.TheVariants as sums
 use Rattle.many_acts.specs.Acts.Counts.{HasRead, listed, next_shard}
+use Rattle.run_shows.proofs.Given.General.{less_not as past}
 
 module _ {K V : Type 0} (m : Mem (Node K V)) (c : Sum) (words : List ℕ) where
   -- by what it says: it goes on with one word more, or has answered their sum once it has read the last shard
@@ -30,9 +31,6 @@ module _ {K V : Type 0} (m : Mem (Node K V)) (c : Sum) (words : List ℕ) where
     where
       by : (a : ℕ) → (a % 2 ^ 64 + word) % 2 ^ 64 ≡ (word + a) % 2 ^ 64
       by a = omega arith
-
-  past : (a b : ℕ) → nat_lt a b ≡ false → b ≤ a
-  past a b e = grind (arith, e)
 
   goes : (word : ℕ) → Added (word ∷ words) (standing c (sums.Adds (length words + 1) ((sum words % 2 ^ 64 + word) % 2 ^ 64)), progress.Goes)
   goes word = (both (length words + 1) (suc (length words)) _ _ (omega arith) (one_more word), refl)

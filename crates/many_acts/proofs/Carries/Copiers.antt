@@ -31,7 +31,6 @@ use Rattle.run_shows.specs.Given.RuleInWorld.{IsMapIn, Moved, SameBlocks}
 use Rattle.run_shows.specs.Given.RuleMaps.{IsTable}
 use Rattle.run_shows.specs.Given.RuleWords.{Blocks}
 use Rattle.run_shows.proofs.Given.RuleWords.LinksSeen.{link_made, root_leads}
-use Rattle.run_shows.proofs.Given.RuleWords.WritesWords.{is_some_of}
 use Rattle.run_shows.proofs.Given.RuleWorld.RootSpared.{RootStays}
 use Rattle.owner_facts.specs.Given.PointsTold.{IsRowOfCopier}
 use Rattle.owner_facts.proofs.Given.PointsBlocking.Successors.{next_read, rest_between}
@@ -40,6 +39,7 @@ use Rattle.owner_facts.proofs.Given.LateSamples.Plans.{written}
 use Rattle.owner_facts.proofs.Alone.Handed.RootTurns.{IsPromoted, first_moves, first_kept}
 use Rattle.many_acts.specs.Carries.Theirs.{IsDueAt, IsNext, IsAhead, next_of_them}
 use Rattle.many_acts.proofs.Carries.Known.{HasCut, KnowsTables, CopierKnows}
+use Rattle.run_shows.proofs.Given.General.{some_is as is_some_of}
 
 module _ {K V : Type 0} (hash : K → ℕ) (p : Copier) (m m2 : Mem (Node K V)) (end : Copier × Yielding (Node K V) Table) where
   -- what is due next is due next still

@@ -1,6 +1,6 @@
 -- What users have after a step, and had before it, or had made: over rows, and over what a step of a call does.
 use Rattle.std.specs.Prelude.{Option, Some, None, Ok, Err, IsSome}
-use Rattle.std.proofs.Common.{◌≡◌, ℕ, ◌+◌, true, List, [], ◌∷◌, ◌⊎◌, inl, inr, refl, arith, ap, sym, subst, ◌∙◌}
+use Rattle.std.proofs.Common.{◌≡◌, ℕ, ◌+◌, List, [], ◌∷◌, ◌⊎◌, inl, inr, refl, ap, sym, subst, ◌∙◌}
 use Rattle.run_shows.specs.Given.SeizeWordsMem.{Mem, Took, value_at}
 use Rattle.run_shows.specs.Given.SeizeWordsOp.{Out, Make, Found, Stored, Exchanged, Made, Taken, Roomed}
 use Rattle.run_shows.specs.Given.SeizeDeclared.states.TheConstants.{LAST_SLOT}
@@ -8,9 +8,7 @@ use Rattle.run_shows.specs.Given.SeizeLaw.{Effect, Entered, Left, Made as MadeBl
 use Rattle.run_shows.specs.Given.SeizeSequence.{IsUsers}
 use Rattle.run_shows.specs.Given.SeizeWorld.{World, Hand, NoBlock, Making, InUse, Parting, Cutting, Handed, LeftTo, MayCut, Request, Register', Enter', Leave', LeaveOwned, Refresh, Unregister', Retire, Flush, Defer', Event, Begin, Step, Makes, Drops, Links, Parts, Unlinks, Rewrites, Operates, Ends, LeavesOver, Relinks, Clears, Chooses, Begins, Happens, Runs, Steps', handed_by, made_by, with_at}
 use Rattle.seize_acts.specs.Acts.Reclaimed.{IsStillHad}
-use Rattle.seize_acts.proofs.Given.SeizeMovesState.Ghost.{Life}
-use Rattle.seize_acts.proofs.Given.SeizeRulePoints.Aside.{HandFits, is_handed}
-use Rattle.seize_acts.proofs.Given.SeizeMemoryWords.Shows.{lives}
+use Rattle.seize_acts.proofs.Given.SeizeRulePoints.Aside.{HandFits}
 use Rattle.seize_acts.proofs.Given.SeizeMemoryWords.There.{value_there}
 use Rattle.seize_acts.proofs.Given.SeizeAloneHistories.NotTaken.{did}
 use Rattle.seize_acts.proofs.Given.SeizeAloneHistories.Reached.{Reached, happens_reached}
@@ -23,6 +21,7 @@ use Rattle.run_shows.specs.Given.RuleWords.{Blocks}
 use Rattle.run_shows.proofs.Given.RuleWorld.Hands.{at_cases}
 use Rattle.run_shows.proofs.Given.RuleWords.BlocksApart.{new_apart}
 use Rattle.owner_facts.specs.Given.CallersTogether.{IsOfSlots}
+use Rattle.run_shows.proofs.Given.FinishesBeside.Makings.Outs.{handed_lives}
 
 -- a row's effects leave with users what they have, or reclaim it
 still_by : (b : ℕ) (effects : List Effect) (hand : ℕ → Hand) → IsStillHad (handed_by effects hand b) → handed_by effects hand b ≡ hand b
@@ -39,9 +38,6 @@ still_by b (Retired c ∷ effects) hand is = still_by b effects hand is
 still_by b (Dropped c ∷ effects) hand is = still_by b effects hand is
 still_by b (Ended o ∷ effects) hand is = still_by b effects hand is
 still_by b (LeftOver c further ∷ effects) hand is = still_by b effects hand is
-
-handed_lives : (l : Life) → is_handed l ≡ true → lives l ≡ true
-handed_lives l is = grind (arith, is)
 
 module _ {T : Type 0} (defers : T → Option ℕ) (size : ℕ) where
   -- after a step of a row

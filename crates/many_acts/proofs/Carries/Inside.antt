@@ -35,12 +35,7 @@ use Rattle.owner_facts.specs.Given.CallersRooms.{CallForRoom, row_of_room}
 use Rattle.owner_facts.specs.Given.CallersRows.{row_of, row_of_copier}
 use Rattle.owner_facts.specs.Given.CallersTogether.{OnKey, ForRoom, OverAll, CallOnKey, next_of, next_for_room, next_over_all}
 use Rattle.many_acts.specs.Carries.Theirs.{copier_of_call, copier_of_room, copier_of_sweep}
-
--- it goes on, and has neither ended nor been refused
-abbrev pub IsOn : {T R : Type 0} → Yielding T R → Type 0
-IsOn (outcome.Done end) = ⊥
-IsOn (outcome.Refused fault) = ⊥
-IsOn _ = Unit {0}
+use Rattle.owner_facts.specs.Maps.EndingsReserves.{HasMore as IsOn}
 
 pub it_is : (p x : Copier) → Some p ≡ Some x → p ≡ x
 it_is p x is = cc is

@@ -11,7 +11,6 @@ use Rattle.run_shows.specs.Given.SeizeDeclared.rows.settle.Settled.{Settled}
 use Rattle.run_shows.specs.Given.SeizeDeclared.rows.settle.Settled.TheVariants as settled
 use Rattle.run_shows.specs.Given.SeizeDeclared.states.TheConstants.{HEAD}
 use Rattle.seize_acts.specs.Acts.Answers.{Grant}
-use Rattle.seize_acts.proofs.Acts.Answers.{same_some}
 use Rattle.run_shows.specs.Given.TablesNodes.{deferred_word}
 use Rattle.run_shows.specs.Given.TablesDeclared.node.Node.{Node}
 use Rattle.run_shows.specs.Reclaims.Slots.{IsQuiet}
@@ -27,6 +26,7 @@ use Rattle.many_acts.proofs.Carries.Guards.{none_begins}
 use Rattle.many_acts.proofs.Carries.Reclaimed.{reclaiming_comes_to_end}
 use Rattle.many_acts.proofs.Carries.Reclaiming.{reclaiming_keeps_theirs, nothing_else_waits}
 use Rattle.run_shows.specs.Scenes.Scene.{Scene, at_first}
+use Rattle.run_shows.proofs.Given.General.{same_some}
 
 module _ {K S : Type 0} (V : Type 0) (same : K → K → Bool) (hash : S → K → ℕ) (batch_size roots : ℕ) (slot : ℕ → ℕ) where
   -- at first users have nothing, and all roots are free

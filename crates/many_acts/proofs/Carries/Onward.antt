@@ -12,7 +12,7 @@ use Rattle.run_shows.specs.Given.SeizeDeclared.rows.settle.Settled.TheVariants a
 use Rattle.run_shows.specs.Given.SeizeDeclared.states.TheConstants.{HEAD}
 use Rattle.seize_acts.specs.Acts.Acts.{rests}
 use Rattle.seize_acts.specs.Acts.Answers.{Grant, then_on}
-use Rattle.seize_acts.proofs.Acts.Answers.{same_some, was_stepped}
+use Rattle.seize_acts.proofs.Acts.Answers.{was_stepped}
 use Rattle.run_shows.specs.Given.TablesNodes.{deferred_word, was_left}
 use Rattle.run_shows.specs.Given.TablesDeclared.node.Node.{Node}
 use Rattle.run_shows.specs.Reclaims.Ends.{ComesToEnd, Comes}
@@ -27,6 +27,7 @@ use Rattle.many_acts.specs.Carries.Lists.{AreTheirs, IsAtRest, AllRestThere, Onl
 use Rattle.many_acts.proofs.Carries.Lists.{idle_there, is_over, lists_keep_theirs, reclaiming_begins_there, theirs_on}
 use Rattle.many_acts.proofs.Carries.Reclaimed.{may_be_stepped, some_is_there}
 use Rattle.run_shows.specs.Scenes.Scene.{Scene}
+use Rattle.run_shows.proofs.Given.General.{same_some}
 
 -- who has not come to its end goes on
 still_on : {T : Type 0} (e : Settled T) (it : ℕ × ReclaimAll) → (e ≡ settled.Done → ⊥) → still e it ≡ Some it
@@ -35,7 +36,7 @@ still_on settled.Waits it not_done = refl
 still_on (settled.Gave value) it not_done = refl
 still_on settled.Done it not_done = absurd (not_done refl)
 
-has_ended : {T : Type 0} (e : Settled T) (it : ℕ × ReclaimAll) → still e it ≡ None → e ≡ settled.Done
+pub has_ended : {T : Type 0} (e : Settled T) (it : ℕ × ReclaimAll) → still e it ≡ None → e ≡ settled.Done
 has_ended settled.Goes it none = absurd (cc none)
 has_ended settled.Waits it none = absurd (cc none)
 has_ended (settled.Gave value) it none = absurd (cc none)

@@ -14,13 +14,13 @@ use Rattle.seize_acts.proofs.Acts.Answers.{was_stepped}
 use Rattle.seize_acts.proofs.Acts.Steps.{sees_end}
 use Rattle.run_shows.specs.Given.TablesNodes.{deferred_word, was_left}
 use Rattle.run_shows.specs.Given.TablesDeclared.node.Node.{Node}
-use Rattle.owner_facts.proofs.Given.FinishesBeside.Endings.Spares.{some_there}
 use Rattle.run_shows.specs.Reclaims.Ends.{ComesToEnd, Comes}
 use Rattle.run_shows.proofs.Reclaims.Ends.All.{reclaiming_ends}
 use Rattle.many_acts.specs.Acts.Reclaiming.{IsReclaimingAll, ReclaimedOn, reclaiming_steps}
 use Rattle.many_acts.proofs.Acts.Reclaiming.{reclaiming_is_by_acts}
 use Rattle.many_acts.specs.Carries.Lists.{ReclaimsTo, ReclaimingComesToEnd}
 use Rattle.run_shows.specs.Scenes.Scene.{Scene}
+use Rattle.run_shows.proofs.Given.General.{some_there}
 
 module _ {T : Type 0} (m : Mem T) where
   abbrev Answered : Op T → Type 0

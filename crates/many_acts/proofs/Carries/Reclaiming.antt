@@ -5,7 +5,7 @@ use Rattle.run_shows.specs.Given.SeizeWordsDeclared.at.At.{At}
 use Rattle.run_shows.specs.Given.SeizeWordsDeclared.at.At.TheVariants.{Root, Used}
 use Rattle.run_shows.specs.Given.SeizeWordsMem.{Mem, value_at}
 use Rattle.run_shows.specs.Given.SeizeWordsOp.{Store}
-use Rattle.run_shows.specs.Given.SeizeWorld.{World, Hand, NoBlock, Request, Register', Enter', Leave', LeaveOwned, Refresh, Unregister', Retire, Flush, Defer', Event, Begin, Step, Happens, Runs, with_at}
+use Rattle.run_shows.specs.Given.SeizeWorld.{World, Hand, NoBlock, Request, Event, Begin, Step, Happens, Runs, with_at}
 use Rattle.seize_acts.specs.Acts.Reclaimed.{IsStillHad}
 use Rattle.seize_acts.proofs.Given.SeizeEndsBatches.Rows.{begins_memory}
 use Rattle.seize_acts.proofs.Given.SeizeRuleWorld.Values.{own_op_value, taken_value}
@@ -13,7 +13,7 @@ use Rattle.seize_acts.proofs.Given.SeizeAloneHistories.Reached.{Reached, happens
 use Rattle.run_shows.specs.Given.TablesNodes.{deferred_word}
 use Rattle.run_shows.specs.Given.TablesDeclared.node.Node.{Node}
 use Rattle.run_shows.proofs.Given.RuleWorld.Hands.{at_cases}
-use Rattle.owner_facts.specs.Given.CallersTogether.{UnderWay, IsOfSlots}
+use Rattle.owner_facts.specs.Given.CallersTogether.{UnderWay}
 use Rattle.owner_facts.proofs.Given.CallersRows.Beside.{users_value}
 use Rattle.owner_facts.proofs.Given.CallersTogether.Came.{came_reached}
 use Rattle.owner_facts.specs.Given.FinishesEndings.{Finishing}
@@ -25,17 +25,7 @@ use Rattle.run_shows.proofs.Reclaims.Behind.Deferred.{waits_on_tables}
 use Rattle.many_acts.specs.Carries.Promises.{ReclaimingKeepsTheirs, NothingElseWaits}
 use Rattle.many_acts.proofs.Carries.Guards.{users_own, theirs_same, can_back, only_tables_carry}
 use Rattle.many_acts.proofs.Carries.Hands.{begun_same, still_row}
-
-of_slots : (request : Request) → IsForSlots request → IsOfSlots request
-of_slots (Register' enters) is = tt
-of_slots (Leave' s) is = tt
-of_slots (Flush s) is = tt
-of_slots (Unregister' s) is = tt
-of_slots (Enter' s) is = absurd is
-of_slots (LeaveOwned s) is = absurd is
-of_slots (Refresh s) is = absurd is
-of_slots (Retire s b) is = absurd is
-of_slots (Defer' s b t) is = absurd is
+use Rattle.run_shows.proofs.Reclaims.Behind.Kept.{of_slots}
 
 module _ {K V : Type 0} (size i b : ℕ) where
   -- what users have then they had, with its value

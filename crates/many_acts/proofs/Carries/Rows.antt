@@ -24,7 +24,7 @@ use Rattle.owner_facts.specs.Given.PointsTold.{IsRowOfCopier}
 use Rattle.owner_facts.specs.Given.CallersRows.{row_of_copier}
 use Rattle.many_acts.specs.Carries.Theirs.{IsDueAt, IsAhead, next_of_them}
 use Rattle.many_acts.proofs.Carries.FirstSteps.{IsRetiring, retires_first}
-use Rattle.many_acts.proofs.Carries.Inside.{IsOn}
+use Rattle.owner_facts.specs.Maps.EndingsReserves.{HasMore as IsOn}
 
 -- this row is the retirement of this block, which has begun
 abbrev pub IsItsRow : ℕ → Row → Type 0

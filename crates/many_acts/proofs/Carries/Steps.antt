@@ -24,9 +24,9 @@ use Rattle.owner_facts.specs.Given.FinishesMaps.{Standing, MapsTogether}
 use Rattle.many_acts.specs.Carries.Theirs.{IsAhead, next_of_them, copier_of, IsToHandOver, AllAreTheirs}
 use Rattle.many_acts.proofs.Carries.Calls.{Due, calls2, maps2, owes_after, went_theirs}
 use Rattle.many_acts.proofs.Carries.Copiers.{GoesOwing, IsItsNext, copier_left, copier_stays}
-use Rattle.many_acts.proofs.Carries.Inside.{IsOn}
 use Rattle.many_acts.proofs.Carries.Known.{CopierKnows}
 use Rattle.many_acts.proofs.Carries.Owed.{one_some}
+use Rattle.owner_facts.specs.Maps.EndingsReserves.{HasMore as IsOn}
 
 module _ {K Q : Type 0} (V : Type 0) (same : K → K → Bool) (asks : Q → K → Bool) (size : ℕ) (slot : ℕ → ℕ)
     (w : World (Node K V)) (maps : ℕ → Option (Standing K)) (calls : ℕ → ℕ → Option (UnderWay K V Q)) (enders : ℕ → Option (Finishing K V)) (all : MapsTogether V same asks size slot w maps calls)

@@ -40,9 +40,10 @@ use Rattle.many_acts.specs.Carries.Theirs.{IsDueAt, copier_of_call, copier_of_ro
 use Rattle.many_acts.proofs.Carries.FirstSteps.{row_retires, row_defers}
 use Rattle.many_acts.proofs.Carries.Guards.{users_own, theirs_by, can_back, same_on}
 use Rattle.many_acts.proofs.Carries.Hands.{still_row}
-use Rattle.many_acts.proofs.Carries.Inside.{IsOn, call_copies, call_row, call_row_is, room_copies, room_row, room_row_is, sweep_copies, sweep_row, sweep_row_is}
+use Rattle.many_acts.proofs.Carries.Inside.{call_copies, call_row, call_row_is, room_copies, room_row, room_row_is, sweep_copies, sweep_row, sweep_row_is}
 use Rattle.many_acts.proofs.Carries.Owed.{one_some, comes_on, OwesThen, owed_with}
 use Rattle.many_acts.proofs.Carries.Rows.{row_within, row_goes, ahead_next}
+use Rattle.owner_facts.specs.Maps.EndingsReserves.{HasMore as IsOn}
 
 module _ {K V : Type 0} (setting : Setting) (i : ℕ) (w w2 : World (Node K V)) (r : Reached deferred_word setting.batch_size w) where
   -- a block changes no hand but to the collector, and keeps its value

@@ -12,6 +12,7 @@ use Rattle.seize_acts.proofs.Given.SeizeRulePoints.Aside.{is_handed, HandFits, c
 use Rattle.seize_acts.proofs.Given.SeizeMemoryWords.Shows.{CarrierIs, lives}
 use Rattle.seize_acts.proofs.Given.SeizeMemoryWords.View.{list_in}
 use Rattle.seize_acts.proofs.Given.SeizeAloneHistories.Reached.{Reached}
+use Rattle.run_shows.proofs.Given.FinishesBeside.Makings.Outs.{handed_lives}
 
 -- what stands is linked
 standing_linked : (life : ℕ → Life) (l : Life) → place_of life l ≡ Standing → l ≡ IsLinked
@@ -82,18 +83,6 @@ IsGone (Cutting i) = Unit {0}
 IsGone Handed = Unit {0}
 IsGone (LeftTo i) = Unit {0}
 IsGone _ = ⊥
-
-handed_lives : (l : Life) → is_handed l ≡ true → lives l ≡ true
-handed_lives IsFree h = absurd (cc h)
-handed_lives (IsOwned i) h = refl
-handed_lives IsLinked h = refl
-handed_lives (IsUnlinked i) h = refl
-handed_lives (IsDeferring i s t) h = refl
-handed_lives (IsDeferred t) h = refl
-handed_lives (IsPending i) h = refl
-handed_lives (IsIn x) h = refl
-handed_lives (IsDoomed i) h = refl
-handed_lives (IsLeft i) h = refl
 
 gone_lives : (h : Hand) (l : Life) → IsGone h → HandFits h l → lives l ≡ true
 gone_lives NoBlock l gone fits = absurd gone

@@ -15,6 +15,7 @@ use Rattle.run_shows.specs.Given.RuleInWorld.{IsKnownBlock}
 use Rattle.owner_facts.specs.Given.CallersSights.{seen_by}
 use Rattle.owner_facts.specs.Given.FinishesMaps.{Standing}
 use Rattle.many_acts.specs.Links.Tied.{TableNames, RootNames, LinksLead, IsTied, IsClosed, unlinkings, UnlinksWhatNoneNames}
+use Rattle.run_shows.proofs.Given.General.{false_not_true as not_true}
 
 -- both tables are linked, and the second one is unlinked
 abbrev both_linked : List Effect
@@ -22,9 +23,6 @@ both_linked = Linked 2 7 ∷ Linked 1 7 ∷ []
 
 abbrev second_cut : List Effect
 second_cut = Unlinked 2 ∷ Linked 2 7 ∷ Linked 1 7 ∷ []
-
-not_true : false ≡ true → ⊥
-not_true e = cc e
 
 second_was_cut : unlinkings 2 both_linked < unlinkings 2 second_cut
 second_was_cut = omega arith

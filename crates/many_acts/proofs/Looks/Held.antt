@@ -49,6 +49,7 @@ use Rattle.owner_facts.proofs.Given.CallersTogether.Few.{claim_few}
 use Rattle.owner_facts.proofs.Given.CallersTogether.Fits.{map_in_slot}
 use Rattle.many_acts.specs.Looks.Looks.{IsHeldFor}
 use Rattle.many_acts.proofs.Looks.Restricted.{restricted, value_kept, word_kept}
+use Rattle.run_shows.proofs.Given.CallersTogether.Any.{either as then_of}
 
 -- whether this holder has the block
 abbrev pub has_it : ℕ → Hand → Bool
@@ -84,10 +85,6 @@ either false y e = inr e
 
 first_of : (x y : Bool) → x ≡ true → cond x true y ≡ true
 first_of x y e = ap (λ (b : Bool). cond b true y) e
-
-then_of : (x y : Bool) → y ≡ true → cond x true y ≡ true
-then_of true y e = refl
-then_of false y e = e
 
 module _ {K V Q : Type 0} (same : K → K → Bool) (hash : K → ℕ) (asks : Q → K → Bool) (setting : Setting) (slot : ℕ → ℕ) (lawful : AreLawful same hash) (initial : IsPowerOfTwo setting.initial)
     (w : World (Node K V)) (c : Chart K) (blocks : Blocks) (sights : ℕ → Sight) (calls : ℕ → Option (UnderWay K V Q)) (s : Together V same hash asks setting slot w c blocks sights calls)

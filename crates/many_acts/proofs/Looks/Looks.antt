@@ -38,10 +38,7 @@ use Rattle.many_acts.specs.Looks.Looks.{IsAtRow, IsHeldFor, StepsLookAtWhatIsHel
 use Rattle.many_acts.proofs.Looks.Held.{keep, held_for, may_key, may_room, may_sweep, keep_counter, counter_for, may_count}
 use Rattle.many_acts.proofs.Looks.Restricted.{restricted, looks_kept}
 use Rattle.many_acts.proofs.Looks.There.{blocks_there}
-
--- a call is at a row, or at none
-abbrev Decided : Type 0 → Type 0
-Decided X = X ⊎ (X → ⊥)
+use Rattle.run_shows.proofs.Given.FinishesAmong.Machines.{Either as Decided}
 
 copier_decided : (x : Copying) → Decided (IsRowOfCopier x)
 copier_decided (copies.Retires settle rest) = inl tt

@@ -10,17 +10,12 @@ use Rattle.run_shows.specs.Given.SeizeWordsOp.{Op, Out, Load, Store, Swap, Add, 
 use Rattle.run_shows.specs.Given.SeizeWordsPlan.{Plan, Then, Turn, Do, Now, Seeing, Sure, May, MaySee}
 use Rattle.run_shows.proofs.Given.SeizeWordsOneOwner.AfterWrites.{block_of-with_block, block_of-made, value_at-with_word, value_at-with_value}
 use Rattle.many_acts.specs.Looks.Blocks.{IsWordOf, IsDoneTo, Sees, LooksAt, MayMake}
+use Rattle.run_shows.proofs.Given.General.{same_some as same, some_is as is_there}
 
 -- what is there is some
 there : {X : Type 0} (o : Option X) → IsSome o → (x : X) × (o ≡ Some x)
 there None some = absurd (cc some)
 there (Some x) some = (x, refl)
-
-is_there : {X : Type 0} (o : Option X) (x : X) → o ≡ Some x → IsSome o
-is_there {X} o x is = subst (λ (y : Option X). IsSome y) (sym is) refl
-
-same : {X : Type 0} (x y : X) → Some x ≡ Some y → x ≡ y
-same x y e = cc e
 
 module _ {T : Type 0} (keep : ℕ → Bool) where
   -- the blocks from this number on, without those that are not kept

@@ -13,7 +13,7 @@ use Rattle.map_facts_late.specs.Given.RuleWords.{Blocks}
 use Rattle.map_facts_late.specs.Given.PointsSteps.{told_first}
 use Rattle.many_calls.specs.Asked.{told_before, IsAsTold}
 
-one_value : {V : Type 0} (v v2 : V) → tells.Value v ≡ tells.Value v2 → v ≡ v2
+pub one_value : {V : Type 0} (v v2 : V) → tells.Value v ≡ tells.Value v2 → v ≡ v2
 one_value v v2 e = cc e
 
 module _ {K V : Type 0} (hash : K → ℕ) (m : Mem (Node K V)) (c : Chart K) (blocks : Blocks) (its : Option K) (kind : Takes) (asks : kind ≢ takes.Nothing) where

@@ -30,7 +30,6 @@ use Rattle.map_facts_late.specs.Given.RawDeclared.machines.call.Calling.{Calling
 use Rattle.map_facts_late.specs.Given.RawDeclared.machines.call.Calling.TheVariants as at
 use Rattle.map_facts_late.specs.Given.RuleChart.{Chart}
 use Rattle.map_facts_late.specs.Given.RuleWords.{Blocks, Shows}
-use Rattle.map_facts_late.proofs.Given.RuleWords.WritesWords.{is_some_of}
 use Rattle.map_facts_late.specs.Given.PointsFactsCalls.{Change, Unchanged, RepliesFit, Holding, ByReply, holding, IsOwnPair, IsVacant, HasKey, HasOwn, HasIts, IsToFill}
 use Rattle.map_facts_late.proofs.Given.PointsCalls.Probes.{own_block, own_value}
 use Rattle.map_facts_late.proofs.Given.PointsValues.Left.{made_here}
@@ -38,6 +37,7 @@ use Rattle.many_calls.specs.Asked.{Asked, ChangesTold, IsWordOf, IsToRemove, IsA
 use Rattle.many_calls.proofs.Asked.Stays.{Stays, ToldTo, word_on}
 use Rattle.many_calls.proofs.Asked.By.{IsNamed}
 use Rattle.many_calls.proofs.Asked.Backs.{RecallsSame, backed, filled_told}
+use Rattle.seize_model.proofs.Given.General.{some_is as is_some_of}
 
 -- it asks about no pair
 abbrev pub AsksNone : Calling → Type 0

@@ -29,13 +29,11 @@ use Rattle.map_facts_late.specs.Given.RuleWords.{Blocks, Shows}
 use Rattle.map_facts_late.specs.Given.PointsFactsCalls.{Change, Unchanged, RepliesFit}
 use Rattle.many_calls.specs.Asked.{Asked, last_told, IsToLeave, ChangesTold, IsWordOf, IsAsTold, EndsTold, KeepsTold}
 use Rattle.many_calls.proofs.Asked.By.{block_of_word}
+use Rattle.many_calls.proofs.Asked.Begins.{one_value}
 
 -- the last reply to the last question
 last_is : {V : Type 0} (n : ℕ) (told : MachineReply V) (asked : List (Asked V)) → last_told (Some n) (record { about = Some n; told = told } ∷ asked) ≡ Some told
 last_is n told asked = ap (λ (b : Bool). if b then Some told else last_told (Some n) asked) (eq-eqb n n refl)
-
-one_value : {V : Type 0} (v v2 : V) → tells.Value v ≡ tells.Value v2 → v ≡ v2
-one_value v v2 e = cc e
 
 -- the questions and replies, with this one, if it was taken
 abbrev pub and_asked : {V : Type 0} → List (Asked V) → Option ℕ → MachineReply V → Result Unit (MachineReply V) → List (Asked V)

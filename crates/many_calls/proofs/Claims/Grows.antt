@@ -29,10 +29,10 @@ use Rattle.map_facts_late.specs.Given.RuleInWorld.{IsMapIn}
 use Rattle.map_facts_late.specs.Given.RuleWords.{Blocks}
 use Rattle.map_facts_late.specs.Given.RuleMaps.{IsTable}
 use Rattle.map_facts_late.proofs.Given.RuleWords.TablesSeen.{word_stands, turn_is}
-use Rattle.map_facts_late.proofs.Given.RuleWords.WritesWords.{is_some_of}
 use Rattle.map_facts_late.proofs.Given.RuleSpared.{PlanSpares}
 use Rattle.many_calls.proofs.Claims.Knows.{CopierKnows}
 use Rattle.many_calls.proofs.Claims.Writes.{claim_word, copier_spares}
+use Rattle.seize_model.proofs.Given.General.{some_is as is_some_of}
 
 -- a chunk, where pairs move in blocking mode
 chunk_small : (mode : ResizeMode) (len : ℕ) → is_incremental mode ≡ false → chunk_of mode len ≤ 4096

@@ -1,6 +1,6 @@
 -- A step of a row leaves a caller within its section.
 use Rattle.std.proofs.Common.{ℕ, sym, subst}
-use Rattle.seize_model.specs.Given.SeizeWorld.{World, Use, Vacant, Outside, Inside, Changing, IsTaken, IsInside, Steps'}
+use Rattle.seize_model.specs.Given.SeizeWorld.{World, Steps'}
 use Rattle.seize_model.proofs.Alone.Histories.NotTaken.{still_held}
 use Rattle.seize_model.proofs.Alone.Histories.Reached.{Reached}
 use Rattle.seize_model.proofs.Alone.Histories.Uses.{inside_kept}
@@ -11,6 +11,7 @@ use Rattle.map_facts_late.specs.Given.RuleChart.{Chart}
 use Rattle.map_facts_late.specs.Given.RuleWords.{Blocks}
 use Rattle.many_calls.specs.Kept.{IsMaking, IsWithin}
 use Rattle.many_calls.proofs.Rows.Beside.{users_hand, making_own}
+use Rattle.seize_model.proofs.Given.SeizeRuleWorld.Begins.{inside_taken}
 
 module _ {K V : Type 0} (setting : Setting) (w : World (Node K V)) (c : Chart K) (blocks : Blocks) where
   -- a step of a row leaves the call within its section
@@ -22,9 +23,3 @@ module _ {K V : Type 0} (setting : Setting) (w : World (Node K V)) (c : Chart K)
     pairs = λ n was known. still_held deferred_word setting.batch_size w r i w2 step setting.slot (blocks.pair n) within.inside (within.pairs n was known);
     counter = subst IsMaking (sym (users_hand setting.batch_size w r i w2 step setting.counter (making_own (w.hand setting.counter) within.counter))) within.counter;
   }
-
-pub inside_taken : (u : Use) → IsInside u → IsTaken u
-inside_taken Vacant h = h
-inside_taken (Outside k) h = tt
-inside_taken (Inside k) h = tt
-inside_taken Changing h = h

@@ -6,7 +6,7 @@ pub any_below : ℕ → (ℕ → Bool) → Bool
 any_below zero f = false
 any_below (suc n) f = cond (f n) true (any_below n f)
 
-either : (b c : Bool) → c ≡ true → cond b true c ≡ true
+pub either : (b c : Bool) → c ≡ true → cond b true c ≡ true
 either true c h = refl
 either false c h = h
 

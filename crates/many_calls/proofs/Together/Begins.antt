@@ -2,11 +2,7 @@
 use Rattle.many_calls.specs.Asked.{last_told, told_before}
 use Rattle.many_calls.specs.Kind.{gets, removes, inserts, tries_to_insert, computes, updates, updates_or_inserts, tries_to_insert_with, removes_if}
 use Rattle.many_calls.specs.Pairs.{Given, Begun, IsTold, RemovesNone, KeepsGiven}
-use Rattle.map_facts_late.specs.Kinds.{ToldFits}
-use Rattle.map_facts_late.specs.Given.RawReplies.{untold}
 use Rattle.map_facts_late.specs.Given.RawDeclared.machines.asking.MachineReply.TheVariants as reply
-use Rattle.map_facts_late.specs.Given.RawDeclared.machines.asking.Takes.{Takes}
-use Rattle.map_facts_late.specs.Given.RawDeclared.machines.asking.Told.{Told}
 use Rattle.map_facts_late.specs.Given.RawDeclared.machines.asking.Told.TheVariants as tells
 use Rattle.many_calls.proofs.Asked.Begins.{begun_told}
 use Rattle.many_calls.proofs.Once.Stays.{begun_once}
@@ -32,11 +28,7 @@ use Rattle.many_calls.specs.Sights.{Sight, seen_by}
 use Rattle.many_calls.proofs.Together.Few.{few_begun}
 use Rattle.many_calls.proofs.Together.Fits.{fits_some, fits_of, stands_by}
 use Rattle.map_facts_late.proofs.Given.PointsCalls.StepsTold.{calls_begin, asking_calls_begin}
-
--- It remembers no reply, and has no block of its own: it is of its kind, where its first point is. It was told nothing of a pair, and not to remove what is
--- not there.
-untold_fits : {K V : Type 0} (kind : Takes) (key : Option K) (absent : Told V) → ToldFits kind (untold kind key absent)
-untold_fits kind key absent = record { takes_is = refl; removes = λ e. cc e; choices = λ e. refl }
+use Rattle.map_facts_late.proofs.KindsKept.Calls.Kept.{untold_fits}
 
 within_before : {V : Type 0} (absent : Option V) (n : ℕ) → last_told (Some n) (told_before absent) ≡ None
 within_before None n = refl

@@ -22,13 +22,13 @@ use Rattle.many_calls.specs.Sights.{Sight, seen_by}
 use Rattle.many_calls.specs.Together.{ClaimsInto, Ground, UnderWay, HasCall, PutsWithin, in_slot, HandsOver, Together, Stands, IsReclaimed}
 use Rattle.many_calls.proofs.Rows.Retired.{retire_in}
 use Rattle.many_calls.proofs.Rows.Retires.{counter_no_table}
-use Rattle.many_calls.proofs.Rows.Within.{inside_taken}
 use Rattle.many_calls.proofs.Together.Came.{came_next}
 use Rattle.many_calls.proofs.Together.Handed as handed
 use Rattle.many_calls.proofs.Together.Few.{few_with}
 use Rattle.many_calls.proofs.Together.Fits.{unless_so, Fits, fits_some, stands_by}
 use Rattle.many_calls.proofs.Together.RetiresBlocking.{handed_over}
 use Rattle.many_calls.proofs.Together.Slots.{alike_more, alike_at}
+use Rattle.seize_model.proofs.Given.SeizeRuleWorld.Begins.{inside_taken}
 
 module _ {K V Q : Type 0} (same : K → K → Bool) (hash : K → ℕ) (asks : Q → K → Bool) (setting : Setting) (slot : ℕ → ℕ) (lawful : AreLawful same hash)
     (w : World (Node K V)) (c : Chart K) (blocks : Blocks) (sights : ℕ → Sight) (calls : ℕ → Option (UnderWay K V Q)) (s : Together V same hash asks setting slot w c blocks sights calls)

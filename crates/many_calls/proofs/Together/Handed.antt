@@ -26,13 +26,13 @@ use Rattle.many_calls.proofs.Sights.Seen.{map_seen}
 use Rattle.many_calls.proofs.Together.FactsOn.{idle_on}
 use Rattle.many_calls.proofs.Together.Fits.{unless_on, map_in_slot, Fits, stands_of, stands_on}
 
-more_inside : (u : Use) → IsInside u → IsInside (one_more u)
+pub more_inside : (u : Use) → IsInside u → IsInside (one_more u)
 more_inside Vacant h = h
 more_inside (Outside k) h = h
 more_inside (Inside k) h = tt
 more_inside Changing h = h
 
-more_back : (u : Use) → IsInside (one_more u) → IsInside u
+pub more_back : (u : Use) → IsInside (one_more u) → IsInside u
 more_back Vacant h = h
 more_back (Outside k) h = h
 more_back (Inside k) h = tt

@@ -28,7 +28,7 @@ use Rattle.many_calls.proofs.Rows.Forgotten.{Forgets}
 use Rattle.many_calls.proofs.Rows.Keep.{used_kept}
 use Rattle.many_calls.proofs.Sights.Seen.{map_seen}
 use Rattle.many_calls.proofs.Sights.Sources.{aborted_from}
-use Rattle.many_calls.proofs.Together.Any.{any_below, any_in, any_out}
+use Rattle.many_calls.proofs.Together.Any.{any_below, any_in, any_out, either as reach_seen}
 use Rattle.many_calls.proofs.Together.Came.{came_reached}
 use Rattle.many_calls.proofs.Together.Inside.{is_inside, inside_is, is_inside_so, inside_below}
 use Rattle.many_calls.proofs.Together.Opened.{named_reached, known_reached}
@@ -105,10 +105,6 @@ module _ {K V Q : Type 0} (same : K → K → Bool) (hash : K → ℕ) (asks : Q
   either : (z b : Bool) → b ≡ true → cond z b true ≡ true
   either true b h = h
   either false b h = refl
-
-  reach_seen : (z b : Bool) → b ≡ true → cond z true b ≡ true
-  reach_seen true b h = refl
-  reach_seen false b h = h
 
   module _ (back : (r : ℕ) → IsInside (uses2 r) → IsInside (w.uses r)) where
     reached : Reached deferred_word setting.batch_size w

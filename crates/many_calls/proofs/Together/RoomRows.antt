@@ -72,7 +72,7 @@ module _ {K V : Type 0} (same : K → K → Bool) (hash : K → ℕ) (setting : 
       (whole.retires_late same hash setting w c blocks map caller began p settle rest h.point)
 
 -- the row of a copying
-at_copying : (P : Reserving → Type 0) → ((p : Copier) → IsRowOfCopier p.stands → P (at.Copies p)) → (x : Reserving) → IsRowOfReserve x → P x
+pub at_copying : (P : Reserving → Type 0) → ((p : Copier) → IsRowOfCopier p.stands → P (at.Copies p)) → (x : Reserving) → IsRowOfReserve x → P x
 at_copying P by (at.Copies p) row = by p row
 at_copying P by at.Reads row = absurd row
 at_copying P by (at.Makes making) row = absurd row

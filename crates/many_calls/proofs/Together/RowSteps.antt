@@ -64,7 +64,7 @@ module _ {T : Type 0} (m m2 : Mem T) (c d : Defer) (fault : Fault) where
   pub never_refused : Steps Took value_at m (defer.defer_plan {T = T} c) m2 (d, progress.Refused fault) → ⊥
   never_refused s = refused_at c.stands s
 
-less_inside : (u : Use) → IsInside (one_less u) → IsInside u
+pub less_inside : (u : Use) → IsInside (one_less u) → IsInside u
 less_inside Vacant h = h
 less_inside (Outside k) h = h
 less_inside (Inside k) h = tt

@@ -21,7 +21,6 @@ use Rattle.many_maps.specs.Maps.{Standing}
 use Rattle.many_calls.specs.Together.{UnderWay, CameAbout, in_slot, Together}
 use Rattle.many_maps.proofs.Beside.Endings.Begins.{without_it, makings_stand_without}
 use Rattle.many_maps.proofs.Beside.Makings.Steps.{one_made, two_made}
-use Rattle.many_maps.proofs.Beside.Maps.All.{one_of}
 use Rattle.many_calls.proofs.Rows.Defers.{used_stands}
 use Rattle.many_calls.proofs.Together.Came.{came_reached, came_next, none_onto_pair}
 use Rattle.many_maps.specs.Endings.{Finishing, HasCounter, AllPairsOnce, FinishingFacts, finishing_of, EndingsTogether, NoEndingsBegin, EndingsBegin}
@@ -33,6 +32,7 @@ use Rattle.many_maps.proofs.Ends.OrdersOn.{before_none}
 use Rattle.many_maps.proofs.Ends.OrdersPairs.{each_once, none_copying}
 use Rattle.many_maps.proofs.Ends.Points.{began_in, end_begins}
 use Rattle.many_maps.proofs.Ends.SinceOn.{IsSame}
+use Rattle.many_calls.proofs.Given.General.{same_some as one_of}
 
 -- A map that stands with no call on it may end.
 module _ {K V Q : Type 0} (same : K → K → Bool) (asks : Q → K → Bool) (slot : ℕ → ℕ) (w : World (Node K V)) (s : Standing K) (calls : ℕ → Option (UnderWay K V Q))

@@ -71,7 +71,7 @@ use Rattle.many_maps.proofs.Among.Rows.{rows_stand_among}
 use Rattle.many_maps.proofs.Among.Sweeps.{sweeps_stand_among, sweep_rows_stand_among}
 
 -- a step is one of a row, or it is none
-abbrev Either : Type 0 → Type 0
+abbrev pub Either : Type 0 → Type 0
 Either X = X ⊎ (X → ⊥)
 
 of_copier : (x : Copying) → Either (IsRowOfCopier x)
@@ -132,7 +132,7 @@ module _ (K V Q : Type 0) where
   count_on sum (counted.Done count) = refl
   count_on sum (counted.Refused fault) = refl
 
-same_map : {K : Type 0} (it : Option (Standing K)) → IsSameMap it it
+pub same_map : {K : Type 0} (it : Option (Standing K)) → IsSameMap it it
 same_map None = refl
 same_map (Some s) = (s.blocks, s.sights, refl, part_same s.chart s.blocks)
 

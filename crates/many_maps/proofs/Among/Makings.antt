@@ -16,12 +16,12 @@ use Rattle.many_maps.proofs.Beside.Endings.Makings.{making_spares_end}
 use Rattle.many_maps.proofs.Beside.Makings.Promised.{makings_went}
 use Rattle.many_maps.proofs.Beside.Makings.Steps.{one_made, making_leads}
 use Rattle.many_maps.proofs.Beside.Makings.Went.{IsOwnRoot, IsOwnCounter, GoesTo, MakingWent}
-use Rattle.many_maps.proofs.Beside.Maps.All.{one_of}
 use Rattle.many_maps.proofs.Beside.Maps.Comes.{each_at}
 use Rattle.many_calls.proofs.Together.At.{at_other}
 use Rattle.many_maps.specs.Endings.{Finishing, HasCounter, EndingsTogether, MakingsBeginAmong, MakingToldAmong, MakingStepsAmong, MakingsStandAmong}
 use Rattle.many_maps.proofs.Among.Beside.{IsSparedEnd, endings_on}
 use Rattle.many_maps.proofs.Among.LeftAlone.{root_taken}
+use Rattle.many_calls.proofs.Given.General.{same_some as one_of}
 
 module _ {K Q : Type 0} (V : Type 0) (same : K → K → Bool) (asks : Q → K → Bool) (batch_size roots : ℕ) (slot : ℕ → ℕ)
     (w : World (Node K V)) (maps : ℕ → Option (Standing K)) (calls : ℕ → ℕ → Option (UnderWay K V Q)) (makers : ℕ → Option (Beginning K)) (enders : ℕ → Option (Finishing K V))

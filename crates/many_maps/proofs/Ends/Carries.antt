@@ -25,16 +25,16 @@ use Rattle.many_calls.specs.Given.RuleChart.{Chart}
 use Rattle.many_calls.specs.Given.RuleWords.{Blocks}
 use Rattle.many_calls.specs.Given.PointsSteps.{AreLawful}
 use Rattle.many_calls.proofs.Given.RuleWords.TablesSeen.{block_of_link}
-use Rattle.many_calls.proofs.Given.RuleWords.WritesWords.{is_some_of}
 use Rattle.many_maps.specs.Orders.{given_of, waits_of}
 use Rattle.many_maps.specs.FactsEnds.{LeavesTable, IsJoined, RootAt, HasBehind, IsTableYet, Since, BeganIn, IsAt, EndFacts, EndTold, EndWent, back_of, from_table, wait_before}
 use Rattle.many_maps.proofs.Ends.CountedBlocks.{later_apart}
 use Rattle.many_maps.proofs.Ends.Known.{back_once, table_value}
-use Rattle.many_maps.proofs.Ends.Worlds.{cut, over, over_left, hand_here}
+use Rattle.many_maps.proofs.Ends.Worlds.{cut, over, over_left}
 use Rattle.many_maps.proofs.Ends.Frames.{leaves_spare}
 use Rattle.many_maps.proofs.Ends.Since.{since_left}
 use Rattle.many_maps.proofs.Ends.OrdersOn.{counter_later, table_on, wait_more, before_owned, table_later}
-use Rattle.many_maps.proofs.Ends.Said.{same_some}
+use Rattle.many_calls.proofs.Given.General.{same_some, some_is as is_some_of}
+use Rattle.many_calls.proofs.Given.SeizeRuleRows.Others.{with_here as hand_here}
 
 -- with which word a list begins
 pub list_cases : {T : Type 0} (m : Mem T) (word : ℕ) (l : List ℕ) → ListFrom m word l

@@ -21,17 +21,17 @@ use Rattle.many_calls.specs.Given.RuleChart.{Chart}
 use Rattle.many_calls.specs.Given.RuleWords.{Blocks}
 use Rattle.many_calls.specs.Given.PointsSteps.{AreLawful}
 use Rattle.many_calls.proofs.Given.RuleWords.TablesSeen.{block_of_link}
-use Rattle.many_calls.proofs.Given.RuleWords.WritesWords.{is_some_of}
 use Rattle.many_maps.specs.FactsEnds.{Looks, JoinsPair, TakesLeft, RootAt, Since, BeganIn, IsAt, Gives, Joins, IsToJoin, EndFacts, EndTold, EndWent, back_of, from_table, wait_before}
 use Rattle.many_maps.proofs.Ends.CountedBlocks.{times-append, times_here, some_first, some_last, some_here, next_apart, one_more}
 use Rattle.many_maps.proofs.Ends.Known.{back_once, went_still, went_away}
 use Rattle.many_maps.proofs.Ends.Memory.{list_link, list_after, list_joined, list_kept, taken_value, taken_link}
-use Rattle.many_maps.proofs.Ends.Worlds.{away, hand_other}
+use Rattle.many_maps.proofs.Ends.Worlds.{away}
 use Rattle.many_maps.proofs.Ends.Frames.{joins_spare, left_spare}
 use Rattle.many_maps.proofs.Ends.Since.{since_by, left_handed, back_and_one, apart_by_hand}
 use Rattle.many_maps.proofs.Ends.OrdersOn.{before_owned}
-use Rattle.many_maps.proofs.Ends.Said.{same_some}
 use Rattle.many_maps.proofs.Ends.Carries.{list_cases}
+use Rattle.many_calls.proofs.Given.General.{same_some, some_is as is_some_of}
+use Rattle.many_calls.proofs.Together.At.{at_other as hand_other}
 
 module _ {K V : Type 0} (same : K → K → Bool) (hash : K → ℕ) (are : AreLawful same hash) (setting : Setting) (c : Chart K) (blocks : Blocks) (lists : ℕ → List ℕ) (owns : Bool) (caller : ℕ)
     (w0 : World (Node K V)) (may : BeganIn setting c blocks lists owns same hash w0) (e : EndMap) (setting_is : e.setting ≡ setting) (owns_is : e.owns ≡ owns) (t : ℕ)

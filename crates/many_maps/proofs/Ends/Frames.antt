@@ -12,7 +12,8 @@ use Rattle.many_calls.specs.Given.TablesDeclared.setting.Setting.{Setting}
 use Rattle.many_maps.specs.FactsEnds.{Looks, TakesPair, LeavesTable, JoinsPair, TakesLeft, TakesCounter, WritesRoot, Spares}
 use Rattle.many_maps.proofs.Ends.CountedBlocks.{times_here, some_of_first}
 use Rattle.many_maps.proofs.Ends.Memory.{taken_value, taken_word, taken_link, taken_gone, linked_value, linked_word, linked_other}
-use Rattle.many_maps.proofs.Ends.Worlds.{over, away, over_hand, over_place, over_behind, over_left, away_free, away_place, away_behind, away_held, hand_other}
+use Rattle.many_maps.proofs.Ends.Worlds.{over, away, over_hand, over_place, over_behind, over_left, away_free, away_place, away_behind, away_held}
+use Rattle.many_calls.proofs.Together.At.{at_other as hand_other}
 
 -- what is none of a list of one
 pub other_than : (x b : ℕ) → times x (b ∷ []) ≡ 0 → x ≢ b

@@ -16,14 +16,15 @@ use Rattle.many_calls.specs.Given.RawDeclared.machines.end_map.EndMap.{EndMap}
 use Rattle.many_calls.specs.Given.RuleChart.{Chart}
 use Rattle.many_calls.specs.Given.RuleWords.{Blocks, ShowsTable, next_word}
 use Rattle.many_calls.specs.Given.RuleMaps.{IsTable}
-use Rattle.many_calls.proofs.Given.RuleWords.WritesWords.{is_some_of}
 use Rattle.many_calls.specs.Given.PointsSteps.{AreLawful}
 use Rattle.many_maps.specs.FactsEnds.{IsFresh, Looks, TakesPair, TakesLeft, IsOverStill, IsUsedYet, Since, BeganIn, IsAt, EndTold, EndWent, back_of}
 use Rattle.many_maps.proofs.Ends.CountedBlocks.{some_here}
-use Rattle.many_maps.proofs.Ends.Worlds.{cut, over, away, over_left, hand_here}
+use Rattle.many_maps.proofs.Ends.Worlds.{cut, over, away, over_left}
 use Rattle.many_maps.proofs.Ends.Frames.{looks_spare, pair_spares, left_spare}
 use Rattle.many_maps.proofs.Ends.OrdersOn.{back_same}
 use Rattle.many_maps.proofs.Ends.OrdersOnce.{HasOrder, plain_order, are_with, all_once}
+use Rattle.many_calls.proofs.Given.General.{some_is as is_some_of}
+use Rattle.many_calls.proofs.Given.SeizeRuleRows.Others.{with_here as hand_here}
 
 module _ {K V : Type 0} (same : K → K → Bool) (hash : K → ℕ) (are : AreLawful same hash) (setting : Setting) (c : Chart K) (blocks : Blocks) (lists : ℕ → List ℕ) (owns : Bool) (caller : ℕ)
     (w0 : World (Node K V)) (may : BeganIn setting c blocks lists owns same hash w0) where

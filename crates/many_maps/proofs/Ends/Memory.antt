@@ -10,8 +10,8 @@ use Rattle.many_calls.specs.Given.SeizeDeclared.states.TheConstants.{NEXT}
 use Rattle.many_calls.specs.Given.SeizeFurther.{ListFrom}
 use Rattle.many_calls.specs.Given.SeizeWorld.{times}
 use Rattle.many_calls.proofs.Given.SeizeMemoryWords.Named.{block_there}
-use Rattle.many_calls.proofs.Given.RuleWords.WritesWords.{is_some_of}
 use Rattle.many_maps.proofs.Ends.CountedBlocks.{times_here, times_other, some_last, some_here, some_of_first}
+use Rattle.many_calls.proofs.Given.General.{some_is as is_some_of}
 
 module _ {T : Type 0} (m : Mem T) (b : ℕ) (some : IsSome (value_at m b)) where
   abbrev left : Mem T

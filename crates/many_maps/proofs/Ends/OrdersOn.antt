@@ -11,10 +11,7 @@ use Rattle.many_maps.specs.FactsEnds.{back_of, from_table, from_place, wait_befo
 use Rattle.many_calls.specs.Given.SeizeWorld.{times}
 use Rattle.many_maps.proofs.Ends.CountedBlocks.{some_last, some_first, some_here, some_of_two}
 use Rattle.std.proofs.lemmas.Bool.{cases_eq}
-
-map_two : {X Y : Type 0} (f : X → Y) (a b : List X) → map f (a ++ b) ≡ map f a ++ map f b
-map_two {Y = Y} f [] b = refl
-map_two {Y = Y} f (x ∷ a) b = ap (λ (l : List Y). f x ∷ l) (map_two f a b)
+use Rattle.many_calls.proofs.Given.General.{map_append as map_two}
 
 module _ {K : Type 0} (setting : Setting) (c : Chart K) (blocks : Blocks) (lists : ℕ → List ℕ) (owns : Bool) where
   less : (a b : ℕ) → a < b → b - a ≡ suc (b - suc a)

@@ -79,7 +79,7 @@ gives_pair incremental (Holds o phase borrowed) n some = by incremental (is_mark
     by true false e s = (phase, borrowed, ap (λ (x : ℕ). Holds x phase borrowed) (one s), λ _. still_of o phase borrowed e)
     by false m e s = (phase, borrowed, ap (λ (x : ℕ). Holds x phase borrowed) (one s), λ z. absurd (cc z))
 
-phases_apart : (n o : ℕ) (b d : Bool) → Holds n Still b ≡ Holds o Copying d → ⊥
+pub phases_apart : (n o : ℕ) (b d : Bool) → Holds n Still b ≡ Holds o Copying d → ⊥
 phases_apart n o b d e = cc e
 
 module _ {K : Type 0} (same : K → K → Bool) (hash : K → ℕ) (are : AreLawful same hash) (incremental : Bool) (c : Chart K) (rule : Rule same (spot_of hash) incremental c) where

@@ -30,7 +30,6 @@ use Rattle.many_calls.specs.Given.PointsSteps.{AreLawful}
 use Rattle.many_calls.specs.Given.RuleLinks.{LeadsTo}
 use Rattle.many_calls.proofs.Given.RuleWords.LinksSeen.{root_leads}
 use Rattle.many_calls.proofs.Given.RuleWords.TablesSeen.{place_stands, block_of_link}
-use Rattle.many_calls.proofs.Given.RuleWords.WritesWords.{is_some_of}
 use Rattle.many_calls.proofs.Given.RuleWords.PlacesShown.{byte_of-few}
 use Rattle.many_maps.specs.Orders.{pair_at, pairs_behind, pairs_from}
 use Rattle.many_maps.specs.FactsEnds.{Looks, TakesPair, RootAt, IsOverStill, IsUsedYet, Since, BeganIn, AtPairs, EndingFacts, EndFacts, EndTold, EndWent, back_of, from_table, from_place, table_of, wait_before}
@@ -42,7 +41,8 @@ use Rattle.many_maps.proofs.Ends.Since.{since_by, used_handed, back_and_one, apa
 use Rattle.many_maps.proofs.Ends.OrdersOn.{counter_later, pairs_start, pairs_none, place_on, places_over, behind_on, behind_over, before_none, table_later}
 use Rattle.many_maps.proofs.Ends.OrdersOnce.{plain_order, pair_there}
 use Rattle.many_maps.proofs.Ends.OrdersPairs.{stands_at, stands_current}
-use Rattle.many_maps.proofs.Ends.Said.{says, says_pair, same_some, no_next, some_next, below, past_it}
+use Rattle.many_maps.proofs.Ends.Said.{says, says_pair, no_next, some_next, below, past_it}
+use Rattle.many_calls.proofs.Given.General.{same_some, some_is as is_some_of}
 
 module _ {K V : Type 0} (same : K → K → Bool) (hash : K → ℕ) (are : AreLawful same hash) (setting : Setting) (c : Chart K) (blocks : Blocks) (lists : ℕ → List ℕ) (owns : Bool) (caller : ℕ)
     (w0 : World (Node K V)) (may : BeganIn setting c blocks lists owns same hash w0) (e : EndMap) (setting_is : e.setting ≡ setting) (owns_is : e.owns ≡ owns) (past : ℕ) where

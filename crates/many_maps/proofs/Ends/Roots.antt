@@ -20,12 +20,12 @@ use Rattle.many_calls.specs.Given.RawDeclared.machines.end_map.Ending.TheVariant
 use Rattle.many_calls.specs.Given.RuleChart.{Chart}
 use Rattle.many_calls.specs.Given.RuleWords.{Blocks, root_word}
 use Rattle.many_calls.specs.Given.PointsSteps.{AreLawful}
-use Rattle.many_calls.proofs.Given.RuleWords.WritesWords.{is_some_of}
 use Rattle.many_maps.specs.FactsEnds.{WritesRoot, Spares, RootAt, IsJoined, RootIs, Since, BeganIn, EndFacts, HasEnded, EndTold, EndWent, back_of, wait_before}
 use Rattle.many_maps.proofs.Ends.Frames.{root_spares, free_spares}
 use Rattle.many_maps.proofs.Ends.Since.{since_by}
 use Rattle.many_maps.proofs.Ends.Memory.{list_kept}
 use Rattle.many_maps.proofs.Ends.Carries.{list_some}
+use Rattle.many_calls.proofs.Given.General.{some_is as is_some_of}
 
 module _ {K V : Type 0} (same : K → K → Bool) (hash : K → ℕ) (are : AreLawful same hash) (setting : Setting) (c : Chart K) (blocks : Blocks) (lists : ℕ → List ℕ) (owns : Bool) (caller : ℕ)
     (w0 : World (Node K V)) (may : BeganIn setting c blocks lists owns same hash w0) (e : EndMap) (setting_is : e.setting ≡ setting) (owns_is : e.owns ≡ owns) (past : ℕ) (is_past : past ≡ c.past)

@@ -1,5 +1,5 @@
 -- What the words of a table say: the pair of a place, and the link to the next table.
-use Rattle.std.specs.Prelude.{◌-◌, Some, ◌==◌, ◌&&◌, not, nat_lt, if◌then◌else◌, ltb}
+use Rattle.std.specs.Prelude.{◌-◌, ◌==◌, ◌&&◌, not, nat_lt, if◌then◌else◌}
 use Rattle.std.proofs.Common.{◌≡◌, ℕ, suc, ◌+◌, ◌*◌, ◌/◌, ◌<◌, ◌≤◌, Bool, true, false, cond, [], ◌∷◌, ◌⊎◌, inl, inr, refl, arith, ap, ◌∙◌}
 use Rattle.many_calls.specs.Given.TablesMarks.{has_mark}
 use Rattle.many_calls.specs.Given.TablesDeclared.marks.TheConstants.{COPYING}
@@ -8,6 +8,7 @@ use Rattle.many_calls.specs.Given.RuleWords.{Blocks, next_word, word_of}
 use Rattle.many_calls.proofs.Given.RuleWords.PlaceWords.{empty_block, tombstone_block, pair_block}
 use Rattle.many_calls.proofs.Given.RuleWords.PlaceWordsMarks.{has_copying}
 use Rattle.many_maps.specs.Orders.{pair_at}
+use Rattle.many_calls.proofs.Given.General.{same_some, less_false as ltb_not, less_true as ltb_is}
 
 -- what a word says of the pair of a place
 module _ (block byte : ℕ → ℕ) (bits : Bool) where
@@ -41,15 +42,6 @@ module _ (block byte : ℕ → ℕ) (bits : Bool) where
           ⊎ ((says (word_of block byte (Holds n phase borrowed)) ≡ false) × (pair_at bits (Holds n phase borrowed) ≡ []))
       by true e = inr (said ∙ ap not e, ap (λ (t : Bool). if t then [] else n ∷ []) e)
       by false e = inl (said ∙ ap not e, n, ap (λ (t : Bool). if t then [] else n ∷ []) e, its_block)
-
-pub same_some : (a b : ℕ) → Some a ≡ Some b → a ≡ b
-same_some a b e = cc e
-
-ltb_not : (a b : ℕ) → b ≤ a → ltb a b ≡ false
-ltb_not a b l = grind (arith, l)
-
-ltb_is : (a b : ℕ) → a < b → ltb a b ≡ true
-ltb_is a b l = grind (arith, l)
 
 -- the link to the next table
 pub no_next : {K : Type 0} (hash : K → ℕ) (c : Chart K) (blocks : Blocks) (t : ℕ) → c.past ≤ suc t → next_word hash c blocks t ≡ 0

@@ -14,12 +14,13 @@ use Rattle.many_calls.specs.Given.PointsSteps.{AreLawful}
 use Rattle.many_calls.specs.Kept.{IsMaking}
 use Rattle.many_maps.specs.Orders.{waits_of}
 use Rattle.many_maps.specs.FactsEnds.{Deed, LeavesTable, taken_by, left_by, cut_by, joined_by, Spares, HasBehind, IsTableYet, Since, BeganIn, wait_before}
-use Rattle.many_maps.proofs.Ends.CountedBlocks.{times-append, some_here, some_of_first}
+use Rattle.many_maps.proofs.Ends.CountedBlocks.{times-append, some_here}
 use Rattle.many_maps.proofs.Ends.OrdersOn.{wait_more}
 use Rattle.many_maps.proofs.Ends.OrdersOnce.{plain_order, pair_there, table_there}
 use Rattle.many_maps.proofs.Ends.SinceOn.{IsSame, Lasts, behind_kept, since_on}
 use Rattle.many_maps.proofs.Ends.Worlds.{over}
 use Rattle.many_maps.proofs.Ends.Frames.{leaves_spare, that_one}
+use Rattle.many_maps.proofs.Among.Own.Apart.{none_in_both as none_of_first}
 
 -- how a block is had tells blocks apart
 pub used_handed : {o : ℕ} (h : Hand) → h ≡ InUse o → h ≡ Handed → ⊥
@@ -47,12 +48,6 @@ none_there x l none = by (times x l) refl
     by : (k : ℕ) → times x l ≡ k → times x l ≡ 0
     by zero e = e
     by (suc k) e = absurd (none (omega (arith, e)))
-
-none_of_first : (x b : ℕ) (l : List ℕ) → x ≢ b → (0 < times x l → ⊥) → times x (b ∷ l) ≡ 0
-none_of_first x b l other none = none_there x (b ∷ l) (λ some. elim (some_of_first x b l some) as (λ _. ⊥) [
-  | inl e ↦ other e
-  | inr there ↦ none there
-])
 
 -- what is none of a list and one more
 pub back_and_one : (x b : ℕ) (back : List ℕ) → times x (back ++ b ∷ []) ≡ 0 → (times x back ≡ 0) × (times x (b ∷ []) ≡ 0)

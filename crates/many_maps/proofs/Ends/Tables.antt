@@ -24,7 +24,6 @@ use Rattle.many_calls.specs.Given.RuleChart.{Chart}
 use Rattle.many_calls.specs.Given.RuleWords.{Blocks, next_word}
 use Rattle.many_calls.specs.Given.PointsSteps.{AreLawful}
 use Rattle.many_calls.proofs.Given.RuleWords.TablesSeen.{block_of_link}
-use Rattle.many_calls.proofs.Given.RuleWords.WritesWords.{is_some_of}
 use Rattle.many_calls.specs.Kept.{IsMaking}
 use Rattle.many_maps.specs.FactsEnds.{Looks, TakesLeft, TakesCounter, RootAt, IsJoined, IsTableYet, Since, BeganIn, IsAt, EndFacts, EndTold, EndWent, back_of, from_table, wait_before}
 use Rattle.many_maps.proofs.Ends.CountedBlocks.{next_apart, later_apart, one_more}
@@ -34,7 +33,8 @@ use Rattle.many_maps.proofs.Ends.Worlds.{away}
 use Rattle.many_maps.proofs.Ends.Frames.{left_spare, counter_spares, that_one}
 use Rattle.many_maps.proofs.Ends.Since.{since_by, left_handed, making_handed, making_left, none_there, back_and_one, apart_by_hand}
 use Rattle.many_maps.proofs.Ends.OrdersOn.{table_over, table_later}
-use Rattle.many_maps.proofs.Ends.Said.{same_some, no_next, some_next}
+use Rattle.many_maps.proofs.Ends.Said.{no_next, some_next}
+use Rattle.many_calls.proofs.Given.General.{same_some, some_is as is_some_of}
 
 module _ {K V : Type 0} (same : K → K → Bool) (hash : K → ℕ) (are : AreLawful same hash) (setting : Setting) (c : Chart K) (blocks : Blocks) (lists : ℕ → List ℕ) (owns : Bool) (caller : ℕ)
     (w0 : World (Node K V)) (may : BeganIn setting c blocks lists owns same hash w0) (e : EndMap) (setting_is : e.setting ≡ setting) (owns_is : e.owns ≡ owns) (past : ℕ)

@@ -7,6 +7,8 @@ use Rattle.many_calls.specs.Given.SeizeLaw.{Nowhere, Standing, Unlinked, Dropped
 use Rattle.many_calls.specs.Given.SeizeWaitingSets.{is_one_of}
 use Rattle.many_calls.specs.Given.SeizeWorld.{World, NoBlock, Cutting, LeftTo, times, with_at, all_left_to, with_hand, with_effect}
 use Rattle.many_maps.proofs.Ends.CountedBlocks.{times_here, times_other}
+use Rattle.many_calls.proofs.Given.SeizeRuleRows.Others.{with_here as hand_here}
+use Rattle.many_calls.proofs.Together.At.{at_other as hand_other}
 
 -- one of a list stands there
 pub one_of : (x : ℕ) (l : List ℕ) → 0 < times x l → is_one_of x l ≡ true
@@ -24,12 +26,6 @@ none_of x (y ∷ l) none = by (x == y) refl (none_of x l)
     by : (t : Bool) → (x == y) ≡ t → (times x l ≡ 0 → is_one_of x l ≡ false) → (t || is_one_of x l) ≡ false
     by true e k = absurd (let a = subst (λ (z : ℕ). times z (y ∷ l) ≡ 0) (eqb-true x y e) none in let b = times_here y l in omega (arith, a, b))
     by false e k = k (let a = times_other x y l (eqb-false x y e) in omega (arith, a, none))
-
-pub hand_here : {X : Type 0} (f : ℕ → X) (b : ℕ) (h : X) → with_at f b h b ≡ h
-hand_here f b h = ap (λ (t : Bool). if t then h else f b) (eq-eqb b b refl)
-
-pub hand_other : {X : Type 0} (f : ℕ → X) (b : ℕ) (h : X) (x : ℕ) → x ≢ b → with_at f b h x ≡ f x
-hand_other f b h x ne = ap (λ (t : Bool). if t then h else f x) (ne_eqb x b ne)
 
 without_other : (b : ℕ) (p : Place) → p ≢ With b → without b p ≡ p
 without_other b p ne = by p ne

@@ -37,8 +37,8 @@ use Rattle.map_rule.proofs.World.Hands.{Hands}
 use Rattle.map_facts.proofs.Blocking.Targets.{chunk_few, chunk_some, claim_is, claim_shows}
 use Rattle.map_rule.proofs.Words.TablesSeen.{len_is, turn_is}
 use Rattle.map_rule.proofs.Moves.Totals.{total_none}
-use Rattle.map_rule.proofs.Words.WritesWords.{is_some_of}
 use Rattle.map_rule.proofs.Words.OwnWords.{own_at_word}
+use Rattle.map_rule.proofs.Given.General.{some_is as is_some_of}
 
 -- a chunk is no longer than its table, and not empty
 module _ {K V : Type 0} (same : K → K → Bool) (hash : K → ℕ) (caller : ℕ) (setting : Setting) (w : World (Node K V)) (c : Chart K) (blocks : Blocks)

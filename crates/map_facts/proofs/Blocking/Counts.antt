@@ -41,7 +41,7 @@ use Rattle.map_rule.proofs.World.Hands.{Hands}
 use Rattle.map_facts.proofs.Blocking.Targets.{copied_is, copied_shows, status_is, status_shows}
 use Rattle.map_rule.proofs.Words.TablesSeen.{len_is, turn_is}
 use Rattle.map_rule.proofs.Moves.Totals.{total_full, total_with_counted}
-use Rattle.map_rule.proofs.Words.WritesWords.{is_some_of}
+use Rattle.map_rule.proofs.Given.General.{some_is as is_some_of}
 
 module _ {K V : Type 0} (same : K → K → Bool) (hash : K → ℕ) (caller : ℕ) (setting : Setting) (w : World (Node K V)) (c : Chart K) (blocks : Blocks)
     (map : IsMapIn same hash setting w c blocks) (lawful : IsLawful same (spot_of hash)) (blocking : is_incremental setting.mode ≡ false) (p : Copier) (setting_is : p.setting ≡ setting) where

@@ -33,8 +33,8 @@ use Rattle.map_facts.proofs.Blocking.Successors.{next_read, is_to_retire, rest_b
 use Rattle.map_facts.proofs.Blocking.Targets.{status_is, status_shows}
 use Rattle.map_facts.proofs.Copiers.CopierMoves.{copier_wrote, table_again}
 use Rattle.map_facts.proofs.Copiers.CopierWent.{CopierCame, copier_still, copier_goes}
-use Rattle.map_rule.proofs.Words.WritesWords.{is_some_of}
 use Rattle.map_rule.proofs.Words.OwnWords.{own_at_word}
+use Rattle.map_rule.proofs.Given.General.{some_is as is_some_of}
 
 module _ {K V : Type 0} (same : K → K → Bool) (hash : K → ℕ) (caller : ℕ) (setting : Setting) (w : World (Node K V)) (c : Chart K) (blocks : Blocks)
     (map : IsMapIn same hash setting w c blocks) (p : Copier) (setting_is : p.setting ≡ setting) where

@@ -44,7 +44,7 @@ use Rattle.map_rule.proofs.Moves.SamePairs.{same_pairs, marked_keeps}
 use Rattle.map_rule.proofs.Words.TablesSeen.{place_stands}
 use Rattle.map_rule.proofs.Keys.TriesSeen.{first_is}
 use Rattle.map_rule.proofs.Words.WritesPlaces.{place_written}
-use Rattle.map_rule.proofs.Words.WritesWords.{is_some_of}
+use Rattle.map_rule.proofs.Given.General.{some_is as is_some_of}
 
 module _ {K V : Type 0} (same : K → K → Bool) (hash : K → ℕ) (fits : (k : K) → hash k < 2 ^ 64) (caller : ℕ) (setting : Setting) (w : World (Node K V)) (c : Chart K) (blocks : Blocks)
     (map : IsMapIn same hash setting w c blocks) (lawful : IsLawful same (spot_of hash)) (blocking : is_incremental setting.mode ≡ false) (p : Copier) (setting_is : p.setting ≡ setting)

@@ -28,8 +28,8 @@ use Rattle.map_rule.proofs.Words.PlacesShown.{are_stored, shown_block}
 use Rattle.map_rule.proofs.Words.PlaceWordsRead.{word-empty}
 use Rattle.map_rule.proofs.Words.TablesSeen.{place_stands, place_there}
 use Rattle.map_rule.proofs.Words.WritesPlaces.{place_written}
-use Rattle.map_rule.proofs.Words.WritesWords.{is_some_of}
 use Rattle.map_rule.proofs.World.Footprints.{MayWrite}
+use Rattle.map_rule.proofs.Given.General.{some_is as is_some_of}
 
 module _ {K V : Type 0} (same : K → K → Bool) (hash : K → ℕ) (setting : Setting) (w : World (Node K V)) (c : Chart K) (blocks : Blocks)
     (map : IsMapIn same hash setting w c blocks)

@@ -37,7 +37,7 @@ use Rattle.map_rule.proofs.World.MovesKnown.{spares_moved}
 use Rattle.map_rule.proofs.World.OthersSpared.{keeps_then, keeps_written}
 use Rattle.map_rule.proofs.World.WentWrote.{HasCounter, counter_of, counter_written, map_in, map_moved, went_after, later_kept}
 use Rattle.map_rule.proofs.Words.WritesTables.{root_written}
-use Rattle.map_rule.proofs.Words.WritesWords.{is_some_of}
+use Rattle.map_rule.proofs.Given.General.{some_is as is_some_of}
 
 module _ {K V : Type 0} (same : K → K → Bool) (hash : K → ℕ) (caller : ℕ) (setting : Setting) (w : World (Node K V)) (c : Chart K) (blocks : Blocks)
     (map : IsMapIn same hash setting w c blocks) (lawful : IsLawful same (spot_of hash)) (blocking : is_incremental setting.mode ≡ false) (p : Copier) (setting_is : p.setting ≡ setting)

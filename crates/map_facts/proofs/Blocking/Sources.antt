@@ -29,7 +29,7 @@ use Rattle.map_rule.proofs.Words.PlacesRead.{pair_value}
 use Rattle.map_rule.proofs.Words.PlacesShown.{AreStored, are_stored, shown_block}
 use Rattle.map_rule.proofs.Words.PlaceWordsRead.{pair_word-large, word-pair}
 use Rattle.map_rule.proofs.Words.TablesSeen.{place_there}
-use Rattle.map_rule.proofs.Words.WritesWords.{is_some_of}
+use Rattle.map_rule.proofs.Given.General.{some_is as is_some_of}
 
 module _ {K V : Type 0} (same : K → K → Bool) (hash : K → ℕ) (fits : (k : K) → hash k < 2 ^ 64) (setting : Setting) (w : World (Node K V)) (c : Chart K)
     (blocks : Blocks)

@@ -19,8 +19,8 @@ use Rattle.map_rule.specs.InWorld.{IsMapIn}
 use Rattle.map_rule.specs.Maps.{IsTable}
 use Rattle.map_rule.specs.Words.{Blocks}
 use Rattle.map_rule.proofs.Words.TablesSeen.{block_of_link}
-use Rattle.map_rule.proofs.Words.WritesWords.{is_some_of}
 use Rattle.map_facts.specs.FactsDisposes.{IsToRetire}
+use Rattle.map_rule.proofs.Given.General.{some_is as is_some_of}
 
 module _ {K V : Type 0} (same : K → K → Bool) (hash : K → ℕ) (caller : ℕ) (setting : Setting) (w : World (Node K V)) (c : Chart K) (blocks : Blocks)
     (map : IsMapIn same hash setting w c blocks) (p : Copier) (setting_is : p.setting ≡ setting) (s t : ℕ) (before : s < t)

@@ -33,8 +33,8 @@ use Rattle.map_rule.specs.Words.{Blocks, Shows, next_word}
 use Rattle.map_rule.proofs.Words.LinksSeen.{link_some, next_leads}
 use Rattle.map_rule.proofs.Words.TablesSeen.{word_stands, link_seen, table_is, next_there, claim_there, copied_there, status_there}
 use Rattle.map_rule.proofs.Words.WritesTables.{claim_written, copied_written, status_written}
-use Rattle.map_rule.proofs.Words.WritesWords.{is_some_of}
 use Rattle.map_rule.proofs.World.Framed.{shows_beside}
+use Rattle.map_rule.proofs.Given.General.{some_is as is_some_of}
 
 -- a chunk has no more places than its table, and some
 pub chunk_few : (mode : ResizeMode) (len : ℕ) → chunk_of mode len ≤ len

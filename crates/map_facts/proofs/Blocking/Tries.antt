@@ -44,7 +44,7 @@ use Rattle.map_rule.proofs.Keys.TriesSeen.{IsNext, next_is}
 use Rattle.map_facts.proofs.Blocking.Placing.{try_word, try_empty, may_write_try, put_shows}
 use Rattle.map_facts.proofs.Blocking.Lost.{went_lost}
 use Rattle.map_rule.proofs.Moves.Writes.{put_in_cases}
-use Rattle.map_rule.proofs.Words.WritesWords.{is_some_of}
+use Rattle.map_rule.proofs.Given.General.{some_is as is_some_of}
 
 -- an unmarked place whose word is not that of an empty one is taken
 word_taken : (block byte : ℕ → ℕ) (place : Place) → is_marked place ≡ false → word_of block byte place ≢ 0 → is_taken false place ≡ true

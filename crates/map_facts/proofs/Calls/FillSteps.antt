@@ -35,8 +35,8 @@ use Rattle.map_facts.specs.FactsCalls.{Unchanged, RepliesFit, MayAsk, Holding, B
 use Rattle.map_rule.proofs.World.WentStill.{went_still}
 use Rattle.map_rule.proofs.World.WentMade.{world_made, world_dropped, went_made, went_dropped}
 use Rattle.map_rule.proofs.World.WentRewrote.{went_rewritten}
-use Rattle.map_rule.proofs.Words.WritesWords.{is_some_of}
 use Rattle.map_facts.proofs.Calls.Replied.{IsBack, is_back, owns}
+use Rattle.map_rule.proofs.Given.General.{some_is as is_some_of}
 
 -- one that has its key, or its pair, takes values
 told_values : (x : Takes) (m : Missing) → holding x m ≡ ByReply → x ≢ takes.Choices

@@ -33,7 +33,7 @@ use Rattle.map_facts.specs.FactsIdle.{IsIdle}
 use Rattle.map_rule.proofs.World.WentStill.{went_still}
 use Rattle.map_rule.proofs.World.WentMade.{world_made, went_made, went_dropped}
 use Rattle.map_facts.proofs.Calls.CallsOn.{Seeking, Comes, told_unchanged, goes}
-use Rattle.map_rule.proofs.Words.WritesWords.{is_some_of}
+use Rattle.map_rule.proofs.Given.General.{some_is as is_some_of}
 
 module _ {K V Q : Type 0} (same : K → K → Bool) (hash : K → ℕ) (asks : Q → K → Bool) (caller : ℕ) (setting : Setting) (keys : K → Bool)
     (w : World (Node K V)) (c : Chart K) (blocks : Blocks) (map : IsMapIn same hash setting w c blocks) (change : Change) (p : KeyCall K V Q)

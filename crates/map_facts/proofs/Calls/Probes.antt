@@ -32,7 +32,7 @@ use Rattle.map_facts.proofs.Calls.CallsOn.{Seeking, Comes}
 use Rattle.map_facts.proofs.Calls.CallsFound.{told_comes}
 use Rattle.map_rule.proofs.Keys.TriesSeen.{spot_inside}
 use Rattle.map_facts.proofs.Calls.Makes.{CallWent, still}
-use Rattle.map_rule.proofs.Words.WritesWords.{is_some_of}
+use Rattle.map_rule.proofs.Given.General.{some_is as is_some_of}
 
 module _ {K V Q : Type 0} (same : K → K → Bool) (hash : K → ℕ) (asks : Q → K → Bool) (caller : ℕ) (setting : Setting) (keys : K → Bool)
     (w : World (Node K V)) (c : Chart K) (blocks : Blocks) where

@@ -27,7 +27,7 @@ use Rattle.map_rule.proofs.Words.LinksSeen.{root_leads, next_leads}
 use Rattle.map_facts.proofs.Calls.CallsOn.{Seeking, Comes}
 use Rattle.map_facts.proofs.Calls.CallsTables.{enters_root, no_table, no_next, goes_on}
 use Rattle.map_facts.proofs.Calls.Makes.{CallWent, still}
-use Rattle.map_rule.proofs.Words.WritesWords.{is_some_of}
+use Rattle.map_rule.proofs.Given.General.{some_is as is_some_of}
 
 module _ {K V Q : Type 0} (same : K → K → Bool) (hash : K → ℕ) (asks : Q → K → Bool) (caller : ℕ) (setting : Setting) (keys : K → Bool)
     (lawful : IsLawful same (spot_of hash))

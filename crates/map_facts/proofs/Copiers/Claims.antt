@@ -35,8 +35,8 @@ use Rattle.map_facts.proofs.Copiers.CopiersWrote.{CopierPlain, copier_still, han
 use Rattle.map_rule.proofs.Words.TablesSeen.{claim_there, status_there, len_is, word_stands}
 use Rattle.map_rule.proofs.World.WentIncremental.{rule_incremental}
 use Rattle.map_rule.proofs.Words.WritesTables.{claim_written}
-use Rattle.map_rule.proofs.Words.WritesWords.{is_some_of}
 use Rattle.map_rule.proofs.Words.OwnWords.{own_at_word}
+use Rattle.map_rule.proofs.Given.General.{some_is as is_some_of}
 
 module _ {K V : Type 0} (same : K → K → Bool) (hash : K → ℕ) (caller : ℕ) (setting : Setting) (w : World (Node K V)) (c : Chart K) (blocks : Blocks)
     (map : IsMapIn same hash setting w c blocks) (p : Copier) (is : p.setting ≡ setting) where

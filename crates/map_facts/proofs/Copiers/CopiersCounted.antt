@@ -32,7 +32,7 @@ use Rattle.map_rule.proofs.World.Framed.{shows_beside}
 use Rattle.map_rule.proofs.Words.OwnWords.{own_at_word}
 use Rattle.map_rule.proofs.Words.TablesSeen.{copied_there, word_stands}
 use Rattle.map_rule.proofs.Words.WritesTables.{copied_written}
-use Rattle.map_rule.proofs.Words.WritesWords.{is_some_of}
+use Rattle.map_rule.proofs.Given.General.{some_is as is_some_of}
 
 -- the caller's shares in this table, once they are counted
 abbrev pub counted_in : ℕ → ℕ → (ℕ → ℕ → Share) → ℕ → ℕ → Share

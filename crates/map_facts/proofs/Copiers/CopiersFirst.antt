@@ -39,7 +39,7 @@ use Rattle.map_rule.proofs.Words.PlacesShown.{byte_of-few}
 use Rattle.map_rule.proofs.Moves.SamePairs.{marked_keeps}
 use Rattle.map_rule.proofs.Words.TablesSeen.{place_there}
 use Rattle.map_rule.proofs.World.WentIncremental.{rule_incremental}
-use Rattle.map_rule.proofs.Words.WritesWords.{is_some_of}
+use Rattle.map_rule.proofs.Given.General.{some_is as is_some_of}
 
 module _ {K V : Type 0} (same : K → K → Bool) (hash : K → ℕ) (caller : ℕ) (setting : Setting) (w : World (Node K V)) (c : Chart K) (blocks : Blocks)
     (map : IsMapIn same hash setting w c blocks) where

@@ -31,8 +31,8 @@ use Rattle.map_facts.proofs.Copiers.CopiersWrote.{CopierPlain, copier_wrote}
 use Rattle.map_rule.proofs.Words.PlaceWordsWritten.{word-covered}
 use Rattle.map_rule.proofs.Moves.SamePairs.{SamePair, copying_keeps}
 use Rattle.map_rule.proofs.Words.TablesSeen.{place_there}
-use Rattle.map_rule.proofs.Words.WritesWords.{is_some_of}
 use Rattle.map_rule.proofs.Words.OwnWords.{own_at_place}
+use Rattle.map_rule.proofs.Given.General.{some_is as is_some_of}
 
 module _ {K V : Type 0} (same : K → K → Bool) (hash : K → ℕ) (caller : ℕ) (setting : Setting) (w : World (Node K V)) (c : Chart K) (blocks : Blocks)
     (map : IsMapIn same hash setting w c blocks) (p : Copier) (is : p.setting ≡ setting) (word : ℕ)

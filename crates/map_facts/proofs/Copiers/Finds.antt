@@ -29,9 +29,9 @@ use Rattle.map_facts.specs.FactsCopies.{CopyingFacts}
 use Rattle.map_facts.specs.Told.{CopierTold}
 use Rattle.map_facts.proofs.Copiers.CopiersWrote.{CopierPlain, copier_still}
 use Rattle.map_rule.proofs.Words.TablesSeen.{link_seen, table_is, next_there}
-use Rattle.map_rule.proofs.Words.WritesWords.{is_some_of}
 use Rattle.map_rule.specs.Links.{IsLinkTo, LeadsTo}
 use Rattle.map_rule.proofs.Words.LinksSeen.{link_some, link_made, root_leads, next_leads}
+use Rattle.map_rule.proofs.Given.General.{some_is as is_some_of}
 
 module _ {K V : Type 0} (same : K → K → Bool) (hash : K → ℕ) (caller : ℕ) (setting : Setting) (w : World (Node K V)) (c : Chart K) (blocks : Blocks) where
   module _ (map : IsMapIn same hash setting w c blocks) (p : Copier) (is : p.setting ≡ setting) where

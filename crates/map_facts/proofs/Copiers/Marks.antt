@@ -43,8 +43,8 @@ use Rattle.map_rule.proofs.Words.PlaceWordsRead.{word-pair}
 use Rattle.map_rule.proofs.Words.PlaceWordsWritten.{word-marked}
 use Rattle.map_rule.proofs.Words.TablesSeen.{place_there, place_stands}
 use Rattle.map_rule.proofs.World.WentIncremental.{rule_incremental}
-use Rattle.map_rule.proofs.Words.WritesWords.{is_some_of}
 use Rattle.map_rule.proofs.Words.WrittenAgain.{written_again}
+use Rattle.map_rule.proofs.Given.General.{some_is as is_some_of}
 
 -- a place that is marked is as it is once it is marked again
 marked_again : (place : Place) → is_marked place ≡ true → marked place ≡ place

@@ -33,7 +33,7 @@ use Rattle.map_rule.specs.Links.{IsLinkTo}
 use Rattle.map_rule.proofs.Words.LinksSeen.{link_made, root_leads}
 use Rattle.map_rule.proofs.World.WentStill.{went_still, spares_same}
 use Rattle.map_facts.proofs.Steps.WentUnlinked.{went_unlinked}
-use Rattle.map_rule.proofs.Words.WritesWords.{is_some_of}
+use Rattle.map_rule.proofs.Given.General.{some_is as is_some_of}
 
 module _ {K V : Type 0} (same : K → K → Bool) (hash : K → ℕ) (setting : Setting) (w : World (Node K V)) (caller : ℕ) (c : Chart K) (blocks : Blocks)
     (map : IsMapIn same hash setting w c blocks) (d : Dispose) (f : DisposeFacts w caller setting c blocks d) where

@@ -28,7 +28,7 @@ use Rattle.map_rule.proofs.Words.LinksSeen.{link_made, next_leads}
 use Rattle.map_facts.proofs.Disposals.Reads.{DisposeWent, told_still, turn_is}
 use Rattle.map_rule.proofs.Words.TablesSeen.{block_of_link}
 use Rattle.map_facts.proofs.Steps.TurnsFound.{turn_found}
-use Rattle.map_rule.proofs.Words.WritesWords.{is_some_of}
+use Rattle.map_rule.proofs.Given.General.{some_is as is_some_of}
 
 module _ {K V : Type 0} (same : K → K → Bool) (hash : K → ℕ) (setting : Setting) (w : World (Node K V)) (caller : ℕ) (c : Chart K) (blocks : Blocks)
     (map : IsMapIn same hash setting w c blocks) (d : Dispose) (f : DisposeFacts w caller setting c blocks d) where

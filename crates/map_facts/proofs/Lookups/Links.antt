@@ -29,12 +29,12 @@ use Rattle.map_facts.specs.FactsLooks.{LookupFacts}
 use Rattle.map_facts.specs.Told.{LookupTold}
 use Rattle.map_facts.specs.MeasuresLooks.{LoadLeads, LookupLeads}
 use Rattle.map_rule.proofs.Words.TablesSeen.{link_seen, link_not_zero, table_is, next_there}
-use Rattle.map_rule.proofs.Words.WritesWords.{is_some_of}
 use Rattle.map_rule.specs.Links.{LeadsTo}
 use Rattle.map_rule.proofs.Words.LinksSeen.{root_leads, next_leads}
 use Rattle.map_rule.proofs.Keys.TriesSeen.{first_is}
 use Rattle.map_rule.proofs.Keys.ClassesSeen.{absent_rootless}
 use Rattle.map_rule.proofs.Keys.ClassesBeyond.{none_at_root, none_behind, absent_behind}
+use Rattle.map_rule.proofs.Given.General.{some_is as is_some_of}
 
 module _ {K V : Type 0} (same : K → K → Bool) (hash : K → ℕ) (lawful : IsLawful same (spot_of hash)) (mode : ResizeMode) (root : ℕ) (keys : K → Bool) (code : ℕ)
     (class : IsClass same hash keys code) (m : Mem (Node K V)) (c : Chart K) (blocks : Blocks) (map : IsMap same hash mode root m c blocks) (l : Lookup) where

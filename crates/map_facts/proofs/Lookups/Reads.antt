@@ -22,9 +22,9 @@ use Rattle.map_rule.proofs.Words.PlaceWords.{HasBlock}
 use Rattle.map_rule.proofs.Words.PlacesShown.{AreStored, shown_block, are_stored}
 use Rattle.map_rule.proofs.Words.PlacesRead.{place_keyed, pair_seen, value_tells, byte_tells}
 use Rattle.map_rule.proofs.Words.TablesSeen.{place_there}
-use Rattle.map_rule.proofs.Words.WritesWords.{is_some_of}
 use Rattle.map_rule.proofs.Words.WordsSeen.{HasKey, Tells}
 use Rattle.map_rule.proofs.Keys.TriesSeen.{spot_inside}
+use Rattle.map_rule.proofs.Given.General.{some_is as is_some_of}
 
 module _ {K V : Type 0} (hash : K → ℕ) (keys : K → Bool) (code : ℕ) (m : Mem (Node K V)) (c : Chart K) (blocks : Blocks) (trial : Trial) (t : ℕ) (place : Place) where
   -- the place of the try is read as what it is

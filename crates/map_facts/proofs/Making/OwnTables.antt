@@ -18,7 +18,7 @@ use Rattle.papaya_raw.specs.Given.TablesDeclared.table.Table.{Table}
 use Rattle.papaya_raw.specs.Given.TablesDeclared.table_words.TheConstants.{STATUS, PLACES}
 use Rattle.map_facts.specs.FactsTables.{IsOwnTable}
 use Rattle.map_rule.proofs.World.Hands.{at_cases}
-use Rattle.map_rule.proofs.Words.WritesWords.{is_some_of}
+use Rattle.map_rule.proofs.Given.General.{some_is as is_some_of}
 
 pub zero_at : (n i : ℕ) → i < n → slice_get {X = ℕ} (replicate n 0) i ≡ Some 0
 zero_at n i l = slice_get-get_or (replicate n 0) i 0 (subst (λ (k : ℕ). i < k) (sym (length-replicate n 0)) l) ∙ ap Some (get_or-replicate n i 0 0 l)

@@ -24,7 +24,7 @@ use Rattle.map_rule.proofs.Words.TablesSeen.{link_seen, table_is}
 use Rattle.map_rule.proofs.World.WentMade.{world_dropped, dropped_in, went_dropped}
 use Rattle.map_rule.proofs.World.WentStill.{spares_taken}
 use Rattle.map_facts.proofs.Making.TableMade.{NewTableTells, NewTableWent}
-use Rattle.map_rule.proofs.Words.WritesWords.{is_some_of}
+use Rattle.map_rule.proofs.Given.General.{some_is as is_some_of}
 
 module _ {K V : Type 0} (same : K → K → Bool) (hash : K → ℕ) (w : World (Node K V)) (caller : ℕ) (setting : Setting) (c : Chart K) (blocks : Blocks)
     (map : IsMapIn same hash setting w c blocks) (n : NewTable) (table : Table) (status : ℕ) (own : IsOwnTable w caller table status)

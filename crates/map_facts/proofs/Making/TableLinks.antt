@@ -46,7 +46,7 @@ use Rattle.map_rule.proofs.World.WentStill.{spares_then, spares_written, spares_
 use Rattle.map_rule.proofs.World.WentWrote.{counter_of, counter_written, map_in, map_moved, went_after, own_word}
 use Rattle.map_rule.proofs.Words.WritesLinked.{first_table_linked, table_linked}
 use Rattle.map_facts.proofs.Making.TableMade.{NewTableTells, NewTableWent, told_still, goes_on}
-use Rattle.map_rule.proofs.Words.WritesWords.{is_some_of}
+use Rattle.map_rule.proofs.Given.General.{some_is as is_some_of}
 
 module _ {K V : Type 0} (same : K → K → Bool) (hash : K → ℕ) (w : World (Node K V)) (caller : ℕ) (setting : Setting) (c : Chart K) (blocks : Blocks) (link : At) (turn : ℕ)
     (map : IsMapIn same hash setting w c blocks) (n : NewTable) (setting_is : n.setting ≡ setting) (link_is : n.link ≡ link) (of : IsLinkOf setting c blocks link turn)

@@ -48,7 +48,7 @@ use Rattle.map_rule.proofs.World.WentMade.{world_made, went_made}
 use Rattle.map_facts.proofs.Making.OwnTables.{own_made, own_marked}
 use Rattle.map_facts.proofs.Making.Planned.{counted_facts}
 use Rattle.map_facts.proofs.Making.Sum.{may_sum, told_sum}
-use Rattle.map_rule.proofs.Words.WritesWords.{is_some_of}
+use Rattle.map_rule.proofs.Given.General.{some_is as is_some_of}
 
 module _ {K V : Type 0} (same : K → K → Bool) (hash : K → ℕ) (w : World (Node K V)) (caller : ℕ) (setting : Setting) (c : Chart K) (blocks : Blocks) (link : At) (turn : ℕ) where
   -- what each step of a making tells

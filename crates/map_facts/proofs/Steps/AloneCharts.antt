@@ -29,7 +29,7 @@ not_claimed : (b : Bool) (caller : ℕ) (s : Share) → cond b (Claimed caller) 
 not_claimed true caller s e = absurd (cc e)
 not_claimed false caller s e = e
 
-not_counted : (caller : ℕ) (s : Share) → with_counted caller s ≡ Lost → s ≡ Lost
+pub not_counted : (caller : ℕ) (s : Share) → with_counted caller s ≡ Lost → s ≡ Lost
 not_counted caller Free e = e
 not_counted caller (Claimed other) e = e
 not_counted caller (Done other) e = at (eqb other caller) e

@@ -19,10 +19,10 @@ use Rattle.map_rule.proofs.World.FramedSteps.{IsBeside, frames_written}
 use Rattle.map_rule.proofs.World.Hands.{hands_of}
 use Rattle.map_rule.proofs.World.Footprints.{framed_written, aside_of}
 use Rattle.map_rule.proofs.Words.LinksOwn.{outs_same, known_same, links_none}
-use Rattle.map_rule.proofs.Words.WritesWords.{is_some_of}
 use Rattle.map_rule.proofs.World.MovesKnown.{tables_same}
 use Rattle.map_rule.proofs.World.OthersSpared.{keeps_written}
 use Rattle.map_rule.proofs.World.WentWrote.{went_after, wrote_in}
+use Rattle.map_rule.proofs.Given.General.{some_is as is_some_of}
 
 module _ {K V : Type 0} (same : K → K → Bool) (hash : K → ℕ) (caller : ℕ) (setting own : Setting) (setting_is : own ≡ setting)
     (w : World (Node K V)) (c : Chart K) (blocks : Blocks) (map : IsMapIn same hash setting w c blocks) where

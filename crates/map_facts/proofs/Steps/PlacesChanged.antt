@@ -18,13 +18,13 @@ use Rattle.map_rule.specs.Moves.{Move, after, Allowed}
 use Rattle.map_rule.specs.Words.{Blocks, place_word, Shows}
 use Rattle.map_rule.specs.Maps.{spot_of}
 use Rattle.map_rule.specs.InWorld.{InFootprint, IsMapIn, AllUsers, AllIts, SameBlocks, Went, KeepsBlocks}
-use Rattle.map_rule.proofs.Words.WritesWords.{is_some_of}
 use Rattle.map_rule.proofs.World.Hands.{Hands}
 use Rattle.map_rule.proofs.World.Footprints.{framed_written, aside_of}
 use Rattle.map_rule.proofs.Words.LinksOwn.{OutsStay, OutsAreKnown}
 use Rattle.map_rule.proofs.World.MovesKnown.{IsItsMove, spares_moved}
 use Rattle.map_rule.proofs.World.OthersSpared.{keeps_then, keeps_written}
 use Rattle.map_rule.proofs.World.WentWrote.{IsLater, counter_of, counter_written, map_in, map_moved, went_after, own_word}
+use Rattle.map_rule.proofs.Given.General.{some_is as is_some_of}
 
 module _ {K V : Type 0} (same : K → K → Bool) (hash : K → ℕ) (caller : ℕ) (setting : Setting)
     (w : World (Node K V)) (c : Chart K) (blocks : Blocks) (map : IsMapIn same hash setting w c blocks)

@@ -81,7 +81,7 @@ none_made_by_copier (at.Retires settle rest) none b h = h
 none_made_by_copier at.Over none b h = h
 none_made_by_copier (at.Refused fault) none b h = h
 
-none_if : (q : Bool) (x y : Copier) → CopierMadeNone x.stands → CopierMadeNone y.stands → CopierMadeNone (if q then x else y).stands
+pub none_if : (q : Bool) (x y : Copier) → CopierMadeNone x.stands → CopierMadeNone y.stands → CopierMadeNone (if q then x else y).stands
 none_if true x y f g = f
 none_if false x y f g = g
 

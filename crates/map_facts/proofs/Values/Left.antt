@@ -6,8 +6,8 @@ use Rattle.map_rule.specs.Given.SeizeWordsOp.{Make, Made}
 use Rattle.map_rule.specs.Given.SeizeWordsMem.{Mem, block_of, value_in, value_at, with_block, IsFreeNumber, fresh, after as mem_after}
 use Rattle.map_rule.proofs.Given.SeizeWordsOneOwner.AfterWrites.{block_of-made, block_of-with_block}
 use Rattle.map_rule.proofs.Given.SeizeMemoryWords.Named.{block_there}
-use Rattle.map_rule.proofs.Words.WritesWords.{is_some_of}
 use Rattle.map_facts.proofs.Values.Kept.{SameValues}
+use Rattle.map_rule.proofs.Given.General.{some_is as is_some_of}
 
 module _ {T : Type 0} (m m2 : Mem T) (Mine Mine2 Now : ℕ → Type 0) where
   -- The blocks of one caller were these and are those, and the ones between were given to all.

@@ -34,10 +34,10 @@ use Rattle.map_rule.specs.Given.ResizeDeclared.new_table.Making.TheVariants as a
 use Rattle.map_rule.specs.Chart.{Chart}
 use Rattle.map_rule.specs.Words.{Blocks}
 use Rattle.map_facts.specs.FactsTables.{IsOwnTable, IsLinkOf, MakingFacts, NewTableFacts, first_status}
-use Rattle.map_rule.proofs.Words.WritesWords.{is_some_of}
 use Rattle.map_facts.specs.Made.{IsMadeBy}
 use Rattle.map_facts.proofs.Values.Kept.{IsPlainStep, plain_as, plain_keeps}
 use Rattle.map_facts.proofs.Values.Left.{Leaves, leaves_same, leaves_made, leaves_taken}
+use Rattle.map_rule.proofs.Given.General.{some_is as is_some_of}
 
 -- it has made no table that it has not linked
 abbrev pub MadeNone : Point → Type 0

@@ -28,13 +28,12 @@ use Rattle.papaya_raw.specs.declared.machines.asking.Gap.TheVariants as gaps
 use Rattle.papaya_raw.specs.declared.machines.call.KeyCall.{KeyCall}
 use Rattle.papaya_raw.specs.declared.machines.call.Calling.{Calling}
 use Rattle.papaya_raw.specs.declared.machines.call.Calling.TheVariants as at
-use Rattle.map_rule.specs.Given.ResizeDeclared.copier.Copier.{Copier}
 use Rattle.papaya_raw.specs.Given.TablesDeclared.finding.Finding.{Finding}
 use Rattle.papaya_raw.specs.Given.TablesDeclared.finding.Finding.TheVariants as is
 use Rattle.map_facts.specs.Made.{IsMadeByCall}
 use Rattle.map_facts.proofs.Calls.Asked.{asking_so, asking_of_so, passed_so}
 use Rattle.map_facts.proofs.Values.Making.{MadeNone, none_made, first_made_none}
-use Rattle.map_facts.proofs.Values.Copying.{AllThen, all_if, CopierMadeNone, none_made_by_copier}
+use Rattle.map_facts.proofs.Values.Copying.{AllThen, all_if, CopierMadeNone, none_made_by_copier, none_if as copier_if}
 
 -- where a call stands that has made its own block, if it is to have one, and has changed nothing
 abbrev pub IsSought : Calling → Type 0
@@ -174,10 +173,6 @@ module _ {K V Q : Type 0} where
 
     told_so : (q : Bool) (word : ℕ) (same : Bool) → GoesPlainly p (told q p word same)
     told_so q word same = told_of_so q word (finding p.setting.mode (aim_of p.missing) word same)
-
-    copier_if : (q : Bool) (x y : Copier) → CopierMadeNone x.stands → CopierMadeNone y.stands → CopierMadeNone (if q then x else y).stands
-    copier_if true x y f g = f
-    copier_if false x y f g = g
 
     pub went_on_so : (table : Table) → GoesPlainly p (went_on p table)
     went_on_so table =

@@ -23,12 +23,12 @@ use Rattle.map_facts.specs.Given.RuleMoments.{Moments}
 use Rattle.map_facts.proofs.Given.RuleWords.LinksRead.{see_link, link_ends}
 use Rattle.map_facts.proofs.Given.RuleWords.TablesSeen.{next_there}
 use Rattle.map_facts.proofs.Given.RuleWords.LinksSeen.{next_leads}
-use Rattle.map_facts.proofs.Given.RuleWords.WritesWords.{is_some_of}
 use Rattle.map_facts.proofs.Calls.CallsOn.{Seeking}
 use Rattle.map_facts_late.specs.Left.{Left}
 use Rattle.map_facts_late.proofs.Calls.LatesOn.{LateComes}
 use Rattle.map_facts_late.proofs.Calls.Enters.{goes_on_late}
 use Rattle.map_facts_late.proofs.Copiers.LateBegins.{behind_left}
+use Rattle.map_facts.proofs.Given.General.{some_is as is_some_of}
 
 module _ {K V Q : Type 0} (same : K → K → Bool) (hash : K → ℕ) (asks : Q → K → Bool) (caller : ℕ) (setting : Setting) (alone : is_incremental setting.mode ≡ false) (keys : K → Bool) (began : ℕ)
     (lawful : IsLawful same (spot_of hash))

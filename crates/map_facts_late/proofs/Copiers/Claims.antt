@@ -30,13 +30,13 @@ use Rattle.map_facts.specs.Given.RuleRule.{IsLawful}
 use Rattle.map_facts.specs.Given.RuleWords.{Blocks, Shows}
 use Rattle.map_facts.proofs.Given.RuleWords.OwnWords.{own_at_word}
 use Rattle.map_facts.proofs.Given.RuleWords.TablesSeen.{len_is}
-use Rattle.map_facts.proofs.Given.RuleWords.WritesWords.{is_some_of}
 use Rattle.map_facts.proofs.Given.RuleWorld.Hands.{Hands}
 use Rattle.map_facts.specs.FactsCopiesBlocking.{HasNoShares}
 use Rattle.map_facts.proofs.Blocking.Targets.{chunk_few, chunk_some, claim_is, claim_shows}
 use Rattle.map_facts_late.specs.Left.{ClaimsAreFew}
 use Rattle.map_facts_late.specs.LateCopies.{CopiesLate, LateCopying}
 use Rattle.map_facts_late.proofs.Copiers.LateWent.{LateCame, late_wrote, late_again}
+use Rattle.map_facts.proofs.Given.General.{some_is as is_some_of}
 
 module _ {K V : Type 0} (same : K → K → Bool) (hash : K → ℕ) (caller : ℕ) (setting : Setting) (began : ℕ) (w : World (Node K V)) (c : Chart K) (blocks : Blocks)
     (map : IsMapIn same hash setting w c blocks) (lawful : IsLawful same (spot_of hash)) (blocking : is_incremental setting.mode ≡ false)

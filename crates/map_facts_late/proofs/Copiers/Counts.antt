@@ -31,13 +31,13 @@ use Rattle.map_facts.specs.Given.RuleRule.{IsLawful}
 use Rattle.map_facts.specs.Given.RuleWords.{Blocks, Shows}
 use Rattle.map_facts.proofs.Given.RuleWords.OwnWords.{own_at_word}
 use Rattle.map_facts.proofs.Given.RuleWords.TablesSeen.{word_stands}
-use Rattle.map_facts.proofs.Given.RuleWords.WritesWords.{is_some_of}
 use Rattle.map_facts.proofs.Given.RuleWords.WrittenAgain.{written_again}
 use Rattle.map_facts.proofs.Given.RuleWorld.Hands.{Hands}
 use Rattle.map_facts.specs.FactsCopiesBlocking.{HasNoShares}
 use Rattle.map_facts.proofs.Blocking.Targets.{copied_is, copied_shows}
 use Rattle.map_facts_late.specs.LateCopies.{CopiesLate, CopiesAborted, LateCopying}
 use Rattle.map_facts_late.proofs.Copiers.LateWent.{LateCame, late_goes, late_wrote, late_again, late_on}
+use Rattle.map_facts.proofs.Given.General.{some_is as is_some_of}
 
 module _ {K V : Type 0} (same : K → K → Bool) (hash : K → ℕ) (caller : ℕ) (setting : Setting) (began : ℕ) (w : World (Node K V)) (c : Chart K) (blocks : Blocks)
     (map : IsMapIn same hash setting w c blocks) (p : Copier) (setting_is : p.setting ≡ setting) (u t : ℕ)

@@ -28,13 +28,13 @@ use Rattle.map_facts.specs.Given.RuleMoves.{Announces, after}
 use Rattle.map_facts.specs.Given.RuleRule.{IsLawful}
 use Rattle.map_facts.specs.Given.RuleWords.{Blocks}
 use Rattle.map_facts.proofs.Given.RuleWords.OwnWords.{own_at_word}
-use Rattle.map_facts.proofs.Given.RuleWords.WritesWords.{is_some_of}
 use Rattle.map_facts.proofs.Copiers.CopierMoves.{table_again}
 use Rattle.map_facts.proofs.Blocking.Successors.{next_read, is_to_retire, rest_between, rest_last}
 use Rattle.map_facts.proofs.Blocking.Targets.{status_is, status_shows}
 use Rattle.map_facts_late.specs.Left.{Left}
 use Rattle.map_facts_late.specs.LateCopies.{CopiesLate, HasUnlinkedLate}
 use Rattle.map_facts_late.proofs.Copiers.LateWent.{LateCame, late_goes, late_wrote, late_on}
+use Rattle.map_facts.proofs.Given.General.{some_is as is_some_of}
 
 module _ {K V : Type 0} (same : K → K → Bool) (hash : K → ℕ) (caller : ℕ) (setting : Setting) (began : ℕ) (w : World (Node K V)) (c : Chart K) (blocks : Blocks)
     (map : IsMapIn same hash setting w c blocks) (p : Copier) (setting_is : p.setting ≡ setting) where

@@ -33,12 +33,12 @@ use Rattle.map_facts.specs.Given.RuleWords.{Blocks, byte_of, place_word, Shows}
 use Rattle.map_facts.proofs.Given.RuleKeys.TriesSeen.{IsNext, next_is}
 use Rattle.map_facts.proofs.Given.RuleMoves.Writes.{put_in_elsewhere}
 use Rattle.map_facts.proofs.Given.RuleWords.PlaceWordsWritten.{word-unmarked}
-use Rattle.map_facts.proofs.Given.RuleWords.WritesWords.{is_some_of}
 use Rattle.map_facts.proofs.Given.RuleWorld.Hands.{Hands}
 use Rattle.map_facts.proofs.Blocking.Placing.{try_inside, try_word, try_empty, may_write_try, put_shows}
 use Rattle.map_facts_late.specs.LateCopies.{CopiesLate, CopiesAborted, WorksLate}
 use Rattle.map_facts_late.proofs.Copiers.LateDone.{late_goes_on}
 use Rattle.map_facts_late.proofs.Copiers.LateWent.{LateCame, late_goes, late_wrote, aborted_behind, late_again, late_on}
+use Rattle.map_facts.proofs.Given.General.{some_is as is_some_of}
 
 module _ {K V : Type 0} (same : K → K → Bool) (hash : K → ℕ) (caller : ℕ) (setting : Setting) (began : ℕ) (w : World (Node K V)) (c : Chart K) (blocks : Blocks)
     (map : IsMapIn same hash setting w c blocks) (lawful : IsLawful same (spot_of hash)) (blocking : is_incremental setting.mode ≡ false) (p : Copier)

@@ -1,14 +1,14 @@
 -- What the laws promise, clause by clause, for the crates above.
 use Rattle.std.proofs.Common.{ℕ, Bool}
-use Rattle.map_measures.specs.Falls.Falls.{CallsFall, LateCallsFall, RowsFall, NumbersAreAsMany}
-use Rattle.map_measures.specs.Falls.FallsReserves.{ReservesFall, LateReservesFall, ReserveRowsFall, ReserveNumbersAreAsMany}
+use Rattle.map_measures.specs.Falls.Falls.{CallsFall, LateCallsFall, RowsFall}
+use Rattle.map_measures.specs.Falls.FallsReserves.{ReservesFall, LateReservesFall}
 use Rattle.map_measures.specs.Falls.FallsWithin.{CopiersFall, BlockingCopiersFall, LateCopiersFall}
 use Rattle.map_measures.proofs.Falls.Calls.CopiersPromised as copiers
-use Rattle.map_measures.proofs.Falls.Calls.Lengths as lengths
 use Rattle.map_measures.proofs.Falls.Calls.Promised as promised
-use Rattle.map_measures.proofs.Falls.Reserves.Lengths as reserve_lengths
 use Rattle.map_measures.proofs.Falls.Reserves.Promised as reserves
-use Rattle.map_measures.proofs.Falls.Reserves.Rows as reserve_rows
+use Rattle.map_measures.proofs.Falls.Calls.Lengths.{numbers_are_as_many}
+use Rattle.map_measures.proofs.Falls.Reserves.Lengths.{reserve_numbers_are_as_many}
+use Rattle.map_measures.proofs.Falls.Reserves.Rows.{reserve_rows_fall}
 
 module _ {K Q : Type 0} (V : Type 0) (same : K → K → Bool) (hash : K → ℕ) (asks : Q → K → Bool) where
   pub calls_fall : CallsFall V same hash asks
@@ -19,9 +19,6 @@ module _ {K Q : Type 0} (V : Type 0) (same : K → K → Bool) (hash : K → ℕ
 
   pub rows_fall : RowsFall V same hash asks
   rows_fall = promised.rows_fall V same hash asks
-
-pub numbers_are_as_many : {K V Q : Type 0} → NumbersAreAsMany K V Q
-numbers_are_as_many = lengths.numbers_are_as_many
 
 module _ {K : Type 0} (V : Type 0) (same : K → K → Bool) (hash : K → ℕ) where
   pub copiers_fall : CopiersFall V same hash
@@ -38,9 +35,3 @@ module _ {K : Type 0} (V : Type 0) (same : K → K → Bool) (hash : K → ℕ) 
 
   pub late_reserves_fall : LateReservesFall V same hash
   late_reserves_fall = reserves.late_reserves_fall V same hash
-
-pub reserve_rows_fall : {K V : Type 0} → ReserveRowsFall K V
-reserve_rows_fall = reserve_rows.reserve_rows_fall
-
-pub reserve_numbers_are_as_many : {K : Type 0} → ReserveNumbersAreAsMany K
-reserve_numbers_are_as_many = reserve_lengths.reserve_numbers_are_as_many

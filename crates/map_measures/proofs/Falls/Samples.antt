@@ -24,13 +24,13 @@ use Rattle.map_measures.specs.Falls.Calls.{nothing_within, one_of_eight, to_empt
 use Rattle.map_measures.proofs.Falls.Calls.Tries.{one_most}
 
 -- no numbers are below themselves
-not_below : (xs : List ℕ) → IsBelow xs xs → ⊥
+pub not_below : (xs : List ℕ) → IsBelow xs xs → ⊥
 not_below [] below = absurd below
 not_below (x ∷ xs) (inl l) = absurd (omega (arith, l))
 not_below (x ∷ xs) (inr h) = not_below xs h.1
 
 -- numbers with one beginning are compared by what follows
-by_rest : {A : Type 0} (x : ℕ) → (x < x) ⊎ ((x ≡ x) × A) → A
+pub by_rest : {A : Type 0} (x : ℕ) → (x < x) ⊎ ((x ≡ x) × A) → A
 by_rest x (inl l) = absurd (omega (arith, l))
 by_rest x (inr h) = h.1
 

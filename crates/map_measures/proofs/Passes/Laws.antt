@@ -1,9 +1,10 @@
 -- What the laws promise, clause by clause, for the crates above.
 use Rattle.std.proofs.Common.{ℕ, Bool}
-use Rattle.map_measures.specs.Passes.FallsSweeps.{SweepsFall, TellingFalls, SweepRowsFall, SweepNumbersAreAsMany}
+use Rattle.map_measures.specs.Passes.FallsSweeps.{SweepsFall, TellingFalls, SweepRowsFall}
 use Rattle.map_measures.proofs.Passes.Promised as promised
 use Rattle.map_measures.proofs.Passes.Rows as rows
 use Rattle.map_measures.proofs.Passes.Telling as telling
+use Rattle.map_measures.proofs.Passes.Promised.{sweep_numbers_are_as_many}
 
 module _ {K : Type 0} (V : Type 0) (same : K → K → Bool) (hash : K → ℕ) where
   pub sweeps_fall : SweepsFall V same hash
@@ -14,6 +15,3 @@ module _ {K : Type 0} (V : Type 0) (same : K → K → Bool) (hash : K → ℕ) 
 
   pub sweep_rows_fall : SweepRowsFall V same hash
   sweep_rows_fall = rows.sweep_rows_fall V same hash
-
-pub sweep_numbers_are_as_many : {K : Type 0} → SweepNumbersAreAsMany K
-sweep_numbers_are_as_many = promised.sweep_numbers_are_as_many

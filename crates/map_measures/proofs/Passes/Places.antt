@@ -26,7 +26,7 @@ abbrev pub none_within : List ℕ
 none_within = 0 ∷ 0 ∷ 0 ∷ 0 ∷ 0 ∷ 0 ∷ []
 
 -- both are so
-second : (x y : Bool) → (x && y) ≡ true → y ≡ true
+pub second : (x y : Bool) → (x && y) ≡ true → y ≡ true
 second true y e = e
 second false y e = absurd (cc e)
 

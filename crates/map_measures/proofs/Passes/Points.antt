@@ -43,7 +43,6 @@ use Rattle.many_calls.proofs.Given.RuleWords.LinksRead.{link_ends}
 use Rattle.many_calls.proofs.Given.RuleWords.LinksSeen.{next_leads}
 use Rattle.many_calls.proofs.Given.RuleWords.PlaceWordsMarks.{has_copying}
 use Rattle.many_calls.proofs.Given.RuleWords.TablesSeen.{place_there}
-use Rattle.many_calls.proofs.Given.RuleWords.WritesWords.{is_some_of}
 use Rattle.many_calls.specs.Given.PointsFactsDisposes.{DisposeFacts}
 use Rattle.many_calls.specs.Given.PointsMeasures.{IsBelow}
 use Rattle.many_calls.specs.Given.PointsMeasuresDisposes.{number_of_dispose}
@@ -66,9 +65,10 @@ use Rattle.map_measures.proofs.Passes.Counters.{keeps_counted}
 use Rattle.map_measures.proofs.Passes.Over.{turn_is, made, within, few, has_marks, further_on}
 use Rattle.map_measures.proofs.Passes.Places.{none_within, entering_is, to_come, entering_below, beginning_below, copying_below, seen_below}
 use Rattle.map_measures.proofs.Passes.Within.{copier_stands}
+use Rattle.seize_words.proofs.General.{some_is as is_some_of}
 
 -- what is below one number of a stage is so at each stage before the next
-before_stage : {A B : Type 0} (x y x2 y2 stage : ℕ) → stage < 4 → (x < x2) ⊎ ((x ≡ x2) × ((y < y2) ⊎ ((y ≡ y2) × A)))
+pub before_stage : {A B : Type 0} (x y x2 y2 stage : ℕ) → stage < 4 → (x < x2) ⊎ ((x ≡ x2) × ((y < y2) ⊎ ((y ≡ y2) × A)))
     → (x < x2) ⊎ ((x ≡ x2) × ((y < y2) ⊎ ((y ≡ y2) × ((stage < 4) ⊎ ((stage ≡ 4) × B)))))
 before_stage x y x2 y2 stage low (inl l) = inl l
 before_stage x y x2 y2 stage low (inr (e, inl l)) = inr (e, inl l)

@@ -14,22 +14,12 @@ use Rattle.many_calls.specs.Given.PointsMeasures.{IsBelow}
 use Rattle.map_measures.specs.Falls.Reserves.{number_within}
 use Rattle.map_measures.specs.Falls.Room.{planned_in_copying, tables_to_come}
 use Rattle.map_measures.specs.Passes.Sweeps.{stale, number_of_sweep}
-
--- no numbers are below themselves
-not_below : (xs : List ℕ) → IsBelow xs xs → ⊥
-not_below [] below = absurd below
-not_below (x ∷ xs) (inl l) = absurd (omega (arith, l))
-not_below (x ∷ xs) (inr h) = not_below xs h.1
+use Rattle.map_measures.proofs.Falls.Samples.{not_below, by_rest as behind}
 
 -- a higher number is not below, whatever follows
 higher : {A : Type 0} (x y : ℕ) → y < x → (x < y) ⊎ ((x ≡ y) × A) → ⊥
 higher x y more (inl l) = absurd (omega (arith, more, l))
 higher x y more (inr h) = absurd (let e = h.0 in omega (arith, more, e))
-
--- numbers with one beginning are compared by what follows
-behind : {A : Type 0} (x : ℕ) → (x < x) ⊎ ((x ≡ x) × A) → A
-behind x (inl l) = absurd (omega (arith, l))
-behind x (inr h) = h.1
 
 module _ {K : Type 0} (hash : K → ℕ) (c : Chart K) (blocks : Blocks) (p : Sweep) where
   abbrev number : Sweep → List ℕ

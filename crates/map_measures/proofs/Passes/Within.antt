@@ -27,9 +27,9 @@ use Rattle.map_measures.specs.Falls.FallsWithin.{GoesFurther}
 use Rattle.map_measures.specs.Falls.Reserves.{numbers_at}
 use Rattle.map_measures.proofs.Falls.Calls.LateFacts.{late_copying}
 use Rattle.map_measures.proofs.Falls.Copiers.Rows.{in_row, retires_back}
-use Rattle.map_measures.proofs.Falls.Laws.{reserve_rows_fall}
 use Rattle.map_measures.proofs.Falls.Reserves.Stands.{WholeStands, reserve_stands}
 use Rattle.many_calls.specs.Given.LateFactsSweeps.{CopiesTable}
+use Rattle.map_measures.proofs.Falls.Reserves.Rows.{reserve_rows_fall}
 
 -- a reservation with this copier
 abbrev pub reserve_with : Setting → Copier → Reserve

@@ -16,7 +16,7 @@ use Rattle.many_calls.specs.Given.RuleMaps.{IsTable}
 use Rattle.many_calls.specs.Given.RuleMoves.{is_of_caller}
 use Rattle.many_calls.specs.Given.RuleWords.{Blocks}
 use Rattle.many_calls.specs.Given.PointsFactsCopiesBlocking.{CopierFactsBlocking, CopyingFactsBlocking, HasNoShares}
-use Rattle.many_calls.specs.Given.PointsTold.{IsRowOfCall, IsRowOfCopier}
+use Rattle.many_calls.specs.Given.PointsTold.{IsRowOfCopier}
 use Rattle.many_calls.specs.Given.LateKinds.{LooksAt}
 use Rattle.many_calls.specs.Given.LateLateCopies.{LateCopierFacts, LateCopying}
 use Rattle.many_calls.specs.Sights.{Sight, seen_by}
@@ -24,18 +24,12 @@ use Rattle.many_calls.specs.Together.{UnderWay, OnKey, ForRoom, Counting, OverAl
 use Rattle.map_measures.specs.Waits.Others.{EndsAt, copier_in, copier_of}
 use Rattle.map_measures.specs.Waits.Waits.{IsUnfinished}
 use Rattle.map_measures.proofs.Waits.Awaited.{HasOther}
-use Rattle.map_measures.proofs.Waits.Works.{OnlyLooks}
+use Rattle.map_measures.proofs.Waits.Works.{OnlyLooks, no_row as looks_no_row}
 use Rattle.map_measures.specs.Waiters.Blocking.{AbortsAt, HaveEndsBlocking}
 use Rattle.map_measures.proofs.Waiters.Stands.{IsAtRow, beside_none, copier_knows}
 use Rattle.map_measures.proofs.Waiters.Askers.{askers_have_others_blocking}
 
--- a call that only looks stands within no copier, and at no row
-looks_no_row : (q : Calling) → LooksAt q → IsRowOfCall q → ⊥
-looks_no_row (at.Looks lookup) looks row = row
-looks_no_row (at.Over end) looks row = row
-looks_no_row _ looks row = absurd looks
-
-looks_within : (q : Calling) → LooksAt q → copier_in q ≡ None
+pub looks_within : (q : Calling) → LooksAt q → copier_in q ≡ None
 looks_within (at.Looks lookup) looks = refl
 looks_within (at.Over end) looks = refl
 looks_within _ looks = absurd looks

@@ -30,7 +30,6 @@ use Rattle.many_calls.proofs.Claims.Knows.{fresh_knows}
 use Rattle.many_calls.proofs.Given.PointsBlocking.Points.{may_copier_blocking}
 use Rattle.many_calls.proofs.Given.RuleSpared.{step_spares}
 use Rattle.many_calls.proofs.Given.RuleWords.TablesSeen.{word_stands}
-use Rattle.many_calls.proofs.Given.RuleWords.WritesWords.{is_some_of}
 use Rattle.seize_words.proofs.OneMemory.OneOwner.AfterWrites.{word_at-with_word}
 use Rattle.seize_acts.proofs.Given.SeizeMemoryWords.Named.{same_at-refl}
 use Rattle.map_measures.specs.Waits.Others.{EndsAt}
@@ -38,6 +37,7 @@ use Rattle.map_measures.specs.Waiters.Blocking.{AbortsAt}
 use Rattle.map_measures.proofs.Waiters.Moves.{AllKept}
 use Rattle.map_measures.proofs.Waiters.Reached.{Reached, aborts_keep, announces_keep, aside_keeps, first_stays, past_on, status_now}
 use Rattle.map_measures.proofs.Waiters.Writes.{root_spares, root_word}
+use Rattle.seize_words.proofs.General.{some_is as is_some_of}
 
 -- the points of a copier at which it has no place to copy, or to count, but the one at which it makes its target the root
 abbrev pub IsAside : Point → Type 0

@@ -31,7 +31,6 @@ use Rattle.many_calls.specs.Given.PointsFactsCopiesBlocking.{CopiesInto, HasDone
 use Rattle.many_calls.proofs.Given.RuleMoves.Totals.{total_with_counted}
 use Rattle.many_calls.proofs.Given.RuleShares.CopiersShares.{done_fits}
 use Rattle.many_calls.proofs.Given.RuleWords.TablesSeen.{len_is, word_stands}
-use Rattle.many_calls.proofs.Given.RuleWords.WritesWords.{is_some_of}
 use Rattle.seize_words.proofs.OneMemory.OneOwner.AfterWrites.{word_at-with_word}
 use Rattle.seize_words.proofs.OneMemory.OneOwner.Operations.{added}
 use Rattle.seize_words.proofs.OneMemory.Plans.{ends_if}
@@ -39,6 +38,7 @@ use Rattle.seize_acts.proofs.Given.SeizeMemoryWords.Named.{same_at-refl}
 use Rattle.map_measures.specs.Waits.Others.{EndsAt}
 use Rattle.map_measures.proofs.Waiters.Moves.{AllKept, counted}
 use Rattle.map_measures.proofs.Waiters.Reached.{MovedSo, Reached, moved, past_on, rule, shows}
+use Rattle.seize_words.proofs.General.{some_is as is_some_of}
 
 -- where not all shares are counted, one is not
 some_uncounted : (d : ℕ → Share) (n : ℕ) → total is_counted d n ≢ n → (j : ℕ) × (j < n) × (d j ≢ Counted)

@@ -3,7 +3,7 @@ use Rattle.std.specs.Prelude.{cond, eqb, leb, ltb, ◌&&◌, ◌+◌}
 use Rattle.std.proofs.Common.{◌≡◌, ◌≢◌, ℕ, ◌<◌, ◌≤◌, ◌⊎◌, inl, inr, Bool, true, false, refl, ap, sym, subst, ◌∙◌, arith, eqb-true}
 use Rattle.std.proofs.lemmas.Bool.{cases_lt, eq-eqb, ne_eqb}
 use Rattle.map_tables.specs.declared.status.TheConstants.Status.{PENDING, PROMOTED, ABORTED}
-use Rattle.many_calls.specs.Given.RuleChart.{Chart, Share, Free, Claimed, Done, Counted, Lost, put, put_in}
+use Rattle.many_calls.specs.Given.RuleChart.{Chart, Share, Claimed, Done, Counted, Lost, put, put_in}
 use Rattle.many_calls.specs.Given.RuleMaps.{spot_of}
 use Rattle.many_calls.specs.Given.RuleMoves.{Move, Links, Stores, Replaces, Removes, Marks, MarksBlocking, Skips, Unmarks, Puts, Covers, PutsLate, Claims, Reclaims, Counts, GivesUp, Aborts, Promotes, Announces, Allowed, after, with_counted, with_lost, is_of_caller}
 use Rattle.many_calls.specs.Given.RuleLasts.{IsBy}
@@ -11,6 +11,7 @@ use Rattle.many_calls.specs.Given.RuleRule.{Rule}
 use Rattle.map_measures.specs.Waits.Waits.{IsUnfinished}
 use Rattle.map_measures.proofs.Waits.Endings.{OthersEnd}
 use Rattle.map_measures.specs.Waiters.Blocking.{IsUncounted}
+use Rattle.many_calls.proofs.Given.PointsSteps.AloneCharts.{not_counted as counted_lost}
 
 -- a share that is put among others
 put_uncounted : (f : ℕ → ℕ → Share) (t k : ℕ) (share : Share) → share ≢ Counted → (u j : ℕ) → f u j ≢ Counted → put_in f t k share u j ≢ Counted
@@ -28,18 +29,6 @@ put_lost f t k share new u j = by (eqb u t) (eqb j k)
     by true true e = absurd (new e)
     by true false e = e
     by false b e = e
-
--- what is counted, or given up, was counted, or given up, or is this caller's
-pub counted_lost : (i : ℕ) (share : Share) → with_counted i share ≡ Lost → share ≡ Lost
-counted_lost i Free e = absurd (cc e)
-counted_lost i (Claimed k) e = absurd (cc e)
-counted_lost i Counted e = absurd (cc e)
-counted_lost i Lost e = refl
-counted_lost i (Done k) e = by (eqb k i) e
-  where
-    by : (b : Bool) → cond b Counted (Done k) ≡ Lost → Done k ≡ Lost
-    by true is = absurd (cc is)
-    by false is = absurd (cc is)
 
 pub lost_uncounted : (i : ℕ) (share : Share) → share ≢ Counted → with_lost i share ≢ Counted
 lost_uncounted i share old = by (is_of_caller i share)

@@ -20,7 +20,6 @@ use Rattle.many_calls.specs.Given.RuleChart.{Chart}
 use Rattle.many_calls.specs.Given.RuleInWorld.{IsMapIn}
 use Rattle.many_calls.specs.Given.RuleWords.{Blocks, Shows}
 use Rattle.many_calls.specs.Given.PointsFactsCopiesBlocking.{RestsIn}
-use Rattle.many_calls.proofs.Given.RuleWords.WritesWords.{is_some_of}
 use Rattle.seize_words.proofs.OneMemory.OneOwner.AfterWrites.{word_at-with_word}
 use Rattle.seize_words.proofs.OneMemory.OneOwner.Operations.{exchanged}
 use Rattle.seize_acts.proofs.Given.SeizeMemoryWords.Named.{same_at-refl}
@@ -28,6 +27,7 @@ use Rattle.map_measures.specs.Waits.Others.{EndsAt}
 use Rattle.map_measures.specs.Waiters.Blocking.{AbortsAt}
 use Rattle.map_measures.proofs.Waiters.Moves.{AllKept}
 use Rattle.map_measures.proofs.Waiters.Reached.{Reached, past_on, promotes_keep, root_before, root_now, shows}
+use Rattle.seize_words.proofs.General.{some_is as is_some_of}
 
 module _ {K V : Type 0} (same : K → K → Bool) (hash : K → ℕ) (caller : ℕ) (setting : Setting) (mode : is_incremental setting.mode ≡ false) (w : World (Node K V)) (c : Chart K) (blocks : Blocks)
     (map : IsMapIn same hash setting w c blocks) (p : Copier) (setting_is : p.setting ≡ setting) (m2 : Mem (Node K V)) (end : Copier × Yielding (Node K V) Table)

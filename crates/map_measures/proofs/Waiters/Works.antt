@@ -1,6 +1,6 @@
 -- In blocking mode, a copier that has places to copy: after its step each copying that is not over has who ends it on; and if it gives its places up, it is to say so.
 use Rattle.std.specs.Prelude.{if◌then◌else◌, ℕ, ◌+◌, ◌-◌, ◌%◌, ◌/◌, ◌^◌, ◌==◌, nat_lt, cond, eqb, Bool, true, false, Ok, Err}
-use Rattle.std.proofs.Common.{◌≡◌, ◌≢◌, zero, suc, ◌<◌, ◌≤◌, ◌⊎◌, inl, inr, refl, ap, sym, subst, ◌∙◌, arith, eqb-true}
+use Rattle.std.proofs.Common.{◌≡◌, ◌≢◌, ◌<◌, ◌≤◌, ◌⊎◌, inl, inr, refl, ap, sym, subst, ◌∙◌, arith, eqb-true}
 use Rattle.std.proofs.lemmas.Bool.{cases_eq, eq-eqb, lt-ltb, ne_eqb}
 use Rattle.seize_words.specs.OneMemory.Op.{Out, Found, Exchanged}
 use Rattle.seize_words.specs.OneMemory.Mem.{Mem, Took, value_at}
@@ -34,8 +34,11 @@ use Rattle.many_calls.proofs.Given.RuleKeys.Always.{Always, always_if, always_st
 use Rattle.map_measures.proofs.Waits.Endings.{OthersEnd}
 use Rattle.map_measures.specs.Waits.Others.{EndsAt}
 use Rattle.map_measures.specs.Waiters.Blocking.{AbortsAt, IsUncounted}
-use Rattle.map_measures.proofs.Waiters.Moves.{AllKept, any_move, counted_lost, given_up, lost_before, lost_uncounted, or_own, still}
+use Rattle.map_measures.proofs.Waiters.Moves.{AllKept, any_move, given_up, lost_before, lost_uncounted, or_own, still}
 use Rattle.map_measures.proofs.Waiters.Reached.{Reached, moved, rule}
+use Rattle.many_calls.proofs.Given.PointsSteps.AloneCharts.{not_counted as counted_lost}
+use Rattle.many_calls.proofs.Given.RuleShares.LastsShares.{total_zero}
+use Rattle.many_calls.proofs.Given.RuleShares.SharesBlocking.{lost_no_more as lost_none}
 
 -- the points of a copier at which it has places to copy, or to count, or has given up
 abbrev pub IsWork : Point → Type 0
@@ -120,14 +123,6 @@ module _ (K V : Type 0) (hash : K → ℕ) (p : Copier) (mode : is_incremental p
       by (at.Puts word code table probe) its s = always_steps Works m m2 (plan_at hash p (at.Puts word code table probe)) end (put_works word code table probe) s
       by _ its s = absurd its
 
--- where a sum is nothing, each of its numbers is
-total_zero : {X : Type 0} (f : X → ℕ) (d : ℕ → X) (n : ℕ) → total f d n ≡ 0 → (j : ℕ) → j < n → f (d j) ≡ 0
-total_zero f d zero none j l = absurd (omega (arith, l))
-total_zero f d (suc n) none j l = elim (cases_eq j n) as (λ _. f (d j) ≡ 0) [
-  | inl e ↦ subst (λ (k : ℕ). f (d k) ≡ 0) (sym e) (omega (arith, none))
-  | inr other ↦ total_zero f d n (omega (arith, none)) j (omega (arith, l, other))
-]
-
 -- what a caller has not done it does not count
 none_counted : (i : ℕ) (share : Share) → is_done_by i share ≡ 0 → share ≢ Counted → with_counted i share ≢ Counted
 none_counted i (Done k) none old = by (eqb k i) none
@@ -139,14 +134,6 @@ none_counted i Free none old = old
 none_counted i (Claimed k) none old = old
 none_counted i Counted none old = old
 none_counted i Lost none old = old
-
--- of what it has given up it has nothing
-lost_none : (i : ℕ) (share : Share) → is_of_caller i (with_lost i share) ≡ false
-lost_none i share = by (is_of_caller i share) refl
-  where
-    by : (b : Bool) → is_of_caller i share ≡ b → is_of_caller i (cond b Lost share) ≡ false
-    by true is = refl
-    by false is = is
 
 none_done : (i : ℕ) (share : Share) → is_of_caller i share ≡ false → is_done_by i share ≡ 0
 none_done i (Done k) none = ap (λ (b : Bool). cond b 1 0) none

@@ -10,7 +10,7 @@ use Rattle.map_tables.specs.declared.table.Table.{Table}
 use Rattle.map_machines.specs.declared.copier.Copier.{Copier}
 use Rattle.map_machines.specs.declared.copier.Copying.{Copying as Point}
 use Rattle.map_machines.specs.declared.copier.Copying.TheVariants as copies
-use Rattle.many_calls.specs.Given.RuleChart.{Still, Copying, Copied, Place, Empty, Tombstone, Holds, Share, Free, Claimed, Done, Counted, Lost, Chart, is_marked, is_settled}
+use Rattle.many_calls.specs.Given.RuleChart.{Share, Free, Claimed, Done, Counted, Lost, Chart, is_settled}
 use Rattle.many_calls.specs.Given.RuleMaps.{spot_of}
 use Rattle.many_calls.specs.Given.RuleMoves.{is_done_by}
 use Rattle.many_calls.specs.Given.RuleRule.{Agrees, Rule}
@@ -23,14 +23,7 @@ use Rattle.many_calls.specs.Together.{UnderWay, Together, in_slot}
 use Rattle.map_measures.specs.Waits.Others.{IsToCount, IsOpen, EndsAt, HaveEnds, AskersHaveOthers, copier_of}
 use Rattle.map_measures.specs.Waits.Waits.{IsUnfinished}
 use Rattle.map_measures.proofs.Waits.Claimed.{chosen}
-
--- what is settled is marked
-settled_marked : (p : Place) → is_settled p ≡ true → is_marked p ≡ true
-settled_marked (Empty marked) e = e
-settled_marked (Tombstone marked) e = e
-settled_marked (Holds n Still borrowed) e = absurd (cc e)
-settled_marked (Holds n Copying borrowed) e = absurd (cc e)
-settled_marked (Holds n Copied borrowed) e = refl
+use Rattle.many_calls.proofs.Given.PointsCopiers.Marks.{settled_marked}
 
 -- what this caller has done counts for it
 pub done_one : (k i : ℕ) (share : Share) → share ≡ Done k → k ≡ i → is_done_by i share ≡ 1

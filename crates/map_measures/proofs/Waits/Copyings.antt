@@ -44,6 +44,7 @@ use Rattle.many_calls.specs.Given.LateToldReserves.{IsRowOfReserve}
 use Rattle.many_calls.specs.Given.LateToldSweeps.{IsRowOfSweep}
 use Rattle.map_measures.proofs.Waits.Copiers.{Proceeds, Sees, copier_waits}
 use Rattle.map_measures.proofs.Waits.Never.{Advances, Settles, always_within, sum_goes, new_table_goes, dispose_goes}
+use Rattle.many_calls.specs.Given.LateFactsReserves.{CopiesPairs as Copying}
 
 -- what the copier within a reservation, or within a sweep, has seen
 abbrev pub RoomSees : {K V : Type 0} → Mem (Node K V) → Reserving → Type 0
@@ -93,11 +94,6 @@ module _ (K V : Type 0) (p : Reserve) where
   summed_goes table (next, progress.Waits) on = on
   summed_goes table (next, progress.Done count) on = enough_goes table (reserve.needed p.additional count)
   summed_goes table (next, progress.Refused fault) on = tt
-
-  -- but for its copying
-  abbrev Copying : Reserving → Type 0
-  Copying (reserves.Copies copier) = Unit {0}
-  Copying _ = ⊥
 
   room_goes : (hash : K → ℕ) (stands : Reserving) → (Copying stands → ⊥) → AlwaysOf RoomOn (reserve.plan_at {V = V} hash p stands)
   room_goes hash reserves.Reads none = root_goes

@@ -52,7 +52,7 @@ use Rattle.map_measures.proofs.Waits.Copyings.{RoomSees, room_waits, SweepSees, 
 use Rattle.map_measures.proofs.Waits.Shown.{copying_shown, copier_shown, copier_shown_blocking, copier_shown_late}
 use Rattle.many_calls.proofs.Given.RuleKeys.Always.{always_steps}
 
-mode_of : (s setting : Setting) (b : Bool) → s ≡ setting → is_incremental setting.mode ≡ b → is_incremental s.mode ≡ b
+pub mode_of : (s setting : Setting) (b : Bool) → s ≡ setting → is_incremental setting.mode ≡ b → is_incremental s.mode ≡ b
 mode_of s setting b is mode = ap (λ (x : Setting). is_incremental x.mode) is ∙ mode
 
 module _ {K V : Type 0} (same : K → K → Bool) (hash : K → ℕ) (w : World (Node K V)) (caller : ℕ) (setting : Setting) (c : Chart K) (blocks : Blocks)

@@ -36,7 +36,7 @@ no_copying (at.Looks lookup) looks copying = copying
 no_copying (at.Over end) looks copying = copying
 no_copying _ looks copying = absurd looks
 
-no_row : (q : Calling) → LooksAt q → IsRowOfCall q → ⊥
+pub no_row : (q : Calling) → LooksAt q → IsRowOfCall q → ⊥
 no_row (at.Looks lookup) looks row = row
 no_row (at.Over end) looks row = row
 no_row _ looks row = absurd looks

@@ -14,7 +14,7 @@ use Rattle.map_rule.proofs.Words.PlaceWords.{pair_block}
 use Rattle.map_rule.proofs.Words.PlaceWordsFinding.{may_name-empty, may_name-tombstone, may_name-pair}
 use Rattle.map_rule.proofs.Words.PlacesShown.{AreStored, byte_of-few}
 use Rattle.map_rule.proofs.Words.WordsSeen.{HasKey, Tells}
-use Rattle.map_rule.proofs.Words.WritesWords.{is_some_of}
+use Rattle.map_machines.proofs.Given.General.{some_is as is_some_of}
 
 module _ {K V : Type 0} (same : K → K → Bool) (hash : K → ℕ) (fits : (k : K) → hash k < 2 ^ 64) (m : Mem (Node K V)) (c : Chart K) (blocks : Blocks) (root : ℕ)
     (shows : Shows hash m c blocks root) (stored : AreStored c) (t i : ℕ) (made : t < c.past) (known : blocks.table_known t ≡ true) where

@@ -13,8 +13,9 @@ use Rattle.map_machines.specs.Given.TablesDeclared.table_words.TheConstants.{NEX
 use Rattle.map_rule.specs.Chart.{Chart}
 use Rattle.map_rule.specs.Words.{Blocks, next_word, place_word, ShowsTable, Shows}
 use Rattle.map_rule.specs.Maps.{IsTable}
-use Rattle.map_rule.proofs.Words.WritesWords.{at_word_block, at_place_block, is_some_of}
+use Rattle.map_rule.proofs.Words.WritesWords.{at_word_block, at_place_block}
 use Rattle.map_rule.proofs.Words.BlocksApart.{values_apart}
+use Rattle.map_machines.proofs.Given.General.{some_is as is_some_of}
 
 -- the block of a link
 pub block_of_link : (block : ℕ) → block * 2048 / 2048 ≡ block

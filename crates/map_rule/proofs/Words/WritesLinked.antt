@@ -11,8 +11,9 @@ use Rattle.map_rule.specs.Chart.{Chart, put}
 use Rattle.map_rule.specs.Rule.{Common}
 use Rattle.map_rule.specs.Moves.{Links, after}
 use Rattle.map_rule.specs.Words.{Blocks, Shows, next_word, root_word}
-use Rattle.map_rule.proofs.Words.WritesWords.{is_some_of, values_same, table_words, word_kept}
+use Rattle.map_rule.proofs.Words.WritesWords.{values_same, table_words, word_kept}
 use Rattle.map_rule.proofs.World.Linked.{IsNewTable, IsUnmade, linked_shown, with_table_block}
+use Rattle.map_machines.proofs.Given.General.{some_is as is_some_of}
 
 -- the links to the tables behind, after one more was linked behind the last one
 next_links : (table : ℕ → ℕ) (past p t b : ℕ) → past ≡ suc p → t < past

@@ -9,7 +9,8 @@ use Rattle.map_machines.specs.Given.TablesDeclared.node.Node.{Node}
 use Rattle.map_machines.specs.Given.TablesDeclared.table_words.TheConstants.{NEXT, CLAIM, COPIED, STATUS, PLACES}
 use Rattle.map_rule.specs.Chart.{Chart, put}
 use Rattle.map_rule.specs.Words.{Blocks, ShowsTable, Shows}
-use Rattle.map_rule.proofs.Words.WritesWords.{is_some_of, values_same, word_kept, word_put}
+use Rattle.map_rule.proofs.Words.WritesWords.{values_same, word_kept, word_put}
+use Rattle.map_machines.proofs.Given.General.{some_is as is_some_of}
 
 module _ {K V : Type 0} (hash : K → ℕ) (m : Mem (Node K V)) (c : Chart K) (blocks : Blocks) (root : ℕ) (s : Shows hash m c blocks root) where
   -- another claim

@@ -1,5 +1,5 @@
 -- What is read of a map's tables after one word of them was written.
-use Rattle.std.specs.Prelude.{Option, Some, IsSome, ◌&&◌}
+use Rattle.std.specs.Prelude.{Some, ◌&&◌}
 use Rattle.std.proofs.Common.{◌≡◌, ◌≢◌, ℕ, ◌+◌, ◌*◌, ◌^◌, ◌<◌, Bool, true, false, cond, eqb, refl, ap, ap₂, ◌∙◌, arith, eqb-true}
 use Rattle.std.proofs.lemmas.Bool.{eq-eqb, ne_eqb, eqb-false}
 use Rattle.map_machines.specs.Given.SeizeWordsDeclared.at.At.TheVariants.{Word}
@@ -11,6 +11,7 @@ use Rattle.map_machines.specs.Given.TablesDeclared.table_words.TheConstants.{PLA
 use Rattle.map_machines.specs.Given.TablesTablePlaces.{at_word, at_place}
 use Rattle.map_rule.specs.Chart.{Chart, Place, put, put_in}
 use Rattle.map_rule.specs.Words.{Blocks, Shows}
+use Rattle.map_machines.proofs.Given.General.{some_is as is_some_of}
 
 -- the words of a table whose link is to this block
 pub at_word_block : (table : Table) (block number : ℕ) → table.link ≡ block * 2048 → at_word table number ≡ Word block number
@@ -19,9 +20,6 @@ at_word_block table block number is = ap (λ b. Word b number) (omega arith)
 -- and those of its places, where the table is not too long
 pub at_place_block : (table : Table) (block i : ℕ) → table.link ≡ block * 2048 → i < 2 ^ 48 → at_place table i ≡ Word block (i + PLACES)
 at_place_block table block i is fits = ap₂ Word (omega arith) (omega arith)
-
-pub is_some_of : {T : Type 0} (o : Option T) (value : T) → o ≡ Some value → IsSome o
-is_some_of o value e = grind arith
 
 places_apart : (i j : ℕ) → eqb (j + PLACES) (i + PLACES) ≡ eqb j i
 places_apart i j = grind arith

@@ -1,16 +1,12 @@
 -- A word that is written as it is leaves the memory as it is.
-use Rattle.std.specs.Prelude.{Option, Some, None, List, [], ◌∷◌, length, slice_get, slice_set, slice_index_or, if◌then◌else◌, ◌-◌}
+use Rattle.std.specs.Prelude.{Option, Some, None, List, [], ◌∷◌, length, slice_set, slice_index_or, if◌then◌else◌, ◌-◌}
 use Rattle.std.proofs.Common.{◌≡◌, ℕ, zero, suc, ◌<◌, refl, ap, sym, ◌∙◌, arith}
 use Rattle.std.proofs.lemmas.Bool.{ne_eqb}
 use Rattle.map_machines.specs.Given.SeizeWordsDeclared.at.At.TheVariants.{Word}
 use Rattle.map_machines.specs.Given.SeizeWordsDeclared.block.Block.{Block}
 use Rattle.map_machines.specs.Given.SeizeWordsMem.{Mem, block_of, word_in, with_word_in, word_at, with_word}
 use Rattle.map_machines.proofs.Given.SeizeWordsOneOwner.AfterWrites.{placed}
-
-set_found : {X : Type 0} (xs : List X) (i : ℕ) (x : X) → slice_get xs i ≡ Some x → slice_set xs i x ≡ xs
-set_found [] i x is = absurd (cc)
-set_found (y ∷ ys) zero x is = cc
-set_found (y ∷ ys) (suc i) x is = ap (λ zs. y ∷ zs) (set_found ys i x is)
+use Rattle.map_machines.proofs.Given.General.{set_same as set_found}
 
 set_same : {X : Type 0} (xs : List X) (i : ℕ) (x d : X) → i < length xs → slice_index_or xs i d ≡ x → slice_set xs i x ≡ xs
 set_same [] i x d inside is = absurd (omega arith)

@@ -16,7 +16,7 @@ use Rattle.map_rule.specs.Beside.{IsBeside, KeptBeside, StepsSpareOthers}
 use Rattle.map_rule.specs.InWorld.{IsIts, IsItsEvent, AllIts}
 use Rattle.map_rule.proofs.World.Hands.{hand_kept}
 use Rattle.map_rule.proofs.Words.BlocksApart.{new_apart}
-use Rattle.map_rule.proofs.Words.WritesWords.{is_some_of}
+use Rattle.map_machines.proofs.Given.General.{some_is as is_some_of}
 
 module _ {K V : Type 0} (caller : ℕ) (w : World (Node K V)) (c : Chart K) (blocks : Blocks) where
   kept_then : (b : ℕ) (v v2 v3 : World (Node K V)) → KeptBeside caller w c blocks b v v2 → KeptBeside caller w c blocks b v2 v3 → KeptBeside caller w c blocks b v v3

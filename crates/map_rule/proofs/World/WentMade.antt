@@ -25,7 +25,7 @@ use Rattle.map_rule.proofs.Words.LinksOwn.{outs_made, outs_dropped, known_same, 
 use Rattle.map_rule.proofs.World.MovesKnown.{tables_same}
 use Rattle.map_rule.proofs.World.OthersSpared.{keeps_made, keeps_dropped}
 use Rattle.map_rule.proofs.World.CounterSpared.{counter_apart, counter_made_apart}
-use Rattle.map_rule.proofs.Words.WritesWords.{is_some_of}
+use Rattle.map_machines.proofs.Given.General.{some_is as is_some_of}
 
 module _ {K V : Type 0} (same : K → K → Bool) (hash : K → ℕ) (setting : Setting) (w : World (Node K V)) (c : Chart K) (blocks : Blocks) (map : IsMapIn same hash setting w c blocks) where
   -- the world after this caller made this block

@@ -24,7 +24,7 @@ use Rattle.map_rule.proofs.Words.LinksOwn.{outs_same, known_same, links_none}
 use Rattle.map_rule.proofs.World.MovesKnown.{tables_same}
 use Rattle.map_rule.proofs.World.OthersSpared.{held_once}
 use Rattle.map_rule.proofs.World.CounterSpared.{counter_apart}
-use Rattle.map_rule.proofs.Words.WritesWords.{is_some_of}
+use Rattle.map_machines.proofs.Given.General.{some_is as is_some_of}
 
 module _ {K V : Type 0} (same : K → K → Bool) (hash : K → ℕ) (setting : Setting) (w : World (Node K V)) (c : Chart K) (blocks : Blocks) (map : IsMapIn same hash setting w c blocks)
     (b i : ℕ) (before new : Node K V) (making : w.hand b ≡ Making i) (is : value_at w.memory b ≡ Some before) (other : before ≢ node.Shards) where

@@ -25,10 +25,7 @@ use Rattle.map_straight.proofs.Shown.Links as links
 use Rattle.map_straight.proofs.Shown.Counting as pairs
 use Rattle.map_straight.proofs.Shown.Below.{numbers_below, below_current, same_current}
 use Rattle.map_straight.proofs.Shown.Permuted.{all_of, all_of-append, permuted}
-
-both : (x y : Bool) → (x && y) ≡ true → (x ≡ true) × (y ≡ true)
-both true y h = (refl, h)
-both false y h = absurd (cc)
+use Rattle.seize_words.proofs.General.{both_true as both}
 
 not_both : (x y : Bool) → (x && y) ≡ false → x ≡ true → y ≡ false
 not_both true y h g = h

@@ -18,9 +18,7 @@ use Rattle.map_rule.specs.Maps.{IsTable}
 use Rattle.map_rule.specs.Links.{LeadsTo}
 use Rattle.map_rule.proofs.Laws.{roots_lead, nexts_lead, links_have_tables}
 use Rattle.map_straight.specs.Shown.Shown.{Stands, table_at, table_of}
-
-is_some_of : {T : Type 0} (o : Option T) (value : T) → o ≡ Some value → IsSome o
-is_some_of o value e = grind arith
+use Rattle.seize_words.proofs.General.{some_is as is_some_of}
 
 -- the same word of the same memory
 module _ {T : Type 0} (m m2 : Mem T) (at at2 : At) (same : m2 ≡ m) (same_at : at2 ≡ at) where

@@ -13,14 +13,11 @@ use Rattle.owner_asks.specs.Pairs.Equals.{agree, agree_at, agree_at_each, agree_
 use Rattle.owner_asks.proofs.Pairs.Orders.{found_same, others_found, others_found_behind, put_found}
 use Rattle.owner_asks.specs.Pairs.Puts.{put, put_all}
 use Rattle.owner_asks.proofs.Pairs.Puts.{in_midst_of_keys, put_last}
+use Rattle.seize_words.proofs.General.{all_so as each_so}
 
 pub each_and : {X : Type 0} (P : X → Type 0) (xs : List X) (y : X) → AllByRecursion P xs → P y → AllByRecursion P (xs ++ (y ∷ []))
 each_and P [] y so its = (its, tt)
 each_and P (x ∷ xs) y so its = (so.0, each_and P xs y so.1 its)
-
-each_so : {X : Type 0} (P Q : X → Type 0) → ((x : X) → P x → Q x) → (xs : List X) → AllByRecursion P xs → AllByRecursion Q xs
-each_so P Q so [] all = tt
-each_so P Q so (x ∷ xs) all = (so x all.0, each_so P Q so xs all.1)
 
 -- a test that a Bool passes, or not
 yes_or_no : (b : Bool) → (b ≡ true → ⊥) → b ≡ false

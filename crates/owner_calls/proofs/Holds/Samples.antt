@@ -1,16 +1,15 @@
 -- Which pairs a memory has, and which have come, on cases worked by hand.
-use Rattle.std.specs.Prelude.{◌≡◌, ℕ, ◌<◌, ◌==◌, if◌then◌else◌, [], ◌∷◌, ◌++◌, None, Some}
+use Rattle.std.specs.Prelude.{◌≡◌, ℕ, ◌==◌, if◌then◌else◌, [], ◌∷◌, ◌++◌, None, Some}
 use Rattle.std.proofs.Common.{Bool, true, false, refl, arith, ◌∙◌, sym, inl, inr}
 use Rattle.std.proofs.lemmas.List.Sorted.{length_permutation}
 use Rattle.seize_words.specs.OneMemory.Mem.{Mem, fresh, value_at, value_in}
-use Rattle.seize.specs.World.{times}
 use Rattle.seize.specs.declared.rows.settle.Settled.TheVariants as settled
 use Rattle.map_tables.specs.declared.node.Node.{Node}
 use Rattle.map_tables.specs.declared.node.Node.TheVariants as node
-use Rattle.owner_whole.proofs.Given.FinishesEnds.CountedBlocks.{some_of_first}
 use Rattle.owner_calls.specs.Holds.Balances.{HasJust, Balances}
 use Rattle.owner_calls.specs.Holds.Came.{NoneCame, HandsOut, StayInPlace}
 use Rattle.owner_calls.specs.Holds.Held.{HoldsOn, held_in}
+use Rattle.owner_whole.proofs.Given.FinishesEnds.Frames.{that_one as here}
 
 -- a memory without blocks
 abbrev bare : Mem (Node ℕ ℕ)
@@ -51,12 +50,6 @@ not_away (b ∷ blocks, was, is) = let e = sym (nothing b) ∙ is.0 in cc e
 -- with the same pair in two blocks
 abbrev pub two : Mem (Node ℕ ℕ)
 two = record { roots = []; used = []; slots = []; blocks = Some (fresh (node.Pair 3 30) 0) ∷ Some (fresh (node.Pair 3 30) 0) ∷ []; choices = [] }
-
-here : (b c : ℕ) → 0 < times b (c ∷ []) → b ≡ c
-here b c some = elim (some_of_first b c [] some) as (λ _. b ≡ c) [
-  | inl e ↦ e
-  | inr none ↦ absurd (omega (arith, none))
-]
 
 -- A pair that was stored once does not stand there twice.
 not_twice : Balances two [] ((3, 30) ∷ []) ((3, 30) ∷ []) → ⊥

@@ -7,14 +7,14 @@ use Rattle.many_maps.specs.Given.SeizeWordsDeclared.block.Block.{Block}
 use Rattle.many_maps.specs.Given.SeizeFurther.{ListFrom}
 use Rattle.many_maps.specs.Given.SeizeWorld.{times}
 use Rattle.many_maps.specs.Given.SeizeDeclared.states.TheConstants.{NEXT as LINK}
-use Rattle.many_maps.proofs.Given.RuleWords.WritesWords.{is_some_of}
 use Rattle.many_maps.proofs.Ends.CountedBlocks.{some_here, some_last, times_here}
 use Rattle.many_maps.proofs.Ends.Memory.{list_link}
 use Rattle.owner_facts.specs.Maps.MeasuresEnds.{most_blocks, list_len}
 use Rattle.owner_facts.proofs.Maps.Ends.BlocksFew.{blocks_few, list_few, list_len_is}
+use Rattle.many_maps.proofs.Given.General.{some_is as is_some_of}
 
 -- a block with an entry is there
-entry_value : {T : Type 0} (o : Option (Block T)) (i : ℕ) → IsSome (entry_in o i) → IsSome (value_in o)
+pub entry_value : {T : Type 0} (o : Option (Block T)) (i : ℕ) → IsSome (entry_in o i) → IsSome (value_in o)
 entry_value None i some = some
 entry_value (Some x) i some = is_some_of (value_in (Some x)) x.value refl
 

@@ -19,12 +19,12 @@ use Rattle.many_maps.specs.Endings.{Finishing}
 use Rattle.many_maps.specs.FactsEnds.{back_of}
 use Rattle.many_maps.specs.Orders.{given_of, pairs_of, tables_in}
 use Rattle.many_maps.specs.Owners.{OwnEndFacts}
-use Rattle.many_maps.proofs.Ends.Said.{same_some}
 use Rattle.owner_facts.proofs.Maps.Begins.MachinesEnd.{lowered_ends}
 use Rattle.many_maps.specs.Given.SeizeWorld.{World}
 use Rattle.owner_facts.specs.Descends.Numbers.{ahead}
 use Rattle.owner_facts.specs.Descends.Owned.{HasOwn, OwnEndingsEnd, OwnEndingsFall, OwnGoes, goes_own, number_of_own, own_number}
 use Rattle.owner_facts.proofs.Descends.Points.{To, falls_at}
+use Rattle.many_maps.proofs.Given.General.{same_some}
 
 -- a block carries one list
 module _ {T : Type 0} (m : Mem T) where

@@ -32,14 +32,14 @@ use Rattle.many_maps.specs.Given.PointsSteps.{AreLawful}
 use Rattle.many_maps.specs.FactsEnds.{Joins, BeganIn, AtPairs, EndingFacts, EndFacts, RootAt, back_of, from_table, wait_before}
 use Rattle.many_maps.specs.Orders.{pairs_behind}
 use Rattle.many_maps.proofs.Ends.Pairs.{NextIs, next_there, next_is, next_seen}
-use Rattle.many_maps.proofs.Ends.Said.{same_some}
 use Rattle.owner_facts.specs.Maps.MeasuresEnds.{most_blocks, list_len}
 use Rattle.owner_facts.proofs.Maps.Ends.BlocksFew.{list_len_is}
 use Rattle.owner_facts.specs.Descends.Numbers.{ahead}
 use Rattle.owner_facts.proofs.Descends.Lists.{list_on, list_short, length_read}
+use Rattle.many_maps.proofs.Given.General.{same_some}
 
 -- behind a place that isn't the last fewer are left
-fewer : (place len : ℕ) → nat_lt place (len - 1) ≡ true → suc (len - (place + 1)) < suc (len - place)
+pub fewer : (place len : ℕ) → nat_lt place (len - 1) ≡ true → suc (len - (place + 1)) < suc (len - place)
 fewer place len k = grind (arith, k)
 
 -- something less is left behind a part of a list

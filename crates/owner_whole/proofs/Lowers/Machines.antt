@@ -46,10 +46,8 @@ use Rattle.map_measures.specs.Falls.Falls.{GoesFurther}
 use Rattle.map_measures.specs.Falls.FallsWithin.{GoesFurther as RoomGoesFurther}
 use Rattle.map_measures.specs.Falls.Reserves.{number_of_reserve}
 use Rattle.map_measures.proofs.Falls.Below.{below_followed}
-use Rattle.map_measures.proofs.Falls.Laws.{numbers_are_as_many, reserve_numbers_are_as_many}
 use Rattle.map_measures.specs.Passes.FallsSweeps.{ComesOn}
 use Rattle.map_measures.specs.Passes.Sweeps.{number_of_sweep}
-use Rattle.map_measures.proofs.Passes.Laws.{sweep_numbers_are_as_many}
 use Rattle.owner_whole.specs.Lowers.Lowers.{GoesOn, StepsLower}
 use Rattle.owner_whole.specs.Lowers.Numbers.{row_within, numbers_of}
 use Rattle.owner_whole.proofs.Lowers.KeyRows.{key_row_falls}
@@ -58,6 +56,9 @@ use Rattle.owner_whole.proofs.Lowers.RoomRows.{room_row_falls}
 use Rattle.owner_whole.proofs.Lowers.Rows.{left}
 use Rattle.owner_whole.proofs.Lowers.SweepRows.{sweep_row_falls}
 use Rattle.owner_whole.proofs.Lowers.Swept.{sweep_falls}
+use Rattle.map_measures.proofs.Falls.Calls.Lengths.{numbers_are_as_many}
+use Rattle.map_measures.proofs.Falls.Reserves.Lengths.{reserve_numbers_are_as_many}
+use Rattle.map_measures.proofs.Passes.Promised.{sweep_numbers_are_as_many}
 
 -- What goes on as a machine goes on as that of its kind, and is under way on.
 

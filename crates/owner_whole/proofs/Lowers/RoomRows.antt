@@ -24,11 +24,11 @@ use Rattle.owner_facts.specs.Given.CallersTogether.{UnderWay, ForRoom, Together}
 use Rattle.map_measures.specs.Falls.FallsWithin.{GoesFurther}
 use Rattle.map_measures.specs.Falls.Reserves.{number_of_reserve}
 use Rattle.map_measures.proofs.Falls.Below.{below_followed}
-use Rattle.map_measures.proofs.Falls.Laws.{reserve_rows_fall}
 use Rattle.owner_whole.proofs.Whole.Rooms.Account.{room_told_by, RoomAccount, RoomSettling, RoomOver, room_account}
 use Rattle.owner_whole.proofs.Lowers.Kept.{RoomLinks, room_kept}
 use Rattle.owner_whole.proofs.Lowers.Rows.{left, with_left, settling_less, row_lowers}
 use Rattle.owner_whole.proofs.Lowers.Within.{RoomWithin, room_within, room_at_row, room_behind}
+use Rattle.map_measures.proofs.Falls.Reserves.Rows.{reserve_rows_fall}
 
 -- a retirement that goes on does not wait
 settles_on : {T : Type 0} (o : Settled T) → is_going o ≡ true → GoesFurther (room_told_by o) → goes_further o ≡ true

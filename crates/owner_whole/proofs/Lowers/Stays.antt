@@ -61,7 +61,7 @@ use Rattle.owner_facts.specs.Given.LateToldSweeps.{IsRowOfSweep}
 use Rattle.owner_facts.proofs.Given.CallersTogether.RowSteps.{never_refused}
 use Rattle.owner_facts.proofs.Given.CallersTogether.RowsOfCopiers.{at_retirement}
 use Rattle.owner_facts.proofs.Given.CallersTogether.SweepRows.{at_row}
-use Rattle.owner_whole.proofs.Whole.Rooms.Account.{at_room_row}
+use Rattle.owner_facts.proofs.Given.CallersTogether.RoomRows.{at_copying as at_room_row}
 
 module _ {K V : Type 0} (m m2 : Mem (Node K V)) where
   -- a retirement

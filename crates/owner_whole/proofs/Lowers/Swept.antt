@@ -1,5 +1,5 @@
 -- A step of a sweep that is none of a row of the collector: by all that can be looked at of its map, its numbers are lower.
-use Rattle.std.specs.Prelude.{◌≡◌, ℕ, ◌-◌, ◌<◌, Bool, true, List, Option, Some, ◌⊎◌}
+use Rattle.std.specs.Prelude.{◌≡◌, ℕ, ◌-◌, ◌<◌, Bool, true, List, Option, Some}
 use Rattle.std.proofs.Common.{inl, inr, refl, sym, subst, arith}
 use Rattle.seize_words.specs.OneMemory.Mem.{Mem, Took, value_at}
 use Rattle.seize_words.specs.OneMemory.Plan.{Steps}
@@ -39,17 +39,10 @@ use Rattle.map_measures.proofs.Falls.Reserves.CopiesLower.{CopyFalls, copies_fal
 use Rattle.map_measures.specs.Passes.FallsSweeps.{ComesOn}
 use Rattle.map_measures.specs.Passes.Sweeps.{numbers_at, number_of_sweep}
 use Rattle.map_measures.proofs.Passes.Places.{entering_is}
-use Rattle.map_measures.proofs.Passes.Points.{swept_on}
+use Rattle.map_measures.proofs.Passes.Points.{swept_on, before_stage as enters}
 use Rattle.map_measures.proofs.Passes.Within.{copier_stands}
 use Rattle.owner_whole.proofs.Lowers.Own as own
 use Rattle.owner_whole.proofs.Lowers.Widened as wide
-
--- what is below a copying but for its last numbers is so as the next table is entered
-enters : {A B : Type 0} (x y x2 y2 stage : ℕ) → stage < 4 → (x < x2) ⊎ ((x ≡ x2) × ((y < y2) ⊎ ((y ≡ y2) × A)))
-    → (x < x2) ⊎ ((x ≡ x2) × ((y < y2) ⊎ ((y ≡ y2) × ((stage < 4) ⊎ ((stage ≡ 4) × B)))))
-enters x y x2 y2 stage low (inl l) = inl l
-enters x y x2 y2 stage low (inr (e, inl l)) = inr (e, inl l)
-enters x y x2 y2 stage low (inr (e, inr (f, l))) = inr (e, inr (f, inl low))
 
 module _ {K V Q : Type 0} (same : K → K → Bool) (hash : K → ℕ) (asks : Q → K → Bool) (setting : Setting) (slot : ℕ → ℕ) (lawful : AreLawful same hash)
     (w : World (Node K V)) (c : Chart K) (blocks : Blocks) (sights : ℕ → Sight) (calls : ℕ → Option (UnderWay K V Q)) (s : Together V same hash asks setting slot w c blocks sights calls)

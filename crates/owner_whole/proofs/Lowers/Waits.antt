@@ -72,14 +72,14 @@ called_waits (called.Asks asked) e = absurd (cc e)
 called_waits (called.Done answer) e = absurd (cc e)
 called_waits (called.Refused fault) e = absurd (cc e)
 
-outcome_waits : {T : Type 0} (x : Yielding T Unit) → of_outcome x ≡ progress.Waits → x ≡ outcome.Waits
+pub outcome_waits : {T : Type 0} (x : Yielding T Unit) → of_outcome x ≡ progress.Waits → x ≡ outcome.Waits
 outcome_waits outcome.Goes e = absurd (cc e)
 outcome_waits outcome.Waits e = refl
 outcome_waits (outcome.Gave value) e = absurd (cc e)
 outcome_waits (outcome.Done end) e = absurd (cc e)
 outcome_waits (outcome.Refused fault) e = absurd (cc e)
 
-swept_waits : {T : Type 0} (x : Swept T) → of_swept x ≡ progress.Waits → x ≡ swept.Waits
+pub swept_waits : {T : Type 0} (x : Swept T) → of_swept x ≡ progress.Waits → x ≡ swept.Waits
 swept_waits swept.Goes e = absurd (cc e)
 swept_waits swept.Waits e = refl
 swept_waits (swept.Gave value) e = absurd (cc e)
@@ -96,7 +96,7 @@ counted_waits (counted.Done sum) e = absurd (cc e)
 counted_waits (counted.Refused fault) e = absurd (cc e)
 
 -- it is at a row, or at none
-room_decided : (x : Reserving) → IsRowOfReserve x ⊎ (IsRowOfReserve x → ⊥)
+pub room_decided : (x : Reserving) → IsRowOfReserve x ⊎ (IsRowOfReserve x → ⊥)
 room_decided (reserving.Copies copier) = copier_decided copier.stands
 room_decided reserving.Reads = inr (λ h. h)
 room_decided (reserving.Makes making) = inr (λ h. h)

@@ -40,10 +40,10 @@ use Rattle.map_measures.proofs.Falls.Calls.LateFacts.{late_call_stands}
 use Rattle.map_measures.proofs.Falls.Reserves.Stands.{WholeStands, ReservingStands, reserve_stands, late_reserve_stands}
 use Rattle.map_measures.proofs.Falls.Stands.{AtOld, CopyingStands, CopyingStandsBlocking, CallingStands, CallStands}
 use Rattle.map_measures.proofs.Passes.Within.{copier_stands}
-use Rattle.owner_whole.proofs.Whole.Rooms.Account.{at_room_row}
 use Rattle.owner_whole.proofs.Lowers.Kept.{DisposeLinks, IsKnownLink, Links, KeyLinks, RoomLinks, SweepLinks}
 use Rattle.owner_whole.proofs.Lowers.Own as own
 use Rattle.owner_whole.proofs.Lowers.Widened as wide
+use Rattle.owner_facts.proofs.Given.CallersTogether.RoomRows.{at_copying as at_room_row}
 
 row_links : (x : Disposing) → IsRowOf x → DisposeLinks x
 row_links (disposes.Settles settle) row = tt

@@ -41,13 +41,13 @@ use Rattle.play_events.specs.Given.GroupedCalled.{PlaysSo}
 use Rattle.play_events.specs.Given.GroupedGrouping.{MayHave, Names, beginner_of, number_called, refuses}
 use Rattle.play_events.specs.Given.GroupedReach.{Reach}
 use Rattle.play_events.proofs.Given.GroupedCallBegins.{call_begins}
-use Rattle.play_events.proofs.Given.GroupedCallers.{each_so}
 use Rattle.play_events.proofs.Given.GroupedMidst.{InEvent, event_ends}
 use Rattle.play_events.proofs.Given.GroupedReached.{goes_at, reach_so}
 use Rattle.papaya_steps.specs.Pieced.SoFar.{ActsSoFar, GoesOnByActs}
 use Rattle.papaya_steps.proofs.Pieced.Quiet.{did_nothing, later_by}
 use Rattle.papaya_steps.proofs.Pieced.StepsCall.{gone_by}
 use Rattle.papaya_steps.proofs.Pieced.Taken.{works_at}
+use Rattle.seize_words.proofs.General.{all_so as each_so}
 
 module _ {K V S : Type 0} (same : K → K → Bool) (by_hasher : S → K → ℕ) (terms : Terms) (log : List (Entry K V)) (event : Event K V) (own guard name : List ℕ) (call : Call K V) (beginner : beginner_of event ≡ own)
     (old mid : Scheduler K V S) (stands : IsPlayed same (by_hasher old.logged.executor.hasher) terms log old) (led : HasBegun same (by_hasher old.logged.executor.hasher) own guard name call old mid)

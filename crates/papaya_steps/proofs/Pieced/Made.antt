@@ -5,7 +5,6 @@ use Rattle.std.proofs.Common.{◌≡◌, ℕ, Bool, true, false, List, [], ◌�
 use Rattle.std.proofs.lemmas.Bool.{cases_eq}
 use Rattle.std.proofs.lemmas.List.{length-take-le}
 use Rattle.play_events.specs.Given.SeizeActsAnswers.{Grant}
-use Rattle.play_events.proofs.Given.SeizeActsAnswers.{same_some}
 use Rattle.map_tables.specs.Given.SeizeDeclared.advance.Advance.{Advance}
 use Rattle.map_tables.specs.Given.SeizeDeclared.advance.Advance.TheVariants as progress
 use Rattle.map_tables.specs.declared.resize_mode.ResizeMode.{ResizeMode}
@@ -59,6 +58,7 @@ use Rattle.papaya_steps.specs.Pieced.SoFar.{ActsSoFar, GoesOnByActs}
 use Rattle.papaya_steps.proofs.Pieced.Chains.{goes_to}
 use Rattle.play_events.proofs.Given.AgreesFirstPlaces.{asked_places, first_back}
 use Rattle.papaya_steps.proofs.Pieced.Quiet.{did_nothing}
+use Rattle.seize_words.proofs.General.{same_some}
 
 -- a making that is not over goes on
 on_is : {T : Type 0} (said : Advance T) → is_over said ≡ false → is_on said ≡ true

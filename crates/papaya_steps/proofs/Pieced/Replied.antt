@@ -3,7 +3,6 @@ use Rattle.std.specs.Prelude.{◌≤◌, ◌==◌, ◌+◌, ◌⊎◌, Some, Res
 use Rattle.std.specs.Result.{is_err}
 use Rattle.std.proofs.Common.{◌≡◌, ℕ, Bool, true, false, List, [], ◌∷◌, inl, inr, refl, sym, ap, subst, ◌∙◌}
 use Rattle.std.proofs.lemmas.Bool.{eq-eqb}
-use Rattle.play_events.proofs.Given.SeizeActsAnswers.{same_some}
 use Rattle.papaya_raw.specs.Machine.{machine_replied}
 use Rattle.papaya_raw.specs.declared.machines.machine.Machine.{Machine}
 use Rattle.play_events.specs.Given.FinishesMachines.{machine_of}
@@ -52,6 +51,7 @@ use Rattle.papaya_steps.specs.Pieced.SoFar.{ActsSoFar}
 use Rattle.papaya_steps.proofs.Pieced.Quiet.{did_nothing, later_by}
 use Rattle.papaya_steps.proofs.Pieced.StepCall.{HasCallIn}
 use Rattle.papaya_steps.proofs.Pieced.Taken.{works_at}
+use Rattle.seize_words.proofs.General.{same_some}
 
 -- what the closure aborts with that is told so, if it is told to abort
 abbrev abort_of : {V : Type 0} → Reply V → V → V

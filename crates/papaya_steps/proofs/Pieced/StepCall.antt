@@ -2,7 +2,6 @@
 use Rattle.std.specs.Prelude.{◌+◌, ◌++◌, Option, Some, option_map}
 use Rattle.std.proofs.Common.{◌≡◌, ℕ, Bool, false, List, refl, sym, ap, subst, ◌∙◌}
 use Rattle.play_events.specs.Given.SeizeActsAnswers.{Grant}
-use Rattle.play_events.proofs.Given.SeizeActsAnswers.{same_some}
 use Rattle.seize_words.specs.OneMemory.Mem.{Mem}
 use Rattle.map_tables.specs.declared.node.Node.{Node}
 use Rattle.papaya_raw.specs.Machine.{machine_plan}
@@ -49,6 +48,7 @@ use Rattle.play_events.proofs.Given.GroupedCallers.{call_here, each_at, under}
 use Rattle.papaya_steps.proofs.Pieced.CallsOn.{callers_on, same_outcome}
 use Rattle.play_events.proofs.Given.GroupedMidst.{InEvent, event_steps}
 use Rattle.play_events.proofs.Given.GroupedOneMore.{one_act}
+use Rattle.seize_words.proofs.General.{same_some}
 
 -- what goes on is there as this machine
 goes : {K V : Type 0} (machine : Machine K V K) (said : Progress (Node K V)) (next : Option (UnderWay K V K)) → has_ended said ≡ false → GoesOnAs machine said next → option_map machine_of next ≡ Some machine

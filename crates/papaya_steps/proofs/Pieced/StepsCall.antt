@@ -2,7 +2,6 @@
 use Rattle.std.specs.Prelude.{◌+◌, zero, suc, Option, Some, slice_get, slice_set, if◌then◌else◌}
 use Rattle.std.specs.List.{remove}
 use Rattle.std.proofs.Common.{◌≡◌, ℕ, Bool, true, false, List, refl, sym, ap, subst, arith, ◌∙◌}
-use Rattle.play_events.proofs.Given.SeizeActsAnswers.{same_some}
 use Rattle.map_tables.specs.declared.node.Node.{Node}
 use Rattle.papaya_raw.specs.declared.machines.progress.Progress.{Progress}
 use Rattle.papaya_raw.specs.declared.machines.progress.Progress.TheVariants as progress
@@ -27,6 +26,7 @@ use Rattle.play_events.proofs.Given.GroupedCallers.{set_there}
 use Rattle.papaya_steps.proofs.Pieced.CallsOn.{then_as}
 use Rattle.play_events.proofs.Given.GroupedMidst.{InEvent}
 use Rattle.papaya_steps.proofs.Pieced.StepCall.{HasCallIn, step_goes}
+use Rattle.seize_words.proofs.General.{same_some}
 
 none_more : (n : ℕ) → n ≡ 0 + n
 none_more n = omega arith

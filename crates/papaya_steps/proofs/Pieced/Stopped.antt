@@ -2,7 +2,6 @@
 use Rattle.std.specs.Prelude.{◌≤◌, ◌==◌, ◌+◌, ◌⊎◌, Some, option_map, length, slice_get, if◌then◌else◌}
 use Rattle.std.proofs.Common.{◌≡◌, ℕ, Bool, true, false, List, [], ◌∷◌, inl, inr, refl, sym, ap, subst, arith, ◌∙◌}
 use Rattle.std.proofs.lemmas.Bool.{eq-eqb}
-use Rattle.play_events.proofs.Given.SeizeActsAnswers.{same_some}
 use Rattle.papaya_raw.specs.Machine.{machine_asked}
 use Rattle.papaya_raw.specs.declared.machines.machine.Machine.{Machine}
 use Rattle.play_events.specs.Given.FinishesMachines.{machine_of}
@@ -46,6 +45,7 @@ use Rattle.play_events.proofs.Given.GroupedReached.{goes_at}
 use Rattle.papaya_steps.specs.Pieced.SoFar.{ActsSoFar}
 use Rattle.papaya_steps.proofs.Pieced.Quiet.{did_nothing, later_by}
 use Rattle.papaya_steps.proofs.Pieced.Taken.{works_at}
+use Rattle.seize_words.proofs.General.{same_some}
 
 -- the entry of a call that is given up
 abbrev entry : {K V : Type 0} → ℕ → Act K V

@@ -3,7 +3,6 @@ use Rattle.std.specs.Prelude.{zero, suc, ◌≤◌, ◌==◌, ◌+◌, Option, S
 use Rattle.std.specs.List.{AllByRecursion}
 use Rattle.std.proofs.Common.{◌≡◌, ℕ, Bool, List, [], ◌∷◌, refl, sym, ap, subst, arith, ◌∙◌, inl}
 use Rattle.std.proofs.lemmas.Bool.{eq-eqb}
-use Rattle.play_events.proofs.Given.SeizeActsAnswers.{same_some}
 use Rattle.papaya_raw.specs.Machine.{machine_asked}
 use Rattle.papaya_raw.specs.declared.machines.progress.Progress.TheVariants as progress
 use Rattle.play_events.specs.Given.FinishesMachines.{machine_of}
@@ -49,12 +48,7 @@ use Rattle.papaya_steps.proofs.Pieced.Quiet.{did_nothing, later_by}
 use Rattle.papaya_steps.proofs.Pieced.StepCall.{HasCallIn}
 use Rattle.papaya_steps.proofs.Pieced.StepsCall.{InMidst, StandsThere, one_goes}
 use Rattle.papaya_steps.proofs.Pieced.Taken.{works_at}
-
--- one that is set to itself is as it was
-set_same : {X : Type 0} (xs : List X) (k : ℕ) (x : X) → slice_get xs k ≡ Some x → slice_set xs k x ≡ xs
-set_same [] k x is = absurd (cc is)
-set_same (y ∷ xs) zero x is = let e : y ≡ x = cc is in ap (λ z. z ∷ xs) (sym e)
-set_same (y ∷ xs) (suc k) x is = ap (λ l. y ∷ l) (set_same xs k x is)
+use Rattle.seize_words.proofs.General.{set_same, same_some}
 
 -- what is so of each where one is another one, is so of each where it is so of that
 each_back : {X : Type 0} (P : X → Type 0) (xs : List X) (k : ℕ) (x y : X) → slice_get xs k ≡ Some x → (P y → P x) → AllByRecursion P (slice_set xs k y) → AllByRecursion P xs

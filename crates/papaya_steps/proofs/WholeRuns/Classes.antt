@@ -32,9 +32,9 @@ use Rattle.run_schedules.specs.Schedules.Views.{behind, call_of, is_in_map, numb
 use Rattle.play_events.proofs.Given.ChangesFound.{FoundIn, found}
 use Rattle.play_events.proofs.Given.FollowsContents.{pair_next}
 use Rattle.play_events.proofs.Given.FollowsCalls.{changed, changed_same, of_same, found as found_on}
-use Rattle.play_events.proofs.Given.SpotsUnreclaimed.{and_both}
 use Rattle.play_events.proofs.Given.FindsOver.{acts}
 use Rattle.papaya_steps.specs.WholeRuns.Classes.{Has, HaveTheirOwn}
+use Rattle.seize_words.proofs.General.{both_true as and_both}
 
 number_is : (a b : ℕ) → (a == b) ≡ true → a ≡ b
 number_is a b e = grind (arith, e)

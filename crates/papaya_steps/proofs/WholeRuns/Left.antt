@@ -23,7 +23,8 @@ use Rattle.play_events.specs.Given.SpotsUnreclaimed.{ShowsUnreclaimed, is_unrecl
 use Rattle.map_tables.specs.Given.SeizeWorld.{World}
 use Rattle.seize_words.specs.OneMemory.Mem.{value_at}
 use Rattle.run_effects.specs.Tallies.Left.{HoldPairs, noted, noted_below}
-use Rattle.run_effects.proofs.Tallies.Back.{joined}
+use Rattle.run_effects.proofs.Tallies.Numbers.{once as bit}
+use Rattle.seize_words.proofs.General.{all_append as joined}
 
 -- whether a block is the pair of this number
 abbrev is_pair : ℕ → Role → Bool
@@ -40,10 +41,6 @@ pair_is n (role.Counter map) is = absurd (cc is)
 
 is_pair_of : (n : ℕ) (r : Role) → r ≡ role.Pair n → is_pair n r ≡ true
 is_pair_of n r is = ap (is_pair n) is ∙ eq-eqb n n refl
-
-abbrev bit : Bool → ℕ
-bit true = 1
-bit false = 0
 
 module _ {K V : Type 0} (roles : ℕ → Role) (value : ℕ → Option (Node K V)) (hold : HoldPairs roles value) where
   one_here : (n b : ℕ) (r : Role) → roles b ≡ r → times n (numbers (noted r (value b))) ≡ bit (is_pair n r)

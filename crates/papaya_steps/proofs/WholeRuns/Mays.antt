@@ -1,5 +1,5 @@
 -- An event that does what it may reclaims pairs only where that may be so.
-use Rattle.std.specs.Prelude.{◌≡◌, Bool, true, false, ◌&&◌, List, [], ◌∷◌, ◌++◌, flat_map}
+use Rattle.std.specs.Prelude.{◌≡◌, Bool, true, false, List, [], ◌∷◌, ◌++◌, flat_map}
 use Rattle.std.specs.List.{list_all}
 use Rattle.std.proofs.Common.{refl, ap, ◌∙◌}
 use Rattle.run_schedules.specs.declared.effect.Effect.{Effect}
@@ -13,10 +13,7 @@ use Rattle.run_schedules.specs.Schedules.Handing.{MovesOn, is_call_effect, is_fi
 use Rattle.run_schedules.specs.Schedules.Moment.{Moment}
 use Rattle.run_schedules.specs.Schedules.Terms.{Terms}
 use Rattle.papaya_steps.specs.WholeRuns.Back.{ReclaimsBy, ReclaimsRight}
-
-both_true : (a b : Bool) → (a && b) ≡ true → (a ≡ true) × (b ≡ true)
-both_true true b e = (refl, e)
-both_true false b e = absurd (cc e)
+use Rattle.seize_words.proofs.General.{both_true}
 
 -- effects of which none reclaims a pair reclaim none
 none_of : (test : Effect → Bool) → ((f : Effect) → test f ≡ true → pairs_back f ≡ []) → (did : List Effect) → list_all test did ≡ true → flat_map pairs_back did ≡ []

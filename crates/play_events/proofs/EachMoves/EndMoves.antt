@@ -17,7 +17,8 @@ use Rattle.run_schedules.specs.Deeds.Deeds.{Ends, Entry, MapGoes, moment}
 use Rattle.run_schedules.specs.Deeds.History.{EndFinds, left_tables, may_do}
 use Rattle.play_lists.specs.Played.Play.{is_refusal}
 use Rattle.play_events.specs.EachMoves.Parts.{DoesIts}
-use Rattle.play_events.proofs.EachMoves.Parts.{all_also, granted_so, none_may, refuses_so}
+use Rattle.play_events.proofs.EachMoves.Parts.{all_also, granted_so, none_may}
+use Rattle.play_lists.proofs.Agrees.Grants.{refusals_so as refuses_so}
 
 module _ {K V : Type 0} (map : ℕ) where
   one_ends : (v : Moment K V) (f : Effect) → EndFinds map v f → is_ending f ≡ true

@@ -28,22 +28,18 @@ use Rattle.run_kept.specs.Given.ScenesStepping.{StepLeads, has_ended, scene_afte
 use Rattle.play_lists.specs.Given.SettlesCounts.{HasToCount}
 use Rattle.run_legal.proofs.CallLeaves.{none_asked}
 use Rattle.run_kept.proofs.Kept.Calls.{calls_keep_kept, own_made}
-use Rattle.run_kept.proofs.Given.OwesCalls.{goes_as_one, step_keeps_made}
+use Rattle.run_kept.proofs.Given.OwesCalls.{step_keeps_made}
 use Rattle.run_kept.proofs.Given.OwesClear.{walks_are_clear}
 use Rattle.run_kept.proofs.Given.OwesKept.{calls_its}
 use Rattle.run_kept.proofs.Given.OwesReady.{ready_so}
 use Rattle.run_kept.proofs.Given.OwesShort.Calls.{step_keeps_short}
 use Rattle.run_kept.proofs.Given.OwesTables.Calls.{step_keeps_tables}
 use Rattle.play_lists.proofs.Given.ScenesGoes.{goes_as}
-use Rattle.run_kept.proofs.Given.ScenesNoCall.{none_of}
-use Rattle.play_lists.proofs.Given.SettlesCalls.{calls_keep_counts}
+use Rattle.play_lists.proofs.Given.SettlesCalls.{calls_keep_counts, goes_as_one}
 use Rattle.run_kept.proofs.Given.SettlesHand.Asked.{walks_have_nothing}
 use Rattle.run_kept.proofs.Given.SettlesHand.Calls.{calls_keep_owed}
-
--- who is short of no growth has grown, whatever the outcome
-has_grown : {K V : Type 0} (o : Outcome V) (c : CallThere K V) → c.is_short ≡ false → HasGrown o c
-has_grown (outcome.Refused Memory) c e = tt
-has_grown _ c e = e
+use Rattle.play_stepping.proofs.Given.General.{none_mapped as none_of}
+use Rattle.run_kept.proofs.Given.OwesEvents.{has_grown}
 
 module _ {K V : Type 0} (same : K → K → Bool) (hash : ℕ → K → ℕ) (name : ℕ → List ℕ) (m : Moment K V) (known : Known) (s : Scene K V) (old new : Held K V) (at : IsAt same hash old s)
     (whole : ShowsWhole same name m known s) (kept : ShowsKept name m known s) (map i : ℕ) (u : UnderWay K V K) (here : s.calls map i ≡ Some u) (said : Progress (Node K V))

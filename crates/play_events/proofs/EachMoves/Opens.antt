@@ -1,7 +1,6 @@
 -- By each act, each making that is under way makes a first table for its places, if a map is made with such places.
 use Rattle.std.specs.Prelude.{◌≡◌, ℕ, Bool, Option, Some, None}
 use Rattle.std.proofs.Common.{refl, ap, sym, subst, ◌∙◌}
-use Rattle.seize_acts.proofs.Acts.Answers.{same_some}
 use Rattle.play_stepping.specs.Given.SeizeWorld.{World, with_at}
 use Rattle.play_stepping.specs.Given.SeizeDeclared.advance.Advance.{Advance}
 use Rattle.play_stepping.specs.Given.SeizeDeclared.advance.Advance.TheVariants as progress
@@ -27,6 +26,7 @@ use Rattle.play_stepping.specs.Given.NeedsFirsts.{ShowsOpenings}
 use Rattle.play_stepping.proofs.Given.NeedsFirsts.{makings_go_on, makings_open}
 use Rattle.play_lists.specs.Agrees.Places.{ArePlaces, AsksPlaces}
 use Rattle.play_events.specs.EachMoves.Places.{OpensFor}
+use Rattle.play_stepping.proofs.Given.General.{same_some}
 
 module _ {K V : Type 0} (s n : Scene K V) (here : OpensFor s) where
   -- where makings are as they were

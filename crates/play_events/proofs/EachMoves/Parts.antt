@@ -5,17 +5,15 @@ use Rattle.std.proofs.Common.{refl, ap, ◌∙◌}
 use Rattle.std.proofs.lemmas.Bool.{and_parts}
 use Rattle.run_schedules.specs.declared.effect.Effect.{Effect}
 use Rattle.run_schedules.specs.declared.outcome.Outcome.{Outcome}
-use Rattle.run_schedules.specs.declared.outcome.Outcome.TheVariants as outcome
 use Rattle.run_schedules.specs.Schedules.Handing.{is_granted}
 use Rattle.run_kept.specs.Given.EffectsDeclared.changed.Changed.{Changed}
 use Rattle.run_kept.specs.Given.EffectsEffects.{effects_of}
 use Rattle.run_kept.specs.Given.EffectsKnown.{Known}
 use Rattle.run_kept.specs.Given.EffectsDeclared.acting.Acting.{Acting}
 use Rattle.run_kept.proofs.Given.PromisesWeights.{operations_are_single}
-use Rattle.run_schedules.specs.Deeds.Deeds.{Begins, Deed, Entry, ReclaimsAll, Replies, Stops}
-use Rattle.run_schedules.specs.Deeds.History.{Refuses, may_do}
-use Rattle.play_lists.specs.Played.Play.{is_refusal}
-use Rattle.play_lists.proofs.Agrees.Grants.{each_refuses}
+use Rattle.run_schedules.specs.Deeds.Deeds.{Begins, Deed, Entry, Replies, Stops}
+use Rattle.run_schedules.specs.Deeds.History.{may_do}
+use Rattle.play_lists.proofs.Agrees.Grants.{refusals_so as refuses_so}
 use Rattle.play_events.specs.EachMoves.Parts.{DoesIts}
 
 -- what all pass that pass another test
@@ -26,9 +24,6 @@ all_also p q also (f ∷ fs) all =
 
 pub granted_so : (who : Acting) (known : Known) (changed : Changed) → is_granted false (effects_of who known changed) ≡ true
 granted_so who known changed = (operations_are_single who known changed).1
-
-pub refuses_so : (who : Acting) (known : Known) (changed : Changed) → Refuses (is_refusal changed) (effects_of who known changed)
-refuses_so who known changed = ((each_refuses Bool Bool).works [] who known changed (ReclaimsAll true) outcome.Done tt tt).0
 
 module _ {K V : Type 0} where
   -- where nothing is done all of it may be

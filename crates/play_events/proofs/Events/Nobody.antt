@@ -1,5 +1,5 @@
 -- Where no call is under way, and no guard is there, nobody is in the world, and what is retired is so in its log.
-use Rattle.std.specs.Prelude.{◌≡◌, ◌<◌, ◌^◌, ◌&&◌, ◌==◌, ℕ, Bool, true, false, List, [], ◌∷◌, find, Option, Some, None, if◌then◌else◌}
+use Rattle.std.specs.Prelude.{◌≡◌, ◌<◌, ◌^◌, ◌==◌, ℕ, Bool, true, false, List, [], ◌∷◌, find, Option, Some, None, if◌then◌else◌}
 use Rattle.std.proofs.Common.{refl, ap, sym, subst, ◌∙◌}
 use Rattle.run_schedules.specs.Runs.Same.{is_same}
 use Rattle.play_stepping.specs.Given.SeizeWorld.{Rests, Use, IsOutside}
@@ -25,10 +25,7 @@ use Rattle.play_stepping.specs.Given.SchedulerDeclared.scheduler.Scheduler.{Sche
 use Rattle.play_events.specs.Events.OfCalls.{Runs}
 use Rattle.play_stepping.specs.Given.ExecutorIsThere.{IsUsedAs, held_by, use_at}
 use Rattle.run_kept.specs.Given.ScenesScene.{Scene}
-
-both : (a b : Bool) → (a && b) ≡ true → (a ≡ true) × (b ≡ true)
-both true b is = (refl, is)
-both false b is = absurd (cc is)
+use Rattle.play_stepping.proofs.Given.General.{both_true as both}
 
 none_in : {X : Type 0} (xs : List X) → is_empty xs ≡ true → xs ≡ []
 none_in [] is = refl

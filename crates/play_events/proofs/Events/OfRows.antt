@@ -9,7 +9,6 @@ use Rattle.play_lists.specs.Given.TablesDeclared.node.Node.{Node}
 use Rattle.run_kept.specs.Given.ScenesDeclared.row.RowTold.{RowTold}
 use Rattle.run_kept.specs.Given.ScenesDeclared.row.SlotCall.{SlotCall}
 use Rattle.run_kept.specs.Given.OthersRows.{scene_then}
-use Rattle.play_stepping.proofs.Given.SpotsUnreclaimed.{and_both, or_right}
 use Rattle.run_schedules.specs.Given.SeizeWordsDeclared.fault.Fault.TheVariants.{Busy}
 use Rattle.run_kept.specs.Given.ScenesDeclared.row.SlotCall.TheVariants as call
 use Rattle.play_stepping.specs.Given.ExecutorDeclared.worker.Work.TheVariants.{OnSlot}
@@ -75,6 +74,7 @@ use Rattle.run_kept.specs.Given.ScenesScene.{Scene, slot_of}
 use Rattle.run_kept.proofs.Sheds.Held.{begun_held}
 use Rattle.run_kept.specs.Given.ScenesOnSlots.{RowBegins}
 use Rattle.play_stepping.specs.Given.ExecutorIsThere.{held_by}
+use Rattle.play_stepping.proofs.Given.General.{both_true as and_both, or_second as or_right}
 pub mod Chain
 pub mod Over
 pub mod Facts

@@ -43,11 +43,7 @@ use Rattle.play_stepping.specs.Given.SchedulerDeclared.scheduler.Scheduler.{Sche
 use Rattle.play_stepping.specs.Given.NeedsNeeds.{AreReached}
 use Rattle.play_events.proofs.Works.Reached.{reached_still}
 use Rattle.play_stepping.specs.Given.ExecutorIsThere.{use_at}
-
--- who is there now uses the slot
-or_so : (b c : Bool) → c ≡ true → (b || c) ≡ true
-or_so true c is = refl
-or_so false c is = is
+use Rattle.play_stepping.proofs.Given.General.{or_second as or_so}
 
 registered_among : (s : ℕ) (name : List ℕ) (rs : List NamedRegistration) (ys : List ℕ) → is_among s (map (λ (r : NamedRegistration). r.slot) (rs ++ record { name = name; slot = s } ∷ []) ++ ys) ≡ true
 registered_among s name [] ys = ap (λ (b : Bool). b || is_among s ys) (eq-eqb s s refl)

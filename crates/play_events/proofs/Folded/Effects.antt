@@ -1,14 +1,13 @@
 -- Effects that hand over in order: what is owed, and what they take out, is what they hand over, and behind that what is owed then.
 use Rattle.std.specs.Prelude.{◌≡◌, ℕ, Bool, true, false, List, [], ◌∷◌, ◌++◌, flat_map, map, find, Option, Some, None, if◌then◌else◌}
 use Rattle.std.proofs.Common.{refl, ap, sym, subst, ◌∙◌}
-use Rattle.std.proofs.lemmas.Bool.{eq-eqb}
 use Rattle.std.proofs.lemmas.List.{append_assoc, append-nil}
 use Rattle.std.proofs.lemmas.List.Concat.{flat_map-cons}
 use Rattle.run_schedules.specs.Runs.Same.{is_same}
 use Rattle.run_schedules.specs.declared.effect.Effect.{Effect}
 use Rattle.run_schedules.specs.declared.effect.Effect.TheVariants as effect
 use Rattle.run_schedules.specs.declared.effect.Thing.{Thing}
-use Rattle.run_schedules.specs.declared.effect.Thing.TheVariants.{APair, ATable}
+use Rattle.run_schedules.specs.declared.effect.Thing.TheVariants.{APair}
 use Rattle.run_schedules.specs.Schedules.Effects.{call_by, out_by, with_effect, with_effects}
 use Rattle.run_schedules.specs.Schedules.Entry.{IfCall}
 use Rattle.run_schedules.specs.Schedules.Lists.{without_one}
@@ -17,24 +16,19 @@ use Rattle.run_schedules.specs.Schedules.Things.{same_thing}
 use Rattle.run_schedules.specs.Schedules.Views.{call_of}
 use Rattle.run_kept.proofs.Given.FollowsCalling.{apart_back, is_same_is}
 use Rattle.run_kept.proofs.Given.FollowsCalls.{changed, changed_same, of_same}
-use Rattle.run_kept.proofs.Given.FollowsSteps.{one_of}
 use Rattle.play_stepping.proofs.Given.HandsCalling.{caller_is}
-use Rattle.play_stepping.proofs.Given.SpotsUnreclaimed.{same_itself}
 use Rattle.play_stepping.proofs.Given.ChangesBegun.{effects_begun}
 use Rattle.play_stepping.proofs.Given.ChangesChanges.{acted_on}
 use Rattle.play_lists.proofs.Given.RowsLists.{both_some, found_alike, unseen}
 use Rattle.run_kept.proofs.Given.SettlesGains.{none_changed, others_stay}
-use Rattle.run_kept.proofs.Given.SettlesOwing.{leaves}
+use Rattle.run_kept.proofs.Given.SettlesOwing.{leaves, thing_itself}
 use Rattle.play_events.specs.Folded.Folded.{EffectsFold, HandInOrder, IsOwedFirst, handed_in, if_its, out_in}
+use Rattle.play_stepping.proofs.Given.General.{same_some as one_of}
 
 -- where first ones come to this, and later ones to that, both do
 pub joined : (a b c h d g e : List Thing) → a ++ b ≡ h ++ d → d ++ c ≡ g ++ e → a ++ (b ++ c) ≡ (h ++ g) ++ e
 joined a b c h d g e first later =
     sym (append_assoc a b c) ∙ ap (λ (l : List Thing). l ++ c) first ∙ append_assoc h d c ∙ ap (λ (l : List Thing). h ++ l) later ∙ sym (append_assoc h g e)
-
-thing_itself : (x : Thing) → same_thing x x ≡ true
-thing_itself (APair n) = eq-eqb n n refl
-thing_itself (ATable t) = same_itself t
 
 -- without the first one the others are left
 without_first : (x : Thing) (owes rest : List Thing) → owes ≡ x ∷ rest → without_one same_thing x owes ≡ rest

@@ -1,5 +1,5 @@
 -- Over all events of a call: what it took out is what it has handed over, and behind that what it owes.
-use Rattle.std.specs.Prelude.{◌≡◌, ◌⊎◌, ◌≤◌, ◌<◌, ℕ, nat_lt, Bool, true, false, List, [], ◌∷◌, ◌++◌, flat_map, length, Option, Some, None, if◌then◌else◌}
+use Rattle.std.specs.Prelude.{◌≡◌, ◌⊎◌, ◌≤◌, ℕ, Bool, true, false, List, [], ◌∷◌, ◌++◌, flat_map, length, Option, Some, None, if◌then◌else◌}
 use Rattle.std.proofs.Common.{refl, ap, sym, subst, ◌∙◌, arith, inl, inr}
 use Rattle.std.proofs.lemmas.List.{append-nil}
 use Rattle.run_schedules.specs.declared.effect.Effect.{Effect}
@@ -22,12 +22,7 @@ use Rattle.play_lists.proofs.Given.FindsLife.{each_so}
 use Rattle.play_events.specs.Folded.Folded.{CallsFold, DeferralsAreRight, EndedCallsFold, HandsInOrder, handed, handed_in, if_its, out_in, since, took}
 use Rattle.play_events.proofs.Folded.Effects.{all_go, joined}
 use Rattle.play_events.proofs.Folded.Seen.{begun_was, calls_seen}
-
-not_before : (n begun : ℕ) → begun ≤ n → nat_lt n begun ≡ false
-not_before n begun l = grind (arith, l)
-
-is_before : (n begun : ℕ) → n < begun → nat_lt n begun ≡ true
-is_before n begun l = grind (arith, l)
+use Rattle.play_stepping.proofs.Given.General.{less_false as not_before, less_true as is_before}
 
 module _ {K V : Type 0} (did : Moment K V → Entry K V → List Thing) (begun : ℕ) (own : List ℕ) where
   -- one event more,

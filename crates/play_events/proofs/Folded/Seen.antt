@@ -15,8 +15,8 @@ use Rattle.run_schedules.specs.Schedules.Entry.{caller_of, ends_call, is_busy, n
 use Rattle.run_schedules.specs.Schedules.Moment.{Asking, Moment, Stands, UnderWay as CallThere}
 use Rattle.run_schedules.specs.Schedules.Views.{call_of, number_of}
 use Rattle.run_kept.proofs.Given.FollowsCalling.{is_same_is}
-use Rattle.run_kept.proofs.Given.FollowsSteps.{one_of}
 use Rattle.play_lists.proofs.Given.RowsLists.{both_some, found_alike, unseen}
+use Rattle.play_stepping.proofs.Given.General.{same_some as one_of}
 
 -- what is seen of a call
 record Seen : Type 0 where

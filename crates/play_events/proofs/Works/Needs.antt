@@ -32,7 +32,6 @@ use Rattle.run_kept.specs.Given.ScenesDeclared.row.RowTold.TheVariants as told
 use Rattle.run_kept.specs.Given.ScenesDeclared.row.SlotCall.TheVariants as call
 use Rattle.run_kept.specs.Given.ScenesDeclared.row.SlotRow.{SlotRow}
 use Rattle.run_kept.specs.Given.ScenesDeclared.row.SlotRow.TheVariants as rows
-use Rattle.play_stepping.proofs.Given.SpotsUnreclaimed.{and_both}
 use Rattle.run_legal.specs.Chains.{Chain, Come, RowSteps}
 use Rattle.run_legal.specs.Found.{AsksInNeed}
 use Rattle.run_legal.proofs.Chains.{chains_keep}
@@ -47,6 +46,7 @@ use Rattle.run_kept.specs.Given.ScenesHeld.{Held, IsAt}
 use Rattle.run_kept.specs.Given.ScenesOnSlots.{RowBegins, RowSteps as StepsAs, row_then}
 use Rattle.run_kept.specs.Given.ScenesScene.{Scene, row_of, slot_of}
 use Rattle.run_kept.proofs.Given.ScenesRows.{begun_there, never_rests, one_row}
+use Rattle.play_stepping.proofs.Given.General.{or_second as any_more, both_true as and_both}
 
 -- a bucket is asked for among the effects of a step that makes room, where it was not known
 module _ (known : Known) where
@@ -79,10 +79,6 @@ either_any p (x ∷ xs) ys some = by (p x) some (either_any p xs ys)
     by : (q : Bool) → (q || list_any p (xs ++ ys)) ≡ true → (list_any p (xs ++ ys) ≡ true → (list_any p xs ≡ true) ⊎ (list_any p ys ≡ true)) → ((q || list_any p xs) ≡ true) ⊎ (list_any p ys ≡ true)
     by true is rest = inl refl
     by false is rest = rest is
-
-any_more : (a b : Bool) → b ≡ true → (a || b) ≡ true
-any_more true b is = refl
-any_more false b is = is
 
 -- where one is in need, each is
 module _ {K V : Type 0} (slots slot : ℕ) where

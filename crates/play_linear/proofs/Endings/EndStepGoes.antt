@@ -4,7 +4,6 @@ use Rattle.std.proofs.Common.{refl, ap, sym, subst, ◌∙◌, inl, inr}
 use Rattle.std.proofs.lemmas.Bool.{cases_eq}
 use Rattle.std.proofs.lemmas.List.{append-nil}
 use Rattle.seize_acts.specs.Acts.Answers.{Grant}
-use Rattle.seize_acts.proofs.Acts.Answers.{same_some}
 use Rattle.play_stepping.specs.Given.SeizeWorld.{World, with_at}
 use Rattle.play_stepping.specs.Given.SeizeDeclared.rows.settle.Settled.{Settled}
 use Rattle.play_stepping.specs.Given.SeizeDeclared.rows.settle.Settled.TheVariants as settled
@@ -55,6 +54,7 @@ use Rattle.play_linear.proofs.Endings.Others.{taken_spares}
 use Rattle.play_linear.proofs.Endings.Played.{goes_of, noted_on}
 use Rattle.play_lists.proofs.MapsEnd.Spares.{all_spared}
 use Rattle.play_lists.proofs.Agrees.Names.{effects_named}
+use Rattle.play_stepping.proofs.Given.General.{same_some}
 
 module _ {K V S : Type 0} (same : K → K → Bool) (by_hasher : S → K → ℕ) (hash : ℕ → K → ℕ) (batch_size roots : ℕ) (aborts : ℕ → V) (x y : State K V S) (s n : Scene K V)
     (is : IsOf by_hasher s s.world.row x.now) (at : IsAt same hash (held_in batch_size roots NoChange s) s) (all : AllHolds same x s) (so : EndsGoOn x s) (told : Answer K V) (i : ℕ) (g : Grant) where

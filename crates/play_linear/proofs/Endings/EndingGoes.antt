@@ -2,7 +2,6 @@
 use Rattle.std.specs.Prelude.{map as mapped, ◌≡◌, ◌≢◌, ◌<◌, ◌⊎◌, ℕ, Bool, true, false, List, [], Option, Some, None, option_map}
 use Rattle.std.proofs.Common.{refl, ap, sym, subst, ◌∙◌, inl, inr}
 use Rattle.std.proofs.lemmas.Bool.{cases_eq}
-use Rattle.seize_acts.proofs.Acts.Answers.{same_some}
 use Rattle.play_stepping.specs.Given.SeizeWorld.{with_at}
 use Rattle.play_lists.specs.Given.TablesChunks.{is_incremental}
 use Rattle.play_stepping.specs.Given.RawEndMap.{ending}
@@ -45,6 +44,7 @@ use Rattle.play_lists.specs.MapsEnd.Going.{GoesOnToEnd}
 use Rattle.play_linear.specs.Endings.GoingOn.{EndsGoOn}
 use Rattle.play_lists.proofs.MapsEnd.Begins.{are_stored, would_end}
 use Rattle.play_linear.proofs.Endings.Played.{goes_of}
+use Rattle.play_stepping.proofs.Given.General.{same_some}
 
 -- Where the end of a map begins it goes on to end.
 module _ {K V : Type 0} (same : K → K → Bool) (hash : ℕ → K → ℕ) (old : Held K V) (m : Moment K V) (known : Known) (s : Scene K V) (at : IsAt same hash old s) (whole : ShowsWhole same named m known s) (map : ℕ)

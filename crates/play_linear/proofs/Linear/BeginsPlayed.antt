@@ -1,7 +1,6 @@
 -- Where a call begins, is asked for its next pair, or is given up, as it is played, the entry is linearizable, if there is one, and what the moment shows of calls and of what they were told it shows then.
 use Rattle.std.specs.Prelude.{◌≡◌, ◌⊎◌, ℕ, Bool, true, false, List, [], ◌∷◌, Option, Some, None}
 use Rattle.std.proofs.Common.{refl, ap, sym, subst, ◌∙◌, inl, inr}
-use Rattle.seize_acts.proofs.Acts.Answers.{same_some}
 use Rattle.play_stepping.specs.Given.SeizeWorld.{Rests, with_at}
 use Rattle.play_lists.specs.Given.TablesDeclared.setting.Setting.{Setting}
 use Rattle.play_stepping.specs.Given.RawMachine.{machine_asked}
@@ -46,6 +45,7 @@ use Rattle.play_linear.proofs.Linear.CallsGo.{walks_go_on}
 use Rattle.play_linear.proofs.Linear.Heard.{IsHeard, SaidOn, begins_aside, begins_itself, stops_aside}
 use Rattle.play_linear.proofs.Linear.HeardAll.{AreHeard, AreHeardAt, none_other, one_heard}
 use Rattle.play_linear.proofs.Linear.TakesReply.{TakesNone, asked_none, begins_none}
+use Rattle.play_stepping.proofs.Given.General.{same_some}
 
 -- one that is not the other's has another name
 not_named : (i j : ℕ) → (j ≡ i → ⊥) → is_same (named i) (named j) ≡ false

@@ -3,7 +3,6 @@ use Rattle.std.specs.Prelude.{◌≡◌, ◌⊎◌, ◌≢◌, ◌<◌, ◌+◌,
 use Rattle.std.proofs.Common.{refl, ap, sym, subst, ◌∙◌, arith, inl, inr}
 use Rattle.std.proofs.lemmas.Bool.{cases_eq}
 use Rattle.seize_acts.specs.Acts.Answers.{Grant}
-use Rattle.seize_acts.proofs.Acts.Answers.{same_some}
 use Rattle.play_stepping.specs.Given.SeizeWorld.{World, with_at}
 use Rattle.play_stepping.specs.Given.SeizeDeclared.advance.Advance.{Advance}
 use Rattle.play_stepping.specs.Given.SeizeDeclared.advance.Advance.TheVariants as progress
@@ -24,6 +23,7 @@ use Rattle.play_lists.specs.Given.ScenesScene.{Scene, slot_of}
 use Rattle.play_stepping.specs.Given.MomentsNumbers.{MapsAreBelow}
 use Rattle.play_lists.specs.Given.ActsActs.{Act, Answer, BeginsCall, StepsCall, TellsCall, AsksCall, StopsCall, BeginsMaking, StepsMaking, BeginsEnding, StepsEnding, BeginsRow, StepsRow}
 use Rattle.play_lists.specs.Given.ActsLeads.{CallCame, EndingCame, Led, MakingCame}
+use Rattle.play_stepping.proofs.Given.General.{same_some}
 
 -- a map that goes on with its setting was there
 there_still : {K : Type 0} (before after : Option (Standing K)) → option_map (λ (st : Standing K). st.setting) after ≡ option_map (λ (st : Standing K). st.setting) before → (st : Standing K) → after ≡ Some st

@@ -3,7 +3,6 @@ use Rattle.std.specs.Prelude.{◌≡◌, ℕ, Bool, true, false, Some, None, Res
 use Rattle.std.proofs.Common.{refl, ap, sym, subst, ◌∙◌}
 use Rattle.seize_acts.specs.Acts.Acts.{rests}
 use Rattle.seize_acts.specs.Acts.Answers.{Grant}
-use Rattle.seize_acts.proofs.Acts.Answers.{same_some}
 use Rattle.play_stepping.specs.Given.RawMachine.{machine_asked, machine_replied}
 use Rattle.play_stepping.specs.Given.RawDeclared.machines.asking.MachineReply.{MachineReply as Told}
 use Rattle.play_stepping.specs.Given.RawDeclared.machines.machine.Machine.{Machine}
@@ -30,12 +29,12 @@ use Rattle.play_lists.specs.Played.Reached.{IsOf}
 use Rattle.play_lists.proofs.Played.Noted.{CallsAreNoted}
 use Rattle.play_lists.proofs.Played.PlayedAs.{PlayedAs}
 use Rattle.play_linear.proofs.Linear.BeginsPlayed.{played_asks, played_asks_are_heard, played_begins, played_begins_are_heard, played_stays, played_stays_heard, played_stops, played_stops_are_heard}
-use Rattle.play_linear.proofs.Linear.Gone.{nothing_told}
 use Rattle.play_linear.proofs.Linear.HeardAll.{AreHeardAt}
 use Rattle.play_linear.proofs.Linear.Holds.{Holds, onto}
 use Rattle.play_linear.proofs.Linear.RepliesPlayed.{played_replies, played_replies_are_heard}
 use Rattle.play_linear.proofs.Linear.StepsPlayed.{led, played_steps_answer, played_steps_are_heard, played_steps_are_linearizable, there_alike, there_is}
 use Rattle.play_lists.proofs.Played.Tied.{call_tied}
+use Rattle.play_stepping.proofs.Given.General.{same_some, none_mapped as nothing_told}
 
 pub ok_is : {E : Type 0} (r : Result Unit E) → is_ok r ≡ true → r ≡ Ok tt
 ok_is (Ok done) e = refl

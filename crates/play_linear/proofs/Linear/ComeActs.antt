@@ -3,7 +3,6 @@ use Rattle.std.specs.Prelude.{◌≡◌, ◌≢◌, ◌⊎◌, ◌+◌, ℕ, Boo
 use Rattle.std.proofs.Common.{refl, ap, sym, subst, ◌∙◌, arith, inl, inr}
 use Rattle.std.proofs.lemmas.Bool.{cases_eq}
 use Rattle.seize_acts.specs.Acts.Answers.{Grant}
-use Rattle.seize_acts.proofs.Acts.Answers.{same_some}
 use Rattle.play_stepping.specs.Given.SeizeWorld.{Row, World, with_at}
 use Rattle.play_stepping.specs.Given.SeizeDeclared.advance.Advance.{Advance}
 use Rattle.play_stepping.specs.Given.SeizeDeclared.advance.Advance.TheVariants as progress
@@ -51,6 +50,7 @@ use Rattle.play_linear.proofs.Linear.Going.{goes_alike, goes_beside}
 use Rattle.play_linear.proofs.Linear.Gone.{BeginsOther, acts_leave_gone}
 use Rattle.play_linear.proofs.Linear.MakesRight.{made_coming, made_names, made_numbers}
 use Rattle.play_lists.proofs.Played.Tied.{EndingTied, MakingTied, call_tied, ending_tied, making_tied}
+use Rattle.play_stepping.proofs.Given.General.{same_some}
 
 -- What is noted of a map that stands.
 module _ {K V : Type 0} (same : K → K → Bool) (hash : ℕ → K → ℕ) (old : Held K V) (m : Moment K V) (known : Known) (s : Scene K V) (at : IsAt same hash old s) (shown : Shows same named m known s) (map : ℕ) (standing : Standing K)

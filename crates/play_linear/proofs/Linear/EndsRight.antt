@@ -3,7 +3,6 @@ use Rattle.std.specs.Prelude.{◌≡◌, ◌≢◌, ◌⊎◌, ℕ, Bool, true, 
 use Rattle.std.proofs.Common.{refl, ap, sym, subst, ◌∙◌, inl, inr}
 use Rattle.std.proofs.lemmas.Bool.{cases_eq}
 use Rattle.std.proofs.lemmas.List.{append-nil}
-use Rattle.seize_acts.proofs.Acts.Answers.{same_some}
 use Rattle.play_stepping.specs.Given.SeizeWorld.{World, times, with_at}
 use Rattle.play_stepping.specs.Given.SeizeDeclared.rows.settle.Settled.{Settled}
 use Rattle.play_stepping.specs.Given.SeizeDeclared.rows.settle.Settled.TheVariants as settled
@@ -46,6 +45,7 @@ use Rattle.play_linear.proofs.Linear.MapsPlayed.{IsApart}
 use Rattle.play_linear.proofs.Linear.Names.{apart_so}
 use Rattle.play_lists.specs.Agrees.Fresh.{AreNamed}
 use Rattle.play_lists.proofs.Agrees.Names.{effects_named, gone_named}
+use Rattle.play_stepping.proofs.Given.General.{same_some}
 
 -- what ends with a map leaves numbers below the count
 ends_count : {K V : Type 0} (count map : ℕ) (first : Known) (blocks : List ℕ) (m : Moment K V) → NumbersUpTo count m → NumbersUpTo count (with_effects None (Some map) (ended_as map first blocks) m)

@@ -1,8 +1,7 @@
 -- A map that has gone neither stands nor is made, after each act by which none is made by its number.
 use Rattle.std.specs.Prelude.{◌≡◌, ◌⊎◌, ◌≢◌, ℕ, Bool, Option, Some, None, option_map}
-use Rattle.std.proofs.Common.{refl, ap, sym, subst, ◌∙◌, inl, inr}
+use Rattle.std.proofs.Common.{ap, sym, subst, ◌∙◌, inl, inr}
 use Rattle.std.proofs.lemmas.Bool.{cases_eq}
-use Rattle.seize_acts.proofs.Acts.Answers.{same_some}
 use Rattle.play_stepping.specs.Given.SeizeWorld.{World, with_at}
 use Rattle.play_stepping.specs.Given.SeizeDeclared.advance.Advance.{Advance}
 use Rattle.play_stepping.specs.Given.SeizeDeclared.advance.Advance.TheVariants as progress
@@ -24,11 +23,7 @@ use Rattle.play_lists.specs.Given.ActsActs.{Act, Answer, BeginsCall, StepsCall, 
 use Rattle.play_lists.specs.Given.ActsLeads.{EndingCame, Led, MakingCame}
 use Rattle.play_linear.specs.Linear.Coming.{IsGone}
 use Rattle.play_linear.proofs.Linear.Below.{called_settings}
-
--- what is told of nothing is told of nothing
-pub nothing_told : {A B : Type 0} (f : A → B) (o : Option A) → option_map f o ≡ None → o ≡ None
-nothing_told f None e = refl
-nothing_told f (Some a) e = absurd (cc e)
+use Rattle.play_stepping.proofs.Given.General.{none_mapped as nothing_told, same_some}
 
 -- a making that begins is of another map
 abbrev pub BeginsOther : {K V S : Type 0} → ℕ → Act K V S → Type 0

@@ -1,7 +1,6 @@
 -- Where a call takes a reply, as it is played, the entry is linearizable, and what the moment shows of calls and of what they were told it shows then.
 use Rattle.std.specs.Prelude.{◌≡◌, ◌⊎◌, ℕ, Bool, false, [], ◌∷◌, Option, Some, Ok, is_ok, if◌then◌else◌}
 use Rattle.std.proofs.Common.{refl, ap, sym, subst, ◌∙◌, inl, inr}
-use Rattle.seize_acts.proofs.Acts.Answers.{same_some}
 use Rattle.play_stepping.specs.Given.RawMachine.{machine_replied}
 use Rattle.play_stepping.specs.Given.RawDeclared.machines.asking.MachineReply.{MachineReply}
 use Rattle.play_stepping.specs.Given.RawDeclared.machines.asking.MachineReply.TheVariants as told
@@ -33,6 +32,7 @@ use Rattle.play_linear.proofs.Linear.Heard.{IsHeard, replies_aside, replies_itse
 use Rattle.play_linear.proofs.Linear.HeardAll.{AreHeard, AreHeardAt, none_other, one_heard}
 use Rattle.play_linear.proofs.Linear.Taken.{replies_are_taken}
 use Rattle.play_linear.proofs.Linear.TakesReply.{TakesNone, refuses, took_none}
+use Rattle.play_stepping.proofs.Given.General.{same_some}
 
 -- what is told so is told by that reply
 pub told_back : {V : Type 0} (aborts : V) (told_it : MachineReply V) → as_told (reply_for aborts told_it) ≡ told_it

@@ -21,6 +21,7 @@ use Rattle.play_lists.specs.Given.EffectsDeclared.role.Role.TheVariants as role
 use Rattle.play_lists.proofs.Given.OthersRowPlans.{TellsRow}
 use Rattle.play_lists.specs.Given.LoggedEnds.{ended_as}
 use Rattle.play_lists.proofs.Given.ShedsReclaiming.Rows.{EmptiesRoot}
+use Rattle.run_legal.proofs.MapsEnd.{making_none as first_shifts}
 
 -- what takes a block away shifts nothing
 taken_shifts : (who : Acting) (r : Role) → flat_map shift_of (taken_by who r) ≡ []
@@ -61,13 +62,6 @@ rows_shift_none known (changed.Made kind b) (inr is) = absurd is
 rows_shift_none known (changed.Unmade kind) is = refl
 rows_shift_none known (changed.Took b) is = taken_shifts acts.Row (known.roles b)
 rows_shift_none known (changed.Roomed bucket had) is = unless_shifts (had && nat_lt bucket known.buckets) (effect.Asked ABucket ∷ []) refl
-
--- of makings
-first_shifts : (f : Effect) → is_first_making f ≡ true → shift_of f ≡ []
-first_shifts (effect.Stored n s) first = absurd (cc first)
-first_shifts (effect.Replaced n) first = absurd (cc first)
-first_shifts (effect.Removed n) first = absurd (cc first)
-first_shifts _ first = refl
 
 pub firsts_shift_none : (effects : List Effect) → list_all is_first_making effects ≡ true → flat_map shift_of effects ≡ []
 firsts_shift_none [] all = refl

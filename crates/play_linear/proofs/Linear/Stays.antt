@@ -2,7 +2,6 @@
 use Rattle.std.specs.Prelude.{◌≡◌, ℕ, Bool, [], Option, option_map}
 use Rattle.std.proofs.Common.{ap, sym, subst, ◌∙◌, arith}
 use Rattle.seize_acts.specs.Acts.Answers.{Grant, stepped}
-use Rattle.seize_acts.proofs.Acts.Answers.{same_some}
 use Rattle.run_schedules.specs.Given.SeizeWordsMem.{Mem}
 use Rattle.run_schedules.specs.Given.SeizeWordsPlan.{Plan}
 use Rattle.play_stepping.specs.Given.SeizeReclaimAll.{reclaim_all_plan}
@@ -36,6 +35,7 @@ use Rattle.play_linear.specs.Linear.Shown.{ShowsAnswers}
 use Rattle.play_linear.proofs.Linear.AsideActs.{reclaiming_aside}
 use Rattle.play_linear.proofs.Linear.Holding.{AllHolds, acts_come, acts_hold, new_number}
 use Rattle.play_linear.proofs.Linear.RowActs.{all_steps_hold}
+use Rattle.play_stepping.proofs.Given.General.{same_some}
 
 -- at first
 first_shows : {K V : Type 0} (same : K → K → Bool) (roots : ℕ) → ShowsAnswers {K = K} {V = V} same (past []) (moment []) nothing_known (at_first roots)

@@ -1,7 +1,6 @@
 -- The step of a call, as it is played, is an entry that is linearizable, and what the moment shows of calls and of what they were told it shows then.
 use Rattle.std.specs.Prelude.{◌≡◌, ◌⊎◌, ◌+◌, ℕ, Bool, true, false, List, Option, Some, None, option_map, if◌then◌else◌}
 use Rattle.std.proofs.Common.{refl, ap, sym, subst, ◌∙◌, inl, inr}
-use Rattle.seize_acts.proofs.Acts.Answers.{same_some}
 use Rattle.run_schedules.specs.Given.SeizeWordsMem.{Mem}
 use Rattle.play_lists.specs.Given.TablesDeclared.node.Node.{Node}
 use Rattle.play_stepping.specs.Given.RawDeclared.machines.machine.Machine.{Machine}
@@ -41,6 +40,7 @@ use Rattle.play_linear.proofs.Linear.Comes.{steps_come_so}
 use Rattle.play_linear.proofs.Linear.Heard.{IsHeard, IsSaid, come_asks, come_said, steps_aside, steps_itself}
 use Rattle.play_linear.proofs.Linear.HeardAll.{AreHeard, none_other, one_heard}
 use Rattle.play_linear.proofs.Linear.TakesReply.{TakesNone, steps_take_none}
+use Rattle.play_stepping.proofs.Given.General.{same_some}
 
 -- what is told alike of both is there alike
 pub there_alike : {A B C : Type 0} (f : A → C) (g : B → C) (o : Option A) (p : Option B) → option_map f o ≡ option_map g p → (a : A) → o ≡ Some a → (b : B) × (p ≡ Some b) × (f a ≡ g b)

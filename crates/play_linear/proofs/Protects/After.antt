@@ -28,6 +28,7 @@ use Rattle.play_lists.specs.Agrees.Guards.{guard_on}
 use Rattle.play_lists.proofs.Agrees.Leads.{LeavesThere, there_after}
 use Rattle.play_lists.proofs.Agrees.Lists.{all_kept, found_kept, found_so}
 use Rattle.play_linear.specs.Protects.Shelters.{IsOpen, SectionsShelter}
+use Rattle.play_lists.proofs.Agrees.Opens.{one_number as one_slot}
 
 -- where nothing is reclaimed, none of these is
 pub none_back : (effects : List Effect) → flat_map thing_back effects ≡ [] → (xs : List Sheltered) → NoneIsBack effects xs
@@ -126,9 +127,6 @@ module _ {K V : Type 0} (On : ℕ → Type 0) (there : Present) (w : World (Node
 
 -- Where each guard that is found is on a slot of such a kind, each guard of the list is, as it has the name of its slot.
 module _ (On : ℕ → Type 0) (there : Present) (guards : GuardsAreOn On there) where
-  one_slot : (s t : ℕ) → named s ≡ named t → s ≡ t
-  one_slot s t e = cc e
-
   pub all_on : (gs : List NamedGuard) → AllByRecursion (λ (g : NamedGuard). g ≡ guard_on g.slot) gs → AllByRecursion (IsFound there.guards) gs → AllByRecursion (λ (g : NamedGuard). g ≡ guard_on g.slot) there.guards
       → AllByRecursion (λ (g : NamedGuard). On g.slot) gs
   all_on [] each found all = tt

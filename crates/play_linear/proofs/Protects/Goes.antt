@@ -14,9 +14,9 @@ use Rattle.play_lists.specs.Given.TablesDeclared.setting.Setting.{Setting}
 use Rattle.play_stepping.specs.Given.CallersTogether.{HandsOver, IsOneStep}
 use Rattle.play_stepping.proofs.Given.CallersTogether.At.{at_same}
 use Rattle.play_lists.proofs.Given.PromisesShelters.Within.{GoOnByRows, Sections}
-use Rattle.play_lists.proofs.Agrees.Slots.{inside_shared}
 use Rattle.play_linear.specs.Protects.Shelters.{IsOpen}
 use Rattle.play_linear.proofs.Protects.Sections.{Keeps, Spares, keeps_by, keeps_same, keeps_then, step_keeps, users_keep}
+use Rattle.seize_acts.proofs.Given.SeizeAloneHistories.Uses.{inside_shared}
 
 module _ {K V : Type 0} where
   -- a section is open, and no row of this caller ends it with its next step

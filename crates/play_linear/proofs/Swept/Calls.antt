@@ -1,11 +1,8 @@
 -- What a moment shows of sweeps and counts it shows where a call begins, takes a step, takes a reply, goes on as a walk, or is given up.
-use Rattle.std.specs.Prelude.{◌≡◌, ℕ, nat_lt, Bool, true, false, Option, Some, None, Ok, if◌then◌else◌}
+use Rattle.std.specs.Prelude.{◌≡◌, ℕ, Bool, true, Option, Some, None, Ok}
 use Rattle.std.proofs.Common.{refl, ap, sym, subst, ◌∙◌, arith, inl, inr}
-use Rattle.seize_acts.proofs.Acts.Answers.{same_some}
-use Rattle.play_stepping.specs.Given.SweepsSweepPoints.{after_next, next_at}
+use Rattle.play_stepping.specs.Given.SweepsSweepPoints.{after_next}
 use Rattle.play_stepping.specs.Given.ReservesDeclared.sweep.Purpose.TheVariants as purpose
-use Rattle.play_stepping.specs.Given.ReservesDeclared.sweep.Sweep.{Sweep}
-use Rattle.play_stepping.specs.Given.ReservesDeclared.sweep.Sweeping.{Sweeping}
 use Rattle.play_stepping.specs.Given.ReservesDeclared.sweep.Sweeping.TheVariants as sweeping
 use Rattle.play_lists.specs.Given.TablesDeclared.node.Node.{Node}
 use Rattle.play_stepping.specs.Given.RawMachine.{machine_replied}
@@ -46,7 +43,7 @@ use Rattle.play_lists.proofs.Given.HistoriesCalling.{first_steps_change_first}
 use Rattle.play_lists.proofs.Given.KeptBetween.{uncounted_at_first}
 use Rattle.play_lists.specs.Given.SettlesCounts.{is_to_count}
 use Rattle.play_lists.proofs.Given.SettlesBetween.{told_same}
-use Rattle.play_lists.specs.Given.ShardsAdds.{adds_in_sweeping, adds_of}
+use Rattle.play_lists.specs.Given.ShardsAdds.{adds_of}
 use Rattle.play_lists.specs.Given.ShardsShardWords.{ShowsCounters}
 use Rattle.play_lists.proofs.Given.ShardsAdds.{machine_adds, machine_not_adds}
 use Rattle.play_lists.proofs.Given.ShardsShardBetween.{calls_begin_counters, calls_come_to_counters, calls_take_counters, counters_stay, fewer_add}
@@ -69,6 +66,8 @@ use Rattle.play_linear.specs.Linear.Shown.{ShowsAnswers}
 use Rattle.play_linear.proofs.Linear.Begun.{begun_rightly}
 use Rattle.play_linear.specs.Swept.Shown.{ShowsSweeps}
 use Rattle.play_linear.proofs.Swept.Tabled.{calls_keep_tabled, tabled_stays}
+use Rattle.play_stepping.proofs.Given.General.{same_some}
+use Rattle.run_legal.proofs.Between.{about_pair, not_ready, adds_next}
 
 -- a call as an act begins it is for what was called
 begun_for : {K V : Type 0} (same : K → K → Bool) (st : Standing K) (i : ℕ) (wanted : Wanted K V) → IsFor (begun same slot_of st i wanted) (call_for wanted)
@@ -92,20 +91,6 @@ begun_for same st i Count = tt
 begun_for same st i (GoOver purpose.Walks) = refl
 begun_for same st i (GoOver purpose.Clears) = refl
 begun_for same st i (GoOver purpose.Retains) = refl
-
--- what a retaining asks about is the pair of its word
-about_pair : (known : Known) (word : ℕ) (question : Option ℕ) → IsToldQuestion known (Some word) question → (q : ℕ) × (question ≡ Some q) × NamesPair known word q
-about_pair known word (Some q) told = (q, refl, told)
-about_pair known word None told = absurd told
-
--- a walk that goes on to its next pair is about to count what it was
-not_ready : (q : Bool) (removed : ℕ) → adds_in_sweeping (if q then sweeping.Words else sweeping.Over) ≡ Some removed → ⊥
-not_ready true removed adds = absurd (cc adds)
-not_ready false removed adds = absurd (cc adds)
-
-adds_next : (p : Sweeping) (c : Sweep) (removed : ℕ) → c.stands ≡ p → adds_in_sweeping (next_at p c).stands ≡ Some removed → adds_in_sweeping c.stands ≡ Some removed
-adds_next sweeping.Ready c removed is adds = absurd (not_ready (nat_lt c.place c.table.len) removed adds)
-adds_next _ c removed is adds = adds
 
 -- Where one call has changed, each one that is about to count was so, if that is.
 module _ {K V : Type 0} (s : Scene K V) (map i : ℕ) (next : Option (UnderWay K V K)) where

@@ -1,7 +1,6 @@
 -- Each entry of a history has done what its call is for, and the moment shows sweeps and counts: so it stays by each kind of step.
 use Rattle.std.specs.Prelude.{◌≡◌, ℕ, suc, Bool, true, List, ◌∷◌, Option, Some, None}
 use Rattle.std.proofs.Common.{refl, ap, sym, subst, ◌∙◌, arith}
-use Rattle.seize_acts.proofs.Acts.Answers.{same_some}
 use Rattle.play_lists.specs.Given.FinishesMaps.{Standing}
 use Rattle.run_schedules.specs.declared.effect.Effect.{Effect}
 use Rattle.run_schedules.specs.declared.outcome.Outcome.{Outcome}
@@ -35,6 +34,7 @@ use Rattle.play_linear.proofs.Swept.Calls.{reads, sweeps_begin, sweeps_go_on, sw
 use Rattle.play_linear.proofs.Swept.Kept.{IsKept, alone, coming, comes_by}
 use Rattle.play_linear.proofs.Swept.Others.{sweeps_by_end, sweeps_by_end_begun, sweeps_by_making, sweeps_by_making_begun, sweeps_by_map_come, sweeps_by_map_gone, sweeps_by_reclaiming, sweeps_by_row, sweeps_by_row_begun, sweeps_chosen, sweeps_like, sweeps_over}
 use Rattle.play_linear.proofs.Swept.SweptBy.{pair_words, right, shows_as_walk, walks_bring_none}
+use Rattle.play_stepping.proofs.Given.General.{same_some}
 
 module _ {K V : Type 0} (same : K → K → Bool) (terms : Terms) where
   -- an entry of no call is swept

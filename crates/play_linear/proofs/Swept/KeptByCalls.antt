@@ -30,7 +30,6 @@ use Rattle.play_lists.specs.Played.Reached.{IsOf}
 use Rattle.play_lists.proofs.Played.PlayedAs.{PlayedAs}
 use Rattle.play_linear.proofs.Linear.BeginsPlayed.{asked_so, none_named, none_then, same_calls}
 use Rattle.play_linear.proofs.Linear.CallActs.{err_is, its_machine, ok_is, resting}
-use Rattle.play_linear.proofs.Linear.Gone.{nothing_told}
 use Rattle.play_linear.proofs.Linear.Heard.{IsHeard}
 use Rattle.play_linear.proofs.Linear.Holds.{Holds}
 use Rattle.play_linear.proofs.Linear.RepliesPlayed.{told_back}
@@ -38,6 +37,7 @@ use Rattle.play_linear.proofs.Linear.TakesReply.{TakesNone, refuses}
 use Rattle.play_linear.proofs.Linear.StepsPlayed.{led, played_ended, there_is}
 use Rattle.play_lists.proofs.Played.Tied.{call_tied}
 use Rattle.play_linear.proofs.Swept.Kept.{IsKept, Now}
+use Rattle.play_stepping.proofs.Given.General.{none_mapped as nothing_told}
 
 module _ {K V S : Type 0} (same : K → K → Bool) (by_hasher : S → K → ℕ) (hash : ℕ → K → ℕ) (batch_size roots : ℕ) (aborts : ℕ → V) (R P : List (Entry K V) → Known → Scene K V → Type 0)
     (kept : IsKept same hash R P) (x y : State K V S) (s n : Scene K V) (rows : ℕ → Row)

@@ -2,7 +2,6 @@
 use Rattle.std.specs.Prelude.{Bool, false}
 use Rattle.std.specs.List.{AllByRecursion}
 use Rattle.std.proofs.Common.{ℕ, List, [], ◌∷◌, subst, sym, ◌∙◌}
-use Rattle.seize_acts.proofs.Acts.Answers.{same_some}
 use Rattle.many_acts.specs.Acts.Acts.{Act}
 use Rattle.many_acts.specs.Acts.Doings.{Doing, Does, BeginsReclaiming, BeginsClearing, StepsReclaiming, Chooses}
 use Rattle.run_schedules.specs.Deeds.Deeds.{moment}
@@ -22,6 +21,7 @@ use Rattle.play_lists.proofs.Agrees.Grants.{each_refuses}
 use Rattle.play_lists.proofs.Agrees.Guards.{GuardsHold, guards_at_first, guards_stay}
 use Rattle.play_lists.proofs.Agrees.Numbers.{NumbersStay, numbers_first, numbers_stay}
 use Rattle.play_lists.proofs.Agrees.Shards.{shards_stay}
+use Rattle.run_finds.proofs.Given.General.{same_some}
 
 module _ {K S : Type 0} (V : Type 0) (same : K → K → Bool) (by_hasher : S → K → ℕ) (hash : ℕ → K → ℕ) (batch_size roots : ℕ) (aborts : ℕ → V) where
   abbrev Stays : (State K V S → Act K V S → Type 0) → (At V same by_hasher hash batch_size roots → State K V S → Type 0) → Type 0

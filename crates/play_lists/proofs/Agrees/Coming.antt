@@ -3,7 +3,6 @@ use Rattle.std.specs.Prelude.{◌≢◌, ◌⊎◌, ◌==◌, Option, Some, None
 use Rattle.std.proofs.Common.{◌≡◌, ℕ, Bool, true, false, List, [], ◌∷◌, inl, inr, refl, ap, sym, subst, ◌∙◌}
 use Rattle.std.proofs.lemmas.Bool.{cases_eq, eq-eqb, ne_eqb}
 use Rattle.seize_acts.specs.Acts.Answers.{Grant}
-use Rattle.seize_acts.proofs.Acts.Answers.{same_some}
 use Rattle.run_schedules.specs.Given.SeizeWordsMem.{Mem}
 use Rattle.map_tables.specs.Given.SeizeReclaimAll.{clearing, reclaiming_all}
 use Rattle.map_tables.specs.Given.SeizeWorld.{with_at}
@@ -30,7 +29,9 @@ use Rattle.play_lists.proofs.Played.PlayedAs.{PlayedAs, ReclaimedAs, played_as, 
 use Rattle.play_lists.specs.Agrees.Fresh.{HasNewNumber, MakesNew, MakesOnce, OnceIsNew, comes_with, gives_back, is_made, is_taken, makes_one}
 use Rattle.play_lists.proofs.Agrees.Numbers.{with_so}
 use Rattle.play_lists.proofs.Agrees.Openings.{IsRefused, ending_comes_none, no_other_comes, none_comes, root_kept}
-use Rattle.play_lists.proofs.Agrees.Told.{mapped, row_of_no_map}
+use Rattle.play_lists.proofs.Agrees.Told.{row_of_no_map}
+use Rattle.play_lists.proofs.Grouped.Callers.{under as mapped}
+use Rattle.run_finds.proofs.Given.General.{same_some}
 
 module _ {K V : Type 0} where
   -- a number that is not taken is none yet by a deed with which none comes

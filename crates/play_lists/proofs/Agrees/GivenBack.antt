@@ -2,7 +2,6 @@
 use Rattle.std.specs.Prelude.{◌≢◌, Option, Some, None, is_ok, length, option_map, if◌then◌else◌}
 use Rattle.std.proofs.Common.{◌≡◌, ℕ, Bool, true, false, List, [], ◌∷◌, refl, ap, sym, subst, arith, ◌∙◌}
 use Rattle.seize_acts.specs.Acts.Answers.{Grant, stepped}
-use Rattle.seize_acts.proofs.Acts.Answers.{same_some}
 use Rattle.run_schedules.specs.Given.SeizeWordsMem.{Mem}
 use Rattle.map_tables.specs.Given.SeizeReclaimAll.{reclaim_all_plan}
 use Rattle.map_tables.specs.Given.SeizeWorld.{with_at}
@@ -17,7 +16,7 @@ use Rattle.run_logged.specs.Given.RawEndMap.{end_map_plan, ending}
 use Rattle.run_logged.specs.Given.RawMachine.{machine_asked, machine_plan, machine_replied}
 use Rattle.run_logged.specs.Given.EffectsDeclared.changed.Changed.{Changed}
 use Rattle.many_acts.specs.Given.ScenesScene.{row_of, slot_of}
-use Rattle.many_acts.proofs.Given.ScenesNoCall.{none_is, none_of}
+use Rattle.many_acts.proofs.Given.ScenesNoCall.{none_is}
 use Rattle.run_schedules.specs.declared.outcome.Outcome.TheVariants as outcome
 use Rattle.run_logged.specs.Given.EffectsEffects.{known_after}
 use Rattle.run_logged.specs.Given.EffectsDeclared.acting.Acting.TheVariants as acting
@@ -42,6 +41,7 @@ use Rattle.play_lists.proofs.Agrees.Fresh.{AnyTable, IsElsewhere, entry_bare}
 use Rattle.play_lists.proofs.Agrees.Names.{names_grow}
 use Rattle.play_lists.proofs.Agrees.Numbers.{MakesMayFail, NumbersHold, acts_number, bare_else, call_else, ending_else, entry, making_else, no_map_else, numbers_first, reclaiming_numbers, same_map, with_each, with_so}
 use Rattle.play_lists.proofs.Agrees.Told.{all_say, reclaims_all, row_of_no_map, row_says}
+use Rattle.run_finds.proofs.Given.General.{same_some, none_mapped as none_of}
 
 module _ {K V S : Type 0} where
   -- Of each map that is made nothing is there before it has a table; and none that stands, and none that ends, has its number.

@@ -11,7 +11,7 @@ use Rattle.play_lists.specs.Played.Play.{is_refusal}
 use Rattle.play_lists.specs.Agrees.Grants.{EachRefuses}
 use Rattle.play_lists.proofs.Agrees.Entries.{Grows}
 
-refusals_so : (who : Acting) (known : Known) (changed : Changed) → Refuses (is_refusal changed) (effects_of who known changed)
+pub refusals_so : (who : Acting) (known : Known) (changed : Changed) → Refuses (is_refusal changed) (effects_of who known changed)
 refusals_so who known changes.Nothing = tt
 refusals_so who known (changes.Wrote at old new) = tt
 refusals_so who known (changes.Made kind b) = tt

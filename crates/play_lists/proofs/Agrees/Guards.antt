@@ -3,7 +3,6 @@ use Rattle.std.specs.Prelude.{Bool, true, false, Option, Some, None, option_map,
 use Rattle.std.proofs.Common.{◌≡◌, ℕ, List, [], ◌∷◌, refl, ap, sym, subst, ◌∙◌}
 use Rattle.seize_acts.specs.Acts.Acts.{row_steps}
 use Rattle.seize_acts.specs.Acts.Answers.{Grant}
-use Rattle.seize_acts.proofs.Acts.Answers.{same_some}
 use Rattle.map_tables.specs.Given.SeizeWorld.{World, Row, Rests, Begins as BeginsSo, IsInside, Request, with_at}
 use Rattle.map_tables.specs.Given.SeizeReclaimAll.{reclaim_all_plan}
 use Rattle.map_tables.specs.Given.SeizeDeclared.advance.Advance.{Advance}
@@ -30,7 +29,6 @@ use Rattle.many_acts.specs.Given.ScenesRows.{begun_row, request_of}
 use Rattle.many_acts.specs.Given.ScenesScene.{Scene, at_first, row_of, slot_of}
 use Rattle.many_acts.specs.Given.ScenesDeclared.row.SlotCall.{SlotCall}
 use Rattle.many_acts.specs.Given.ScenesDeclared.row.SlotRow.{SlotRow}
-use Rattle.many_acts.specs.Given.ScenesDeclared.row.SlotRow.TheVariants as rows
 use Rattle.run_schedules.specs.Runs.Present.{Present, nobody}
 use Rattle.run_schedules.specs.declared.outcome.Outcome.TheVariants as outcome
 use Rattle.many_acts.specs.Acts.Acts.{Act, Answer, BeginsCall, StepsCall, TellsCall, AsksCall, StopsCall, BeginsMaking, StepsMaking, BeginsEnding, StepsEnding, BeginsRow, StepsRow}
@@ -38,7 +36,6 @@ use Rattle.run_logged.specs.Given.EffectsEffects.{effects_of, known_after}
 use Rattle.run_logged.specs.Given.EffectsDeclared.acting.Acting.TheVariants as acting
 use Rattle.run_finds.specs.Given.NamedSeen.{kind_of}
 use Rattle.many_acts.specs.Acts.AsSteps.{IsOwn, changed_of, row_changed}
-use Rattle.many_acts.specs.Acts.Doings.{still as goes_still}
 use Rattle.many_acts.specs.Acts.Leads.{EndingCame, Led, MakingCame, MayBe}
 use Rattle.run_schedules.specs.Deeds.Deeds.{Begins, Entry, ReclaimsAll, Replies, Steps, Stops, moment}
 use Rattle.play_lists.specs.Played.Play.{Making, Now, State, all_begun, choice_come, call_for, ending_deed, first_state, is_over, is_refusal, made_on, making_deed, making_outcome, outcome_of, reply_for, row_deed, row_on, row_outcome, settled_outcome, slot_call_of}
@@ -51,14 +48,9 @@ use Rattle.play_lists.specs.Agrees.Guards.{GuardsAgree, GuardsAre, UnlessReclaim
 use Rattle.play_lists.proofs.Agrees.Leads.{LeavesThere, ending_leaves, making_leaves, there_after, there_as_before}
 use Rattle.play_lists.proofs.Agrees.Rows.{rows_by}
 use Rattle.play_lists.proofs.Agrees.Slots.{quiet, row_begun_so, row_so, still}
-
--- no row between calls rests
-no_row : (row : SlotRow) → row_of row ≡ Rests → ⊥
-no_row (rows.Registers c) e = cc e
-no_row (rows.Enters c) e = cc e
-no_row (rows.Leaves c) e = cc e
-no_row (rows.Flushes c) e = cc e
-no_row (rows.Frees c) e = cc e
+use Rattle.many_acts.proofs.Carries.Onward.{has_ended as over_is}
+use Rattle.many_acts.proofs.Given.ScenesRows.{never_rests as no_row}
+use Rattle.run_finds.proofs.Given.General.{same_some}
 
 module _ {K V S : Type 0} where
   -- a making that goes on leaves rows as they are
@@ -173,13 +165,6 @@ module _ {K V S : Type 0} (same : K → K → Bool) (by_hasher : S → K → ℕ
       subst (λ (v : State K V S). GuardsAgree v n.world.uses) (sym is)
       (subst (λ (v : Scene K V). GuardsAre rows2 v.world.uses (moment (entry ∷ x.history)).there.guards) (sym e)
       (subst (λ (there : Present). GuardsAre rows2 w2.uses there.guards) (sym (there_after entry (moment x.history))) so))
-
--- who reclaims all is over where it goes on no more
-over_is : {T : Type 0} (told : Settled T) (it : ℕ × ReclaimAll) → goes_still told it ≡ None → told ≡ settled.Done
-over_is settled.Done it e = refl
-over_is settled.Goes it e = absurd (cc e)
-over_is settled.Waits it e = absurd (cc e)
-over_is (settled.Gave value) it e = absurd (cc e)
 
 all_over : {T : Type 0} (c : ReclaimAll) (told : Settled T) → (if is_over told then None else Some c) ≡ None → is_over told ≡ true
 all_over c told e = by (is_over told) e

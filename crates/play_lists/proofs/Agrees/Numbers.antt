@@ -4,7 +4,6 @@ use Rattle.std.specs.List.{AllByRecursion}
 use Rattle.std.proofs.Common.{◌≡◌, ℕ, Bool, true, false, List, [], ◌∷◌, inl, inr, refl, ap, sym, subst, ◌∙◌}
 use Rattle.std.proofs.lemmas.Bool.{cases_eq}
 use Rattle.seize_acts.specs.Acts.Answers.{Grant, stepped}
-use Rattle.seize_acts.proofs.Acts.Answers.{same_some}
 use Rattle.run_schedules.specs.Given.SeizeWordsMem.{Mem}
 use Rattle.run_schedules.specs.Given.SeizeWordsPlan.{Plan}
 use Rattle.map_tables.specs.Given.SeizeReclaimAll.{reclaim_all_plan}
@@ -52,6 +51,7 @@ use Rattle.play_lists.proofs.Agrees.Lists.{found_so}
 use Rattle.play_lists.proofs.Agrees.Names.{none_gone, worked_named}
 use Rattle.play_lists.proofs.Agrees.Openings.{IsRefused, comes_then, done_rooted, ending_acts, ending_begins_none, ending_keeps_numbers, gives_its, keeps_number, keeps_other, making_acts, making_begins_none, root_kept, rootless_quiet}
 use Rattle.play_lists.proofs.Agrees.Told.{OfNoMap, all_make, all_say, reclaims_all, row_makes, row_of_no_map, row_says}
+use Rattle.run_finds.proofs.Given.General.{same_some}
 
 -- at one number there is this then
 pub with_each : {X : Type 0} (f : ℕ → Option X) (i : ℕ) (next : Option X) (P : ℕ → X → Type 0) → ((x : X) → next ≡ Some x → P i x) → ((j : ℕ) (x : X) → j ≢ i → f j ≡ Some x → P j x) → (j : ℕ) (x : X)

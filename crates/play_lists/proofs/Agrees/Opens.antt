@@ -15,7 +15,7 @@ use Rattle.play_lists.specs.Agrees.Guards.{GuardsAre, IsOpen, guard_on}
 use Rattle.play_lists.proofs.Agrees.Lists.{all_kept, all_more, all_of, found_kept, found_so}
 
 -- one name is one number
-one_number : (s t : ℕ) → named s ≡ named t → s ≡ t
+pub one_number : (s t : ℕ) → named s ≡ named t → s ≡ t
 one_number s t e = cc e
 
 module _ (rows rows2 : ℕ → Option SlotRow) (uses uses2 : ℕ → Use) (guards : List NamedGuard) (here : GuardsAre rows uses guards) where

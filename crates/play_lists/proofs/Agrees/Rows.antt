@@ -4,7 +4,7 @@ use Rattle.std.proofs.Common.{◌≡◌, ℕ, Bool, true, false, [], ◌∷◌, 
 use Rattle.std.proofs.lemmas.Bool.{cases_eq}
 use Rattle.seize_acts.specs.Acts.Acts.{row_steps}
 use Rattle.seize_acts.specs.Acts.Answers.{Grant, stepped, then_on}
-use Rattle.seize_acts.proofs.Acts.Answers.{same_some, some, was_stepped}
+use Rattle.seize_acts.proofs.Acts.Answers.{some, was_stepped}
 use Rattle.run_schedules.specs.Given.SeizeWordsMem.{Mem, Took, value_at}
 use Rattle.run_schedules.specs.Given.SeizeWordsPlan.{Plan, Steps}
 use Rattle.map_tables.specs.Given.SeizeEnter.{enter_plan, unregister_plan}
@@ -12,7 +12,7 @@ use Rattle.map_tables.specs.Given.SeizeLaw.{Entered}
 use Rattle.map_tables.specs.Given.SeizeLeave.{leave_plan}
 use Rattle.map_tables.specs.Given.SeizeRegister.{plan_at, register_plan, registered}
 use Rattle.map_tables.specs.Given.SeizeSettle.{settle_plan}
-use Rattle.map_tables.specs.Given.SeizeWorld.{World, Rests, Use, Vacant, Outside, Inside, Changing, IsInside, after_step, left_as, leaves_on, one_less, one_more, registered_as, registered_use, registers_on, settles_on, with_at, with_use}
+use Rattle.map_tables.specs.Given.SeizeWorld.{World, Rests, Use, Vacant, Outside, Inside, IsInside, after_step, left_as, leaves_on, one_less, registered_as, registered_use, registers_on, settles_on, with_at, with_use}
 use Rattle.map_tables.specs.Given.SeizeDeclared.advance.Advance.{Advance}
 use Rattle.map_tables.specs.Given.SeizeDeclared.advance.Advance.TheVariants as progress
 use Rattle.map_tables.specs.Given.SeizeDeclared.rows.leave.Leave.{Leave}
@@ -33,6 +33,9 @@ use Rattle.many_acts.specs.Given.ScenesDeclared.row.SlotRow.{SlotRow}
 use Rattle.many_acts.specs.Given.ScenesDeclared.row.SlotRow.TheVariants as rows
 use Rattle.run_schedules.specs.Deeds.Deeds.{Deed, Leaves, Opens}
 use Rattle.play_lists.specs.Played.Play.{leaves_as, registers_as, row_deed}
+use Rattle.run_finds.proofs.Given.CallersTogether.Handed.{more_back as more_inside}
+use Rattle.run_finds.proofs.Given.CallersTogether.RowSteps.{less_inside}
+use Rattle.run_finds.proofs.Given.General.{same_some}
 
 -- Who is within a section after a deed was so, or the section began by it; and where it ends one nobody is within that.
 module _ (uses uses2 : ℕ → Use) where
@@ -58,18 +61,6 @@ module _ (uses : ℕ → Use) (t : ℕ) (u : Use) where
       by : (s : ℕ) → IsInside (with_at uses t u s) → (s ≡ t) ⊎ (s ≢ t) → IsInside (uses s) ⊎ (s ≡ t)
       by s in_it (inl e) = inr e
       by s in_it (inr ne) = inl (subst IsInside (at_other uses t u s ne) in_it)
-
-less_inside : (u : Use) → IsInside (one_less u) → IsInside u
-less_inside Vacant in_it = in_it
-less_inside (Outside n) in_it = in_it
-less_inside (Inside n) in_it = tt
-less_inside Changing in_it = in_it
-
-pub more_inside : (u : Use) → IsInside (one_more u) → IsInside u
-more_inside Vacant in_it = in_it
-more_inside (Outside n) in_it = in_it
-more_inside (Inside n) in_it = tt
-more_inside Changing in_it = in_it
 
 module _ {K V : Type 0} (i : ℕ) (w : World (Node K V)) where
   -- a step of a settling, of a registering, and of a leaving

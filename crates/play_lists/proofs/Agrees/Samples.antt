@@ -1,10 +1,8 @@
 -- A list of acts in which a number comes again, once the making with it was refused, makes each map with a new number. One in which it comes again, once a map has come with it, does not.
 use Rattle.std.specs.Prelude.{nat_eq, option_map}
 use Rattle.std.proofs.Common.{◌≡◌, ℕ, true, false, List, [], ◌∷◌, refl, subst, Option, Some, None}
-use Rattle.seize_acts.proofs.Acts.Answers.{same_some}
 use Rattle.run_schedules.specs.Given.SeizeWordsDeclared.fault.Fault.TheVariants.{Memory}
 use Rattle.map_tables.specs.declared.resize_mode.ResizeMode.TheVariants as mode
-use Rattle.map_tables.specs.declared.setting.Setting.{Setting}
 use Rattle.run_schedules.specs.declared.effect.Effect.TheVariants.{Asked}
 use Rattle.run_schedules.specs.declared.effect.Growth.TheVariants.{ABlock}
 use Rattle.run_schedules.specs.declared.outcome.Outcome.TheVariants.{Goes, Refused}
@@ -13,6 +11,8 @@ use Rattle.many_acts.specs.Acts.Doings.{Doing, Does}
 use Rattle.run_schedules.specs.Deeds.Deeds.{Entry, MapComes, MapFails, Makes}
 use Rattle.play_lists.specs.Played.Play.{State, first_state, play, play_all}
 use Rattle.play_lists.specs.Agrees.Fresh.{MakesNew, MakesOnce}
+use Rattle.play_lists.proofs.Played.Samples.{given}
+use Rattle.run_finds.proofs.Given.General.{same_some}
 
 abbrev Acts : Type 0
 Acts = Doing ℕ ℕ ℕ
@@ -34,9 +34,6 @@ got (Some x) = x
 
 next : (doing : Acts) (doings : List Acts) (x z : State ℕ ℕ ℕ) → plays doing x ≡ Some z → New doings z → (y : State ℕ ℕ ℕ) → plays doing x ≡ Some y → New doings y
 next doing doings x z is new y played = subst (New doings) (same_some z y (let both : Some z ≡ Some y = (cc (is, played)) in both)) new
-
-abbrev given : Setting
-given = record { slot = 0; batch_size = 1; root = 0; mode = mode.Incremental 64; counter = 0; mask = 0; initial = 8 }
 
 -- Caller 0 begins to make map 0, and takes its root; it is refused the block for the count, and gives the root up.
 abbrev begins : Acts

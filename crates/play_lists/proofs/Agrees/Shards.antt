@@ -2,7 +2,6 @@
 use Rattle.std.specs.Prelude.{◌≢◌, ◌⊎◌, ◌+◌, Option, Some, None, option_map}
 use Rattle.std.proofs.Common.{◌≡◌, ℕ, Bool, inl, inr, refl, ap, sym, subst, ◌∙◌}
 use Rattle.std.proofs.lemmas.Bool.{cases_eq}
-use Rattle.seize_acts.proofs.Acts.Answers.{same_some}
 use Rattle.map_tables.specs.Given.SeizeWorld.{World, with_at}
 use Rattle.map_tables.specs.Given.SeizeDeclared.advance.Advance.{Advance}
 use Rattle.map_tables.specs.Given.SeizeDeclared.advance.Advance.TheVariants as progress
@@ -24,6 +23,7 @@ use Rattle.many_acts.specs.Acts.Acts.{Act, Answer, BeginsCall, StepsCall, TellsC
 use Rattle.many_acts.specs.Acts.Leads.{EndingCame, Led, MakingCame}
 use Rattle.play_lists.proofs.Played.Along.{StaysSo}
 use Rattle.play_lists.specs.Agrees.Shards.{AsksShards, ShardsAre}
+use Rattle.run_finds.proofs.Given.General.{same_some}
 
 -- its setting, if there is a map
 abbrev pub setting_of : {K : Type 0} → Option (Standing K) → Option Setting

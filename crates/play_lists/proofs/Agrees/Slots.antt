@@ -2,7 +2,6 @@
 use Rattle.std.specs.Prelude.{◌≢◌, ◌⊎◌, ◌==◌, ◌+◌, Bool, true, false, Option, Some, if◌then◌else◌}
 use Rattle.std.proofs.Common.{◌≡◌, ℕ, List, [], ◌∷◌, ◌++◌, inl, inr, refl, ap, sym, subst, ◌∙◌}
 use Rattle.std.proofs.lemmas.Bool.{cases_eq}
-use Rattle.seize_acts.proofs.Acts.Answers.{same_some}
 use Rattle.map_tables.specs.Given.SeizeWorld.{World, Begins as BeginsSo, Vacant, Outside, Inside, Changing, IsInside, Use, Steps', one_more, with_at}
 use Rattle.map_tables.specs.Given.SeizeDeclared.rows.leave.Leave.{Leave}
 use Rattle.map_tables.specs.Given.SeizeDeclared.rows.leave.Leaving.{Leaving}
@@ -16,7 +15,7 @@ use Rattle.map_tables.specs.declared.node.Node.{Node}
 use Rattle.many_acts.specs.Given.CallersRows.{IsUsedAlike}
 use Rattle.many_acts.proofs.Given.CallersTogether.At.{at_other, at_same}
 use Rattle.seize_acts.proofs.Given.SeizeAloneHistories.Reached.{Reached}
-use Rattle.seize_acts.proofs.Given.SeizeAloneHistories.Uses.{inside_kept}
+use Rattle.seize_acts.proofs.Given.SeizeAloneHistories.Uses.{inside_kept, inside_shared}
 use Rattle.seize_acts.proofs.Given.SeizeRuleRows.Known.{leaving_on, works_on}
 use Rattle.seize_acts.proofs.Given.SeizeRuleRows.Teams.{is_shared, shares}
 use Rattle.many_acts.specs.Given.ScenesRows.{begun_row, request_of}
@@ -31,7 +30,9 @@ use Rattle.run_schedules.specs.Deeds.Deeds.{Leaves, Opens, moment, there_on}
 use Rattle.play_lists.specs.Played.Play.{State, leaves_as, registers_as, row_deed}
 use Rattle.play_lists.specs.Agrees.Guards.{GuardsAgree, GuardsAre, IsLeaving, IsOpen, guard_on}
 use Rattle.play_lists.proofs.Agrees.Opens.{opened, same_guards, shut}
-use Rattle.play_lists.proofs.Agrees.Rows.{InsideBy, StaysInside, more_inside, outside_at}
+use Rattle.play_lists.proofs.Agrees.Rows.{InsideBy, StaysInside, outside_at}
+use Rattle.run_finds.proofs.Given.CallersTogether.Handed.{more_inside as inside_more, more_back as more_inside}
+use Rattle.run_finds.proofs.Given.General.{same_some}
 
 -- Slots that are in use alike
 
@@ -52,18 +53,6 @@ alike_back Vacant v is in_it = subst IsInside is in_it
 alike_back (Outside n) v (k, is) in_it = absurd (subst IsInside is in_it)
 alike_back (Inside n) v is in_it = tt
 alike_back Changing v is in_it = subst IsInside is in_it
-
-inside_more : (u : Use) → IsInside u → IsInside (one_more u)
-inside_more Vacant in_it = in_it
-inside_more (Outside n) in_it = in_it
-inside_more (Inside n) in_it = tt
-inside_more Changing in_it = in_it
-
-pub inside_shared : (u : Use) → IsInside u → is_shared u ≡ true
-inside_shared Vacant in_it = absurd in_it
-inside_shared (Outside n) in_it = absurd in_it
-inside_shared (Inside n) in_it = refl
-inside_shared Changing in_it = absurd in_it
 
 module _ {K V S : Type 0} (x : State K V S) (uses : ℕ → Use) (here : GuardsAgree x uses) where
   -- Rows are as they were, slots are in use alike, and the same guards are there.

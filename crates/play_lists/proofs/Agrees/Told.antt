@@ -1,8 +1,7 @@
 -- What the steps of rows, and of who reclaims all, tell as they are played: of words of slots and entries, room for slots, blocks that are taken away, and roots emptied.
-use Rattle.std.specs.Prelude.{◌==◌, ◌⊎◌, Bool, Option, Some, None, option_map, if◌then◌else◌}
+use Rattle.std.specs.Prelude.{◌==◌, ◌⊎◌, Bool, Some, None, if◌then◌else◌}
 use Rattle.std.proofs.Common.{◌≡◌, ℕ, true, false, inl, inr, refl, subst, sym}
 use Rattle.seize_acts.specs.Acts.Answers.{Grant, stepped}
-use Rattle.seize_acts.proofs.Acts.Answers.{same_some}
 use Rattle.run_schedules.specs.Given.SeizeWordsMem.{Mem}
 use Rattle.map_tables.specs.Given.SeizeEnter.{enter_plan, unregister_plan}
 use Rattle.map_tables.specs.Given.SeizeLeave.{leave_plan}
@@ -42,11 +41,8 @@ use Rattle.play_lists.specs.Agrees.Fresh.{comes_with, gives_back}
 use Rattle.play_lists.proofs.Agrees.Elsewhere.{EmptiesRoot}
 use Rattle.play_lists.proofs.Agrees.Fresh.{BeginsElsewhere}
 use Rattle.play_lists.proofs.Agrees.Known.{MakesSome}
-
--- what something comes to, if that is there
-pub mapped : {A B : Type 0} (f : A → B) (o : Option A) (b : B) → option_map f o ≡ Some b → (a : A) × (o ≡ Some a) × (f a ≡ b)
-mapped f None b is = absurd (cc is)
-mapped f (Some a) b is = (a, refl, same_some (f a) b is)
+use Rattle.play_lists.proofs.Grouped.Callers.{under as mapped}
+use Rattle.run_finds.proofs.Given.General.{same_some}
 
 module _ {K V : Type 0} (g : Grant) (m : Mem (Node K V)) (end : Mem (Node K V) × (SlotRow × RowTold (Node K V))) where
   pub row_stepped_so : (row : SlotRow) → slot_row_steps row g m ≡ Some end → RowSteps K V row m end.0 (row_changed (row_of row) g m) end.1

@@ -48,7 +48,7 @@ use Rattle.play_lists.specs.Drives.Executors.{IsAct, AreSteps, Computes, IsCompu
 use Rattle.many_acts.specs.Acts.Leads.{AllStand, EndingCame, Led, MakingCame, MayBe, asked_on, call_at, call_steps, ending_steps, making_steps}
 use Rattle.many_acts.specs.Acts.Lists.{AllMayStep}
 use Rattle.play_lists.proofs.Drives.Begins.{wants}
-use Rattle.play_lists.proofs.Drives.May.{at_rest, begun_there, few_with, is_entered, is_free, no_map_yet, none_makes_it, slots_alone, unless_to_count}
+use Rattle.play_lists.proofs.Drives.May.{at_rest, begun_there, few_with, is_entered, is_free, no_map_yet, none_makes_it, unless_to_count}
 use Rattle.play_lists.proofs.Drives.Told.{steps_once, told_so}
 use Rattle.play_lists.proofs.Drives.Wherever.{wherever}
 use Rattle.many_acts.proofs.Acts.AsSteps.Calls.{begins_so}
@@ -68,13 +68,14 @@ use Rattle.many_acts.specs.Given.ScenesMaking.{MakingComesToThere}
 use Rattle.many_acts.specs.Given.ScenesOnSlots.{RowSteps}
 use Rattle.many_acts.specs.Given.ScenesReplying.{scene_with, unless_stopped}
 use Rattle.many_acts.specs.Given.ScenesRows.{request_of}
-use Rattle.many_acts.proofs.Given.ScenesNoCall.{none_of}
 use Rattle.many_acts.specs.Given.ScenesDeclared.row.RowTold.{RowTold}
 use Rattle.many_acts.specs.Given.ScenesDeclared.row.SlotCall.{SlotCall}
 use Rattle.many_acts.specs.Given.ScenesDeclared.row.SlotCall.TheVariants as call
 use Rattle.many_acts.specs.Given.ScenesDeclared.row.SlotRow.{SlotRow}
 use Rattle.many_acts.specs.Given.ScenesDeclared.row.SlotRow.TheVariants as rows
 use Rattle.many_acts.specs.Given.ScenesScene.{Scene, row_of, slot_of}
+use Rattle.run_finds.proofs.Given.ExecutingOnSlotBegun.{of_slots as slots_alone}
+use Rattle.run_finds.proofs.Given.General.{none_mapped as none_of}
 
 -- the memory after a step of a row
 registers_memory : {T : Type 0} (w : World T) (i : ℕ) (c : Register) (m : Mem T) (end : Register × Advance ℕ) → (world.registers_on w i c m end).memory ≡ m

@@ -4,15 +4,14 @@ use Rattle.std.specs.Option.{is_none}
 use Rattle.std.proofs.Common.{◌≡◌, ℕ, Bool, true, false, inl, inr, refl, sym, ap, subst, arith, ◌∙◌}
 use Rattle.std.proofs.lemmas.Bool.{cases_eq}
 use Rattle.std.proofs.lemmas.List.{get_or_past}
-use Rattle.map_tables.specs.Given.SeizeWorld.{Begins, Use, Vacant, Outside, Inside, Changing, IsTaken, World, with_at}
+use Rattle.map_tables.specs.Given.SeizeWorld.{Begins, Use, Inside, World, with_at}
 use Rattle.seize_acts.specs.Acts.Acts.{begun as row_begun, is_inside, is_outside, is_taken, is_within, rests}
 use Rattle.seize_acts.specs.Acts.Answers.{given}
-use Rattle.many_acts.specs.Given.CallersTogether.{HasCall, IsOfSlots, UnderWay}
+use Rattle.many_acts.specs.Given.CallersTogether.{HasCall, UnderWay}
 use Rattle.many_acts.proofs.Given.CallersTogether.At.{at_other, at_same}
 use Rattle.many_acts.specs.Given.FinishesMachines.{machine_of}
 use Rattle.many_acts.specs.Given.FinishesMakings.{Beginning}
 use Rattle.many_acts.specs.Given.FinishesMaps.{with_call}
-use Rattle.many_acts.proofs.Given.ScenesNoCall.{none_of}
 use Rattle.many_acts.specs.Given.ScenesReplying.{scene_with}
 use Rattle.many_acts.specs.Given.ScenesRows.{request_of}
 use Rattle.many_acts.specs.Given.ScenesScene.{Scene, slot_of}
@@ -25,6 +24,9 @@ use Rattle.run_finds.specs.Given.ExecutorDeclared.worker.Work.{Work}
 use Rattle.run_finds.specs.Given.ExecutorIsThere.{HasRow, IsThere, IsUsedAs, call_in, ending_in, making_in, use_at, work_of}
 use Rattle.many_acts.specs.Acts.Acts.{UnlessToCount, Wanted, Get, Remove, Insert, TryToInsert, Compute, Update, UpdateOrInsert, TryToInsertWith, RemoveIf, GetKeyValue, ContainsKey, GetOrInsert, GetOrInsertWith, RemoveEntry, MakeRoom, Count, GoOver}
 use Rattle.many_acts.specs.Acts.Leads.{AllStand, AreFewWith, IsFree}
+use Rattle.run_finds.proofs.Given.ExecutingOnSlotBegun.{of_slots as slots_alone}
+use Rattle.run_finds.proofs.Given.General.{none_mapped as none_of}
+use Rattle.seize_acts.proofs.Acts.Reclaimed.Whole.{taken_so}
 
 -- what is so is asked of a counting, too
 pub unless_to_count : {K V A : Type 0} (wanted : Wanted K V) → A → UnlessToCount wanted A
@@ -48,22 +50,6 @@ unless_to_count (GoOver purpose) so = so
 
 within_so : (u : Use) → IsUsedAs used.Inside u → is_within u ≡ true
 within_so u is = ap is_within is.1
-
-taken_so : (u : Use) → IsTaken u → is_taken u ≡ true
-taken_so Vacant taken = absurd taken
-taken_so (Outside n) taken = refl
-taken_so (Inside n) taken = refl
-taken_so Changing taken = absurd taken
-
--- what a slot's caller begins is of slots alone, and where it has begun it could be begun
-pub slots_alone : (slot : ℕ) (called : SlotCall) → IsOfSlots (request_of slot called)
-slots_alone slot (call.Register enters) = tt
-slots_alone slot call.Enter = tt
-slots_alone slot call.Leave = tt
-slots_alone slot call.LeaveOwned = tt
-slots_alone slot call.Refresh = tt
-slots_alone slot call.Flush = tt
-slots_alone slot call.Unregister = tt
 
 given_there : {X : Type 0} (b : Bool) (x : X) → b ≡ true → is_none (given b x) ≡ false
 given_there true x e = refl

@@ -13,13 +13,14 @@ use Rattle.run_schedules.specs.Given.SeizeWordsDeclared.fault.Fault.{Fault}
 use Rattle.run_schedules.specs.Given.SeizeWordsDeclared.slots.TheConstants.{SLOT_WORDS}
 use Rattle.run_schedules.proofs.Given.SeizeWordsOneOwner.AfterWrites.{block_of-made}
 use Rattle.seize_acts.specs.Acts.Answers.{Grant, answer, ends, stepped, then_on}
-use Rattle.seize_acts.proofs.Acts.Answers.{same_some, some}
+use Rattle.seize_acts.proofs.Acts.Answers.{some}
 use Rattle.seize_acts.proofs.Acts.Steps.{steps_so}
 use Rattle.map_tables.specs.declared.node.Node.{Node}
 use Rattle.run_logged.specs.Given.TellerTells.{StepsTold}
 use Rattle.run_logged.specs.Given.EffectsDeclared.changed.Changed.{Changed}
 use Rattle.run_logged.specs.Given.EffectsDeclared.changed.Changed.TheVariants.{Nothing as NoChange}
 use Rattle.many_acts.specs.Acts.AsSteps.{changed_as, changed_of}
+use Rattle.run_finds.proofs.Given.General.{same_some}
 
 -- a bucket that was made is there
 abbrev empty_slot : List ℕ

@@ -3,7 +3,6 @@ use Rattle.std.specs.Prelude.{Option, Some, None, option_map}
 use Rattle.std.specs.Option.{is_none}
 use Rattle.std.proofs.Common.{◌≡◌, ℕ, Bool, refl, sym, ap, subst, ◌∙◌}
 use Rattle.map_tables.specs.Given.SeizeWorld.{Request, Register', Enter', Leave', LeaveOwned, Refresh, Unregister', Retire, Flush, Defer', Begins, Use, Vacant, Outside, Inside, Changing, World}
-use Rattle.seize_acts.proofs.Acts.Answers.{same_some}
 use Rattle.run_schedules.specs.Given.SeizeWordsMem.{Mem}
 use Rattle.map_tables.specs.Given.SeizeDeclared.advance.Advance.{Advance}
 use Rattle.map_tables.specs.Given.SeizeDeclared.advance.Advance.TheVariants as progress
@@ -22,7 +21,6 @@ use Rattle.many_acts.specs.Given.FinishesFactsEnds.{Deed}
 use Rattle.many_acts.specs.Given.FinishesMachines.{machine_of}
 use Rattle.many_acts.specs.Given.FinishesMakings.{Beginning}
 use Rattle.many_acts.specs.Given.FinishesMaps.{Standing}
-use Rattle.many_acts.proofs.Given.ScenesNoCall.{none_of}
 use Rattle.many_acts.specs.Given.ScenesHeld.{IsAt}
 use Rattle.many_acts.specs.Given.ScenesScene.{Scene, slot_of}
 use Rattle.many_acts.specs.Given.ScenesDeclared.row.SlotUse.{SlotUse}
@@ -38,6 +36,7 @@ use Rattle.many_acts.specs.Acts.Courses.{AreAlike, set_up}
 use Rattle.many_acts.specs.Acts.Leads.{AllStand, EndingCame, Led, MakingCame, MayBe, ending_steps, making_steps}
 use Rattle.many_acts.proofs.Acts.AsSteps.All.{acts_lead_as_steps}
 use Rattle.many_acts.proofs.Acts.Courses.{by_act}
+use Rattle.run_finds.proofs.Given.General.{same_some, none_mapped as none_of}
 
 -- a slot that is used so after, was used so before, where that is alike
 used_back : (v : SlotUse) (u u2 : Use) → IsUsedAs v u2 → IsUsedAlike u u2 → IsUsedAs v u

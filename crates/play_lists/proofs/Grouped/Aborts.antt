@@ -3,12 +3,12 @@ use Rattle.std.specs.Prelude.{◌<◌, ◌+◌, ◌++◌, Option, Some, None, le
 use Rattle.std.proofs.Common.{◌≡◌, ℕ, Bool, List, [], ◌∷◌, refl, sym, ap, subst, arith, ◌∙◌}
 use Rattle.std.proofs.lemmas.List.{length-append}
 use Rattle.seize_acts.specs.Acts.Answers.{then_on}
-use Rattle.seize_acts.proofs.Acts.Answers.{same_some}
 use Rattle.many_acts.specs.Acts.Acts.{Answer, BeginsCall, StepsCall, TellsCall, AsksCall, StopsCall, BeginsMaking, StepsMaking, BeginsEnding, StepsEnding, BeginsRow, StepsRow}
 use Rattle.many_acts.specs.Acts.Doings.{Doing, Does, BeginsReclaiming, BeginsClearing, StepsReclaiming, Chooses}
 use Rattle.play_lists.specs.Played.Play.{State, call_told, play, play_all}
 use Rattle.play_lists.proofs.Played.PlayedAs.{played_as, reclaimed_as}
 use Rattle.play_lists.specs.Agrees.Fresh.{IsNew, MakesNew}
+use Rattle.run_finds.proofs.Given.General.{same_some}
 
 module _ {K V S : Type 0} (same : K → K → Bool) (by_hasher : S → K → ℕ) (batch_size roots : ℕ) where
   -- the next state, by what a closure aborts with at this act alone

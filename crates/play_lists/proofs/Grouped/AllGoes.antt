@@ -4,7 +4,6 @@ use Rattle.std.specs.Option.{is_none, is_some}
 use Rattle.std.proofs.Common.{◌≡◌, ℕ, Bool, false, List, inl, inr, refl, sym, ap, subst, ◌∙◌}
 use Rattle.seize_acts.specs.Acts.Acts.{rests}
 use Rattle.seize_acts.specs.Acts.Answers.{Grant, stepped, then_on}
-use Rattle.seize_acts.proofs.Acts.Answers.{same_some}
 use Rattle.seize_acts.proofs.Quiet.Slots.Stages.{never_taken}
 use Rattle.run_schedules.specs.Given.SeizeWordsMem.{Mem, Can, Took, value_at, word_at}
 use Rattle.run_schedules.specs.Given.SeizeWordsPlan.{May}
@@ -24,7 +23,6 @@ use Rattle.many_acts.specs.Given.FinishesMachines.{machine_of}
 use Rattle.many_acts.specs.Given.FinishesMakings.{Beginning}
 use Rattle.many_acts.specs.Given.FinishesMaps.{Standing}
 use Rattle.many_acts.proofs.Given.ScenesGoes.{same_map_keeps}
-use Rattle.many_acts.proofs.Given.ScenesNoCall.{none_of}
 use Rattle.many_acts.specs.Given.ScenesHeld.{Held}
 use Rattle.many_acts.specs.Given.ScenesReclaiming.{ReclaimingComesToThere}
 use Rattle.many_acts.specs.Given.ScenesScene.{Scene, slot_of}
@@ -59,6 +57,7 @@ use Rattle.play_lists.specs.Grouped.Reach.{LeadsTo, Reach}
 use Rattle.play_lists.proofs.Grouped.Aside.{all_aside, begun_aside, works_on}
 use Rattle.play_lists.proofs.Grouped.Midst.{InEvent}
 use Rattle.play_lists.proofs.Grouped.OneMore.{IsBy, as_led, as_reach, one_more}
+use Rattle.run_finds.proofs.Given.General.{same_some, none_mapped as none_of}
 
 -- a word that is there
 there_is : {X : Type 0} (o : Option X) → IsSome o → is_none o ≡ false

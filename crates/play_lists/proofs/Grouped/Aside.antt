@@ -29,9 +29,9 @@ use Rattle.run_schedules.specs.Deeds.Deeds.{Deed, Registers, Opens, Shuts, Leave
 use Rattle.play_lists.specs.Played.Play.{Calling, Ending, Making, Now, State, began, ending_deed, has_root, is_over, is_refusal, leaves_as, made_on, making_deed, pairs_for, registers_as, row_deed, worked}
 use Rattle.play_lists.specs.Grouped.Grouping.{MayHave, Names, is_step, names_after, names_on}
 use Rattle.play_lists.specs.Grouped.Called.{CallersAre, IsCalledAs}
-use Rattle.play_lists.proofs.Grouped.Callers.{each_so}
 use Rattle.play_lists.specs.Agrees.Fresh.{comes_with}
 use Rattle.play_lists.proofs.Grouped.Midst.{InEvent, event_goes_on, maps_of}
+use Rattle.run_finds.proofs.Given.General.{all_so as each_so}
 
 module _ {K V : Type 0} where
   -- It begins no call, and is no step of one.

@@ -1,9 +1,8 @@
 -- A call begins, as the first thing that an event does: the list of acts goes on by that, and its caller goes by the number that it has.
-use Rattle.std.specs.Prelude.{◌≤◌, ◌==◌, ◌||◌, not, if◌then◌else◌, Option, Some, None, option_map, cond, filter, find, length, slice_index_or}
+use Rattle.std.specs.Prelude.{◌≤◌, ◌==◌, not, if◌then◌else◌, Option, Some, None, option_map, cond, filter, find, length, slice_index_or}
 use Rattle.std.specs.List.{AllByRecursion, list_any}
 use Rattle.std.proofs.Common.{◌≡◌, ℕ, Bool, true, false, List, [], ◌∷◌, refl, sym, ap, subst, arith, ◌∙◌}
 use Rattle.std.proofs.lemmas.Bool.{eqb-true}
-use Rattle.seize_acts.proofs.Acts.Answers.{same_some}
 use Rattle.run_schedules.specs.Runs.Same.{is_same}
 use Rattle.run_schedules.proofs.Runs.Sames.{same_is, same_refl}
 use Rattle.map_tables.specs.declared.setting.Setting.{Setting}
@@ -38,11 +37,7 @@ use Rattle.play_lists.specs.Agrees.Fresh.{is_taken}
 use Rattle.play_lists.proofs.Grouped.Midst.{InEvent, taken_on}
 use Rattle.play_lists.proofs.Grouped.OneMore.{one_act}
 use Rattle.play_lists.proofs.Grouped.Wanted.{call_back, wanted_for, wanted_machine}
-
--- a test that fails of each fails of all but itself
-or_parts : (a b : Bool) → (a || b) ≡ false → (a ≡ false) × (b ≡ false)
-or_parts true b e = absurd (cc e)
-or_parts false b e = (refl, e)
+use Rattle.run_finds.proofs.Given.General.{both_false as or_parts, same_some}
 
 -- whoever begins is called by its number, and others as they were
 pub newest_called : (own : List ℕ) (i : ℕ) (names : Names) → number_called own ((own, i) ∷ names) ≡ Some i

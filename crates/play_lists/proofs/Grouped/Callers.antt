@@ -3,10 +3,11 @@ use Rattle.std.specs.Prelude.{◌≢◌, ◌⊎◌, ◌==◌, ◌≤◌, ◌+◌
 use Rattle.std.specs.List.{AllByRecursion, list_any, position_or_len, remove}
 use Rattle.std.proofs.Common.{◌≡◌, ℕ, Bool, true, false, List, [], ◌∷◌, inl, inr, refl, sym, ap, subst, arith, ◌∙◌}
 use Rattle.std.proofs.lemmas.Bool.{cases_eq, eq-eqb}
-use Rattle.seize_acts.proofs.Acts.Answers.{same_some}
 use Rattle.map_tables.specs.Given.SeizeWorld.{with_at}
 use Rattle.many_acts.specs.Given.FinishesMaps.{with_call}
 use Rattle.many_acts.proofs.Given.CallersTogether.At.{at_other, at_same}
+use Rattle.run_finds.proofs.Given.General.{all_so as each_so, same_some}
+use Rattle.run_logged.proofs.Rows.Lists.{all_but}
 
 -- something is there, of which this is seen
 pub under : {A B : Type 0} (f : A → B) (o : Option A) (b : B) → option_map f o ≡ Some b → (a : A) × (o ≡ Some a) × (f a ≡ b)
@@ -18,20 +19,6 @@ pub each_at : {X : Type 0} (P : X → Type 0) (xs : List X) (k : ℕ) (x : X) �
 each_at P [] k x is all = absurd (cc is)
 each_at P (y ∷ xs) zero x is all = let e : y ≡ x = cc is in subst P e all.0
 each_at P (y ∷ xs) (suc k) x is all = each_at P xs k x is all.1
-
--- what is more is so of each
-pub each_so : {X : Type 0} (P Q : X → Type 0) → ((x : X) → P x → Q x) → (xs : List X) → AllByRecursion P xs → AllByRecursion Q xs
-each_so P Q so [] all = tt
-each_so P Q so (x ∷ xs) all = (so x all.0, each_so P Q so xs all.1)
-
--- where none passes a test, each may be taken to fail it
-all_but : {X : Type 0} (P Q : X → Type 0) (q : X → Bool) → ((x : X) → q x ≡ false → P x → Q x) → (xs : List X) → list_any q xs ≡ false → AllByRecursion P xs → AllByRecursion Q xs
-all_but P Q q so [] none all = tt
-all_but P Q q so (x ∷ xs) none all = both (q x) refl none (λ f. all_but P Q q so xs f all.1)
-  where
-    both : (b : Bool) → q x ≡ b → (b || list_any q xs) ≡ false → (list_any q xs ≡ false → AllByRecursion Q xs) → Q x × AllByRecursion Q xs
-    both true e f ih = absurd (cc f)
-    both false e f ih = (so x e all.0, ih f)
 
 module _ {X : Type 0} (p : X → Bool) where
   none_left : (xs : List X) → length (filter p xs) ≤ 0 → list_any p xs ≡ false

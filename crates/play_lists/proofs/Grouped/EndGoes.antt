@@ -2,7 +2,6 @@
 use Rattle.std.specs.Prelude.{◌++◌, Some, None, option_map, if◌then◌else◌}
 use Rattle.std.proofs.Common.{◌≡◌, ℕ, Bool, true, false, List, refl, sym, ap, subst, ◌∙◌}
 use Rattle.seize_acts.specs.Acts.Answers.{Grant}
-use Rattle.seize_acts.proofs.Acts.Answers.{same_some}
 use Rattle.run_schedules.specs.Given.SeizeWordsMem.{Mem}
 use Rattle.map_tables.specs.Given.SeizeDeclared.rows.settle.Settled.{Settled}
 use Rattle.map_tables.specs.declared.node.Node.{Node}
@@ -42,6 +41,7 @@ use Rattle.play_lists.proofs.Grouped.Aside.{begun_aside, ending_aside, works_on}
 use Rattle.play_lists.proofs.Grouped.Callers.{under}
 use Rattle.play_lists.proofs.Grouped.Midst.{InEvent}
 use Rattle.play_lists.proofs.Grouped.OneMore.{one_act}
+use Rattle.run_finds.proofs.Given.General.{same_some}
 
 -- no map comes by an end
 ending_comes : (K V : Type 0) {T : Type 0} (n : ℕ) (f : Ending) (told : Settled T) → comes_with n (ending_deed {K = K} {V = V} f told) ≡ false

@@ -4,7 +4,7 @@ use Rattle.std.specs.Int.{IsPowerOfTwo}
 use Rattle.std.proofs.Common.{◌≡◌, ℕ, Bool, true, false, List, [], ◌∷◌, refl, sym, ap, subst, arith, ◌∙◌}
 use Rattle.std.proofs.lemmas.Bool.{eq-eqb, ne_eqb}
 use Rattle.seize_acts.specs.Acts.Answers.{Grant, stepped}
-use Rattle.seize_acts.proofs.Acts.Answers.{same_some, was_stepped}
+use Rattle.seize_acts.proofs.Acts.Answers.{was_stepped}
 use Rattle.run_schedules.specs.Given.SeizeWordsMem.{Mem, Took, value_at}
 use Rattle.run_schedules.specs.Given.SeizeWordsOp.{Out, Exchanged, Made}
 use Rattle.run_schedules.specs.Given.SeizeWordsPlan.{Steps}
@@ -62,6 +62,7 @@ use Rattle.play_lists.proofs.Grouped.Aside.{begun_aside, made_calls, making_asid
 use Rattle.play_lists.proofs.Grouped.Callers.{under}
 use Rattle.play_lists.proofs.Grouped.Midst.{InEvent, event_begins, maps_of}
 use Rattle.play_lists.proofs.Grouped.OneMore.{one_act}
+use Rattle.run_finds.proofs.Given.General.{same_some}
 
 -- by what a step tells, a making goes on, or was refused
 abbrev pub is_on : {T : Type 0} → Advance T → Bool

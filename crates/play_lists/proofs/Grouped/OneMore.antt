@@ -4,7 +4,6 @@ use Rattle.std.specs.Option.{is_none}
 use Rattle.std.specs.List.{AllByRecursion}
 use Rattle.std.proofs.Common.{◌≡◌, ℕ, Bool, List, [], ◌∷◌, refl, sym, ap, subst, arith, ◌∙◌}
 use Rattle.std.proofs.lemmas.Bool.{eq-eqb, ne_eqb}
-use Rattle.seize_acts.proofs.Acts.Answers.{same_some}
 use Rattle.many_acts.specs.Given.ScenesScene.{Scene, slot_of}
 use Rattle.run_logged.specs.Given.EffectsKnown.{Known}
 use Rattle.run_finds.specs.Given.ExecutorIsThere.{IsThere, StaysGiven}
@@ -22,11 +21,7 @@ use Rattle.play_lists.proofs.Played.All.{lists_are_played}
 use Rattle.play_lists.specs.Grouped.Reach.{LeadsTo, PlaysTo, Reach}
 use Rattle.run_schedules.specs.Schedules.Lists.{put}
 use Rattle.play_lists.proofs.Grouped.Aborts.{new_one, new_same, plays_one, plays_same, told_all}
-
--- what all of these are, all of those are, and the last one, too
-pub all_and_last : {X : Type 0} (P : X → Type 0) (xs : List X) (x : X) → AllByRecursion P xs → P x → AllByRecursion P (xs ++ x ∷ [])
-all_and_last P [] x all last = (last, tt)
-all_and_last P (y ∷ xs) x all last = (all.0, all_and_last P xs x all.1 last)
+use Rattle.run_finds.proofs.Given.General.{all_and_one as all_and_last, same_some}
 
 module _ {K V S : Type 0} (same : K → K → Bool) (by_hasher : S → K → ℕ) (h : S) (b r shards : ℕ) where
   abbrev pub Its : Doing K V S → Type 0

@@ -3,7 +3,6 @@ use Rattle.std.specs.Prelude.{◌++◌, Option, Some, None, option_map}
 use Rattle.std.specs.Option.{is_none}
 use Rattle.std.proofs.Common.{◌≡◌, ℕ, Bool, List, refl, sym, ap, subst, ◌∙◌}
 use Rattle.seize_acts.specs.Acts.Answers.{Grant}
-use Rattle.seize_acts.proofs.Acts.Answers.{same_some}
 use Rattle.run_schedules.specs.Given.SeizeWordsMem.{Mem}
 use Rattle.map_tables.specs.Given.SeizeWorld.{Row}
 use Rattle.map_tables.specs.Given.SeizeDeclared.advance.Advance.{Advance}
@@ -17,7 +16,6 @@ use Rattle.map_tables.specs.Given.SeizeDeclared.rows.reclaim_all.ReclaimAll.{Rec
 use Rattle.map_tables.specs.declared.node.Node.{Node}
 use Rattle.run_logged.specs.Given.EffectsDeclared.changed.Changed.{Changed}
 use Rattle.many_acts.specs.Given.FinishesMachines.{machine_of}
-use Rattle.many_acts.proofs.Given.ScenesNoCall.{none_of}
 use Rattle.many_acts.proofs.Given.ScenesRows.{one_row}
 use Rattle.many_acts.specs.Given.ScenesRows.{of_registering, of_settling, of_storing, request_of}
 use Rattle.many_acts.specs.Given.ScenesScene.{HasNoCall, Scene, row_of, slot_of}
@@ -54,6 +52,7 @@ use Rattle.play_lists.specs.Grouped.Reach.{Reach}
 use Rattle.play_lists.proofs.Grouped.Aside.{begun_aside, row_aside, works_on}
 use Rattle.play_lists.proofs.Grouped.Midst.{InEvent}
 use Rattle.play_lists.proofs.Grouped.OneMore.{one_act}
+use Rattle.run_finds.proofs.Given.General.{same_some, none_mapped as none_of}
 
 -- a row that is seen beside whoever reclaims all is one between calls
 beside : (o : Option (ℕ × ReclaimAll)) (all : ℕ → Row) (i : ℕ) (row : SlotRow) → row_of row ≡ rows_beside o all i → row_of row ≡ all i

@@ -15,14 +15,12 @@ use Rattle.run_schedules.specs.declared.outcome.Outcome.{Outcome}
 use Rattle.run_schedules.specs.declared.outcome.Outcome.TheVariants.{Done, Slot, Goes, Answered}
 use Rattle.run_schedules.specs.Schedules.After.{moment}
 use Rattle.run_schedules.specs.Schedules.Entry.{Entry}
-use Rattle.run_schedules.specs.Deeds.Deeds.{Deed, Begins, Steps, Registers, Opens, MapComes, Makes, Entry as Act}
+use Rattle.run_schedules.specs.Deeds.Deeds.{Begins, Steps, Registers, Opens, MapComes, Makes, Entry as Act}
 use Rattle.play_lists.specs.Grouped.Grouping.{IsGroupingOf, IsPieceOf, Names, names_after}
+use Rattle.play_lists.proofs.Played.Samples.{entry as act}
 
 abbrev entry : Event ℕ ℕ → Outcome ℕ → ℕ → List Effect → Entry ℕ ℕ
 entry e outcome steps effects = record { event = e; outcome = outcome; steps = steps; effects = effects }
-
-abbrev act : Deed ℕ ℕ → Outcome ℕ → List Effect → Act ℕ ℕ
-act deed outcome effects = record { deed = deed; outcome = outcome; effects = effects; refused = false }
 
 -- names: a registration, a guard, a map, and two callers
 abbrev r : List ℕ

@@ -11,12 +11,12 @@ use Rattle.run_schedules.specs.Schedules.Lists.{is_among}
 use Rattle.run_schedules.specs.Schedules.Moment.{GivenBack, InMap, IsTaken, Left, MapThere, Moment, Place, TableThere}
 use Rattle.run_schedules.specs.Schedules.Things.{is_before, same_table}
 use Rattle.run_schedules.specs.Schedules.Views.{behind, first_of, first_or, is_in_map, is_linked, map_at}
-use Rattle.many_acts.proofs.Given.OthersOutside.{in_map_of}
 use Rattle.run_finds.proofs.Lists.{number_passes, numbers_pass}
 use Rattle.run_schedules.specs.Deeds.History.{EndFinds, is_first_of, is_next_pair, left_tables}
 use Rattle.play_lists.specs.MapsEnd.Ends.{AlikeOf, AreStored, EndsWell}
 use Rattle.play_lists.proofs.MapsEnd.Left.{left_by}
 use Rattle.play_lists.proofs.MapsEnd.Places.{none_alike, none_in}
+use Rattle.run_finds.proofs.Given.FollowsStored.{in_map_true as in_map_of}
 
 module _ {K V : Type 0} (map : ℕ) where
   -- after one more of what ends with it

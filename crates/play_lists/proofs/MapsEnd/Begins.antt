@@ -1,5 +1,5 @@
 -- A map that stands would end well: its pairs, in the order in which they lie, and then its tables, from the root's on.
-use Rattle.std.specs.Prelude.{◌≡◌, ◌<◌, ◌≤◌, ◌-◌, ◌==◌, ◌&&◌, ◌||◌, ◌⊎◌, nat_le, nat_lt, ℕ, zero, suc, Bool, true, false, not, cond, List, [], ◌∷◌, ◌++◌, filter, find, flat_map, map, length, Option, if◌then◌else◌}
+use Rattle.std.specs.Prelude.{◌≡◌, ◌<◌, ◌≤◌, ◌-◌, ◌==◌, ◌&&◌, ◌⊎◌, nat_le, ℕ, zero, suc, Bool, true, false, not, cond, List, [], ◌∷◌, ◌++◌, filter, find, flat_map, map, length, Option, if◌then◌else◌}
 use Rattle.std.proofs.Common.{refl, ap, sym, subst, ◌∙◌, arith, inl, inr}
 use Rattle.std.proofs.lemmas.Bool.{and_parts, cases_order, eq-eqb, leb-true}
 use Rattle.std.proofs.lemmas.List.Elements.{filter-append}
@@ -23,7 +23,6 @@ use Rattle.run_logged.specs.Given.EffectsKnown.{Known}
 use Rattle.run_finds.specs.Given.FollowsMaps.{ShowsMap, shape_at, table_of, tables_to}
 use Rattle.run_finds.proofs.Given.FollowsAlike.{put_elsewhere}
 use Rattle.run_finds.proofs.Given.OthersLeads.{same_parts}
-use Rattle.many_acts.proofs.Given.OthersOutside.{in_map_of}
 use Rattle.run_finds.proofs.Given.SpotsUnreclaimed.{same_itself}
 use Rattle.run_finds.specs.Given.MomentsWholeEnds.{all_ended, tables_ended}
 use Rattle.run_finds.proofs.Given.MomentsWholeEnds.{whole_ends_take_all}
@@ -33,10 +32,8 @@ use Rattle.play_lists.specs.MapsEnd.Ends.{AreStored, EndsWell}
 use Rattle.play_lists.proofs.MapsEnd.Alike.{ended}
 use Rattle.play_lists.proofs.MapsEnd.Left.{left_by}
 use Rattle.play_lists.proofs.MapsEnd.Places.{none_then}
-
--- whether one spot is before another, by their tables and places
-abbrev goes_before : ℕ → ℕ → ℕ → ℕ → Bool
-goes_before a b t i = nat_lt a t || ((a == t) && nat_lt b i)
+use Rattle.run_finds.proofs.Given.FollowsStored.{in_map_true as in_map_of}
+use Rattle.run_logged.proofs.Given.ShedsEndOrder.{goes_before}
 
 before_then : (a b c d e f : ℕ) → goes_before a b c d ≡ true → goes_before c d e f ≡ true → goes_before a b e f ≡ true
 before_then a b c d e f one two = grind (arith, one, two)

@@ -28,7 +28,6 @@ use Rattle.many_acts.specs.Given.ScenesScene.{Scene}
 use Rattle.many_acts.specs.Given.ScenesStepping.{StepLeads}
 use Rattle.run_finds.specs.Given.MomentsWhole.{ShowsWhole}
 use Rattle.run_finds.proofs.Given.MomentsCalls.{of_row}
-use Rattle.many_acts.proofs.Given.FollowsHanded.{not_in}
 use Rattle.run_finds.proofs.Given.HandsRowSteps.{rows_hand_theirs}
 use Rattle.run_finds.proofs.Given.OthersLeads.{same_parts}
 use Rattle.run_finds.proofs.Given.SpotsHanding.{AllHandNothing, HandsNothing}
@@ -40,6 +39,7 @@ use Rattle.play_lists.specs.MapsEnd.Ends.{AreStored, IsOut, Spares}
 use Rattle.play_lists.proofs.MapsEnd.Left.{by_one, stands}
 use Rattle.play_lists.proofs.MapsEnd.Places.{stored_alike}
 use Rattle.play_lists.proofs.MapsEnd.Spares.{one_spared}
+use Rattle.many_acts.proofs.Given.OthersOutside.{not_in}
 
 -- what hands nothing over hands over nothing that has not left its map
 module _ {K V : Type 0} where

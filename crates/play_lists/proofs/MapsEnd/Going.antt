@@ -21,7 +21,6 @@ use Rattle.run_finds.specs.Given.SpotsDeferred.{WaitOutside}
 use Rattle.run_finds.proofs.Given.SpotsDeferred.{each_waits_outside}
 use Rattle.run_finds.proofs.Given.SpotsUnreclaimed.{table_is}
 use Rattle.run_finds.proofs.Given.FollowsAlike.{put_here}
-use Rattle.many_acts.proofs.Given.FollowsHanded.{not_in}
 use Rattle.run_logged.specs.Given.EffectsDeclared.changed.Changed.TheVariants as changed
 use Rattle.run_logged.specs.Log.Ends.{ended_as}
 use Rattle.run_schedules.specs.Deeds.History.{EndFinds, left_tables}
@@ -30,6 +29,7 @@ use Rattle.play_lists.specs.MapsEnd.Going.{GoesOnToEnd}
 use Rattle.play_lists.proofs.MapsEnd.Alike.{ended, ends_alike, ends_next}
 use Rattle.play_lists.proofs.MapsEnd.Noted.{Takes, pair_ends, pair_noted, table_ends, table_noted}
 use Rattle.play_lists.proofs.MapsEnd.Places.{stored_alike}
+use Rattle.many_acts.proofs.Given.OthersOutside.{not_in}
 
 -- these blocks are noted as they were
 abbrev pub NotedAlike : List ℕ → Known → Known → Type 0

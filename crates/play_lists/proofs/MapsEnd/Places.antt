@@ -1,13 +1,11 @@
 -- How many pairs a map has: none just where no pair that was stored is in it.
-use Rattle.std.specs.Prelude.{◌≡◌, ℕ, zero, suc, ◌≤◌, ◌⊎◌, Bool, true, false, length, if◌then◌else◌}
+use Rattle.std.specs.Prelude.{◌≡◌, ℕ, zero, suc, ◌≤◌, ◌⊎◌, Bool, true, false, length}
 use Rattle.std.proofs.Common.{refl, ap, sym, ◌∙◌, arith, inl, inr}
 use Rattle.std.proofs.lemmas.Bool.{cases_eq}
 use Rattle.run_schedules.specs.Schedules.Moment.{Moment, Place}
 use Rattle.run_schedules.specs.Schedules.Views.{is_in_map, places_below, size_of}
 use Rattle.play_lists.specs.MapsEnd.Ends.{AlikeOf, AreStored}
-
-abbrev one_if : Bool → ℕ
-one_if q = if q then 1 else 0
+use Rattle.run_finds.proofs.Given.MomentsWholeEnds.{one_if}
 
 module _ (test : Place → Bool) (place : ℕ → Place) where
   none_below : (n : ℕ) → places_below test place n ≡ 0 → (k : ℕ) → 1 ≤ k → k ≤ n → test (place k) ≡ false

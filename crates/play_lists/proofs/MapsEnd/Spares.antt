@@ -13,11 +13,11 @@ use Rattle.run_schedules.specs.Schedules.Lists.{is_among, put}
 use Rattle.run_schedules.specs.Schedules.Moment.{Behind, GivenBack, Handed, IsLinked, IsReclaimed, IsRetired, IsTaken, Left, MapThere, Moment, Out, Place, UnderWay}
 use Rattle.run_schedules.specs.Schedules.Views.{behind, first_of, first_or, is_in_map, is_linked, tables_of}
 use Rattle.run_finds.proofs.Given.FollowsAlike.{others_found, put_elsewhere}
-use Rattle.many_acts.proofs.Given.OthersOutside.{in_map_of}
 use Rattle.play_lists.specs.MapsEnd.Ends.{AlikeOf, AreStored, IsOut, Spares}
 use Rattle.play_lists.proofs.MapsEnd.Alike.{alike_itself, alike_then}
 use Rattle.play_lists.proofs.MapsEnd.Left.{left_beside, linked_beside}
 use Rattle.play_lists.proofs.MapsEnd.Places.{stored_alike}
+use Rattle.run_finds.proofs.Given.FollowsStored.{in_map_true as in_map_of}
 
 -- no pair is forgotten
 stored_kept : {K V : Type 0} (o : Option (UnderWay K V)) (f : Effect) (stored : List (K × V)) → length stored ≤ length (stored_by o f stored)

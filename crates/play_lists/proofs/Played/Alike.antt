@@ -3,13 +3,13 @@ use Rattle.std.specs.Prelude.{◌≢◌, ◌⊎◌, Option, Some, None, option_m
 use Rattle.std.proofs.Common.{◌≡◌, ℕ, inl, inr, refl, ap, sym, ◌∙◌}
 use Rattle.std.proofs.lemmas.Bool.{cases_eq}
 use Rattle.map_tables.specs.Given.SeizeWorld.{Rests, with_at}
-use Rattle.seize_acts.proofs.Acts.Answers.{same_some}
 use Rattle.many_acts.proofs.Given.CallersTogether.At.{at_same, at_other}
 use Rattle.many_acts.specs.Given.FinishesMaps.{with_call}
 use Rattle.many_acts.proofs.Given.ScenesRows.{never_rests}
 use Rattle.many_acts.proofs.Acts.Counts as counts
 use Rattle.many_acts.specs.Given.ScenesDeclared.row.SlotRow.{SlotRow}
 use Rattle.play_lists.specs.Played.Reached.{row_or_rests}
+use Rattle.run_finds.proofs.Given.General.{same_some}
 
 -- what is there in one is there in the other
 pub there_too : {A B C : Type 0} (f : A → C) (g : B → C) (o : Option A) (p : Option B) → option_map f o ≡ option_map g p → (b : B) → p ≡ Some b → (a : A) × (o ≡ Some a) × (f a ≡ g b)

@@ -6,7 +6,6 @@ use Rattle.map_tables.specs.Given.SeizeDeclared.rows.reclaim_all.ReclaimAll.{Rec
 use Rattle.map_tables.specs.Given.SeizeDeclared.rows.settle.Settled.{Settled}
 use Rattle.map_tables.specs.Given.SeizeDeclared.rows.settle.Settled.TheVariants as settled
 use Rattle.seize_acts.specs.Acts.Answers.{Grant, then_on}
-use Rattle.seize_acts.proofs.Acts.Answers.{same_some}
 use Rattle.map_tables.specs.Nodes.{deferred_word, was_left}
 use Rattle.map_tables.specs.declared.node.Node.{Node}
 use Rattle.run_logged.specs.Given.EffectsDeclared.changed.Changed.{Changed}
@@ -29,6 +28,7 @@ use Rattle.many_acts.proofs.Acts.AsSteps.Reclaiming.{reclaiming_leads_as_steps}
 use Rattle.play_lists.specs.Played.Play.{State, all_begun, choice_come, first_state, play, play_act, play_all}
 use Rattle.play_lists.specs.Played.Reached.{IsOfStage, IsOnOwn}
 use Rattle.play_lists.proofs.Played.All.{at_first_so, plays_on}
+use Rattle.run_finds.proofs.Given.General.{same_some}
 
 -- Keys have a hash by each hasher, and each map has one by its number.
 module _ {K S : Type 0} (V : Type 0) (same : K → K → Bool) (by_hasher : S → K → ℕ) (hash : ℕ → K → ℕ) (batch_size roots : ℕ) where

@@ -28,7 +28,6 @@ use Rattle.many_acts.specs.Given.FinishesMachines.{machine_of}
 use Rattle.many_acts.proofs.Given.ScenesNoCall.{none_is}
 use Rattle.many_acts.specs.Given.ScenesReplying.{unless_stopped}
 use Rattle.seize_acts.specs.Acts.Answers.{Grant}
-use Rattle.seize_acts.proofs.Acts.Answers.{same_some}
 use Rattle.many_acts.specs.Given.ScenesScene.{row_of, slot_of}
 use Rattle.many_acts.specs.Given.ScenesStepping.{has_ended}
 use Rattle.many_acts.specs.Given.ScenesDeclared.row.SlotRow.{SlotRow}
@@ -60,6 +59,7 @@ use Rattle.play_lists.specs.Played.Play.{Calling, Making, Ending, Now, State, be
 use Rattle.play_lists.proofs.Played.Alike.{its_call, others_call}
 use Rattle.play_lists.proofs.Played.PlayedAs.{PlayedAs, ReclaimedAs, played_as, reclaimed_as}
 use Rattle.play_lists.proofs.Played.Along.{At, Is, StaysSo}
+use Rattle.run_finds.proofs.Given.General.{same_some}
 
 -- numbers that differ are names that do
 pub apart : (i j : ℕ) → j ≢ i → is_same (named i) (named j) ≡ false

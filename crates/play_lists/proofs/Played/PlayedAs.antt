@@ -3,7 +3,7 @@ use Rattle.std.specs.Prelude.{Option, Some, None, option_map}
 use Rattle.std.proofs.Common.{◌≡◌, ℕ, Bool, refl, sym}
 use Rattle.map_tables.specs.Given.SeizeReclaimAll.{reclaim_all_plan}
 use Rattle.seize_acts.specs.Acts.Answers.{Grant, stepped, then_on}
-use Rattle.seize_acts.proofs.Acts.Answers.{same_some, some}
+use Rattle.seize_acts.proofs.Acts.Answers.{some}
 use Rattle.map_tables.specs.Nodes.{deferred_word, was_left}
 use Rattle.map_tables.specs.declared.setting.Setting.{Setting}
 use Rattle.run_logged.specs.Given.ResizeNewMap.{new_map_plan}
@@ -14,6 +14,7 @@ use Rattle.many_acts.specs.Acts.Acts.{Act, BeginsCall, StepsCall, TellsCall, Ask
 use Rattle.many_acts.specs.Acts.AsSteps.{changed_of, row_changed}
 use Rattle.many_acts.specs.Acts.Doings.{StepsReclaiming}
 use Rattle.play_lists.specs.Played.Play.{State, all_stepped, call_asked, call_begun, call_for, call_stepped, call_stopped, call_told, ending_begun, ending_stepped, making_begun, making_stepped, play, play_act, row_begun, row_stepped, slot_call_of, slot_row_steps, step_call}
+use Rattle.run_finds.proofs.Given.General.{same_some}
 
 module _ {K V S : Type 0} (same : K → K → Bool) (hash : S → K → ℕ) (batch_size roots : ℕ) (aborts : ℕ → V) (x y : State K V S) where
   -- something was there, and by it the state is this then

@@ -24,7 +24,7 @@ use Rattle.map_tables.specs.Given.SeizeDeclared.rows.settle.Settled.TheVariants 
 use Rattle.map_tables.specs.Given.SeizeDeclared.states.TheConstants.{ACTIVE, FREE, HEAD}
 use Rattle.seize_acts.specs.Acts.Acts.{row_steps}
 use Rattle.seize_acts.specs.Acts.Answers.{Grant, answer, stepped, then_on}
-use Rattle.seize_acts.proofs.Acts.Answers.{same_some, some}
+use Rattle.seize_acts.proofs.Acts.Answers.{some}
 use Rattle.seize_acts.proofs.Given.SeizeRuleRows.Others.{begins_others, steps_others, with_here}
 use Rattle.seize_acts.proofs.Given.SeizeEndsBatches.Rows.{begins_memory}
 use Rattle.many_acts.proofs.Given.CallersTogether.At.{at_same, at_other}
@@ -47,6 +47,7 @@ use Rattle.many_acts.specs.Acts.Leads.{Led, MayBe}
 use Rattle.play_lists.specs.Played.Play.{State, play_act, row_begun, row_on, row_stepped, slot_call_of, slot_row_steps, step_row}
 use Rattle.play_lists.specs.Played.Reached.{IsOf, row_or_rests}
 use Rattle.many_acts.proofs.Acts.Courses.{same_set_up}
+use Rattle.run_finds.proofs.Given.General.{same_some}
 
 -- the row that is asked for on a slot
 pub called_is : (slot : ℕ) (called : SlotCall) → slot_call_of (request_of slot called) ≡ Some called

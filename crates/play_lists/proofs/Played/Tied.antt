@@ -25,7 +25,6 @@ use Rattle.many_acts.specs.Given.FinishesMakings.{Beginning}
 use Rattle.many_acts.specs.Given.FinishesMaps.{Standing}
 use Rattle.many_acts.specs.Given.ScenesScene.{Scene, slot_of}
 use Rattle.seize_acts.specs.Acts.Answers.{Grant, stepped, then_on}
-use Rattle.seize_acts.proofs.Acts.Answers.{same_some}
 use Rattle.many_acts.specs.Acts.Acts.{Answer, StepsCall, StepsEnding, StepsMaking}
 use Rattle.many_acts.specs.Acts.AsSteps.{changed_by, changed_of}
 use Rattle.many_acts.specs.Acts.Courses.{set_up}
@@ -33,6 +32,7 @@ use Rattle.many_acts.specs.Acts.Leads.{CallCame, call_at, ending_steps, making_s
 use Rattle.play_lists.specs.Played.Play.{Calling, Ending, Making, State, call_stepped, ending_stepped, making_stepped}
 use Rattle.play_lists.specs.Played.Reached.{IsOf, made_so, makes_so, stands_so}
 use Rattle.play_lists.proofs.Played.PlayedAs.{PlayedAs}
+use Rattle.run_finds.proofs.Given.General.{same_some}
 
 -- what is told alike of both is told alike of what is there
 both_there : {A B C : Type 0} (f : A → C) (g : B → C) (o : Option A) (p : Option B) → option_map f o ≡ option_map g p → (a : A) (b : B) → o ≡ Some a → p ≡ Some b → f a ≡ g b

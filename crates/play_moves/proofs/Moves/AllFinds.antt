@@ -28,7 +28,7 @@ use Rattle.run_schedules.specs.Deeds.Deeds.{Entry, ReclaimsAll, moment, named}
 use Rattle.run_schedules.specs.Deeds.History.{FindsBy, past, transition}
 use Rattle.play_lists.specs.Played.Play.{State, is_over, is_refusal, settled_outcome}
 use Rattle.play_linear.specs.Linear.Shown.{ShowsAnswers}
-use Rattle.play_moves.proofs.Moves.RowMoves.{all_reclaim}
+use Rattle.play_events.proofs.Given.LegalOfAll.Steps.{things_reclaim as all_reclaim}
 
 module _ {K V S : Type 0} (same : K → K → Bool) (hash : ℕ → K → ℕ) (x : State K V S) (s : Scene K V) (old new : Held K V) (all : ShowsAnswers same (past x.history) (moment x.history) x.known s)
     (i : ℕ) (lists : ℕ → List ℕ) (before next : ReclaimAll) (told : Settled (Node K V)) (at : IsReclaiming same hash old s i lists before) (leads : ReclaimingLeads same hash s i lists old new before next told)

@@ -28,7 +28,8 @@ use Rattle.play_lists.proofs.Played.Noted.{CallsAreNoted}
 use Rattle.play_linear.specs.Linear.Shown.{ShowsAnswers}
 use Rattle.play_events.specs.EachMoves.Parts.{DoesIts}
 use Rattle.play_events.proofs.EachMoves.Leaves.{leaves_nothing}
-use Rattle.play_events.proofs.EachMoves.Parts.{all_also, granted_so, refuses_so}
+use Rattle.play_events.proofs.EachMoves.Parts.{all_also, granted_so}
+use Rattle.play_lists.proofs.Agrees.Grants.{refusals_so as refuses_so}
 
 module _ {K V : Type 0} (known : Known) (kind : CallKind) (value : Option V) where
   -- a call is over, or ready, where its step says so

@@ -2,7 +2,6 @@
 use Rattle.std.specs.Prelude.{Bool, List, [], ◌∷◌, Option, Some}
 use Rattle.std.specs.List.{AllByRecursion}
 use Rattle.std.proofs.Common.{◌≡◌, ℕ, sym, subst, ◌∙◌}
-use Rattle.seize_acts.proofs.Acts.Answers.{same_some}
 use Rattle.run_schedules.specs.Schedules.After.{AtEachEvent}
 use Rattle.run_schedules.specs.Schedules.Terms.{Terms, shards_of}
 use Rattle.play_lists.specs.Given.ActsDoings.{Doing, Does, BeginsReclaiming, BeginsClearing, StepsReclaiming, Chooses}
@@ -18,6 +17,7 @@ use Rattle.play_linear.proofs.Swept.Swept.{lists_are_swept}
 use Rattle.play_moves.specs.Moves.Legal.{KeepsAll, ListsKeepAll}
 use Rattle.play_events.specs.EachMoves.Own.{IsOfItsCall}
 use Rattle.play_moves.proofs.Moves.Moved.{both_asked, move_as_their_calls}
+use Rattle.run_schedules.proofs.Given.General.{same_some}
 
 module _ {K V : Type 0} (same : K → K → Bool) (terms : Terms) where
   -- each entry keeps the one, and the others

@@ -1,7 +1,6 @@
 -- A log that is by acts is the grouping of a history that keeps all that is promised of histories.
 use Rattle.std.specs.Prelude.{Bool}
 use Rattle.std.proofs.Common.{ℕ, sym, subst, ◌∙◌}
-use Rattle.seize_acts.proofs.Acts.Answers.{same_some}
 use Rattle.run_schedules.specs.Schedules.After.{AtEachEvent}
 use Rattle.play_events.specs.Given.ScenesScene.{slot_of}
 use Rattle.play_lists.proofs.Given.ActsLists.{lists_determine}
@@ -9,6 +8,7 @@ use Rattle.play_lists.specs.Played.Play.{State}
 use Rattle.play_moves.specs.Moves.Legal.{KeepsAll}
 use Rattle.play_moves.specs.Moves.Logs.{LogsKeepAll}
 use Rattle.play_moves.proofs.Moves.Legal.{lists_keep_all}
+use Rattle.run_schedules.proofs.Given.General.{same_some}
 
 module _ {K S : Type 0} (V : Type 0) (same : K → K → Bool) (by_hasher : S → K → ℕ) where
   pub logs_keep_all : LogsKeepAll {K = K} {S = S} V same by_hasher

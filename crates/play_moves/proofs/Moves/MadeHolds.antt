@@ -2,7 +2,6 @@
 use Rattle.std.specs.Prelude.{◌≡◌, ◌≢◌, ℕ, Bool, true, false, List, [], ◌∷◌, ◌++◌, Option, Some, None, length, if◌then◌else◌, is_ok}
 use Rattle.std.proofs.Common.{refl, ap, sym, subst, ◌∙◌, arith}
 use Rattle.seize_acts.specs.Acts.Answers.{Grant}
-use Rattle.seize_acts.proofs.Acts.Answers.{same_some}
 use Rattle.seize_acts.specs.Given.SeizeDeclared.advance.Advance.TheVariants as progress
 use Rattle.seize_acts.specs.Given.SeizeDeclared.rows.settle.Settled.{Settled}
 use Rattle.run_schedules.specs.Given.RawEndMap.{end_map_plan}
@@ -32,6 +31,7 @@ use Rattle.play_linear.proofs.Linear.Coming.{gone_leaves}
 use Rattle.play_linear.proofs.Linear.RowsPlayed.{IsOfRow, is_of_row}
 use Rattle.play_events.proofs.EachMoves.Counted.{IsStill, MakesNone, capacity_still, none_made}
 use Rattle.play_lists.proofs.Agrees.Names.{effects_named}
+use Rattle.run_schedules.proofs.Given.General.{same_some}
 
 module _ {K V S : Type 0} where
   abbrev pub IsComing : List (Entry K V) → Making S → Type 0

@@ -2,7 +2,6 @@
 use Rattle.std.specs.Prelude.{◌≡◌, ◌≢◌, ◌+◌, ℕ, Bool, true, false, List, [], ◌∷◌, length, filter, Option, Some, None}
 use Rattle.std.proofs.Common.{refl, ap, sym, subst, ◌∙◌}
 use Rattle.seize_acts.specs.Acts.Answers.{Grant}
-use Rattle.seize_acts.proofs.Acts.Answers.{same_some}
 use Rattle.run_schedules.specs.Given.SeizeWordsMem.{Mem}
 use Rattle.seize_acts.specs.Given.SeizeWorld.{World, with_at}
 use Rattle.seize_acts.specs.Given.SeizeDeclared.advance.Advance.{Advance}
@@ -50,6 +49,7 @@ use Rattle.play_moves.proofs.Moves.MadeHolds.{IsComing, MadeHolds}
 use Rattle.play_moves.proofs.Moves.MadeStep.{own_then, then_made}
 use Rattle.play_moves.proofs.Moves.MakingMoves.{counts as counts_made, frees_quietly}
 use Rattle.play_events.proofs.EachMoves.Rooted.{IsFreeing, Rooted, step_rooted}
+use Rattle.run_schedules.proofs.Given.General.{same_some}
 
 -- where it gives its root up it has no table in hand
 freeing_none : (c : NewMap) (stands : Opening) → c.stands ≡ stands → IsFreeing stands → in_hand (table_left c progress.Goes) ≡ 0

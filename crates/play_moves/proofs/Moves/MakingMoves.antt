@@ -1,8 +1,7 @@
 -- The step of the making of a map, as it is played, does what it may: the map has just the table that was made for it where it has a capacity, and where it is refused none was made.
 use Rattle.std.specs.Prelude.{◌≡◌, ◌==◌, ◌+◌, ℕ, Bool, true, false, List, [], length, filter, Some, None, if◌then◌else◌}
 use Rattle.std.specs.List.{list_all}
-use Rattle.std.proofs.Common.{refl, ap, sym, ◌∙◌, arith, inl, inr, length-append}
-use Rattle.std.proofs.lemmas.Bool.{ne_eqb}
+use Rattle.std.proofs.Common.{refl, ap, sym, ◌∙◌, arith, length-append}
 use Rattle.std.proofs.lemmas.List.Elements.{filter-append}
 use Rattle.run_schedules.specs.Given.SeizeWordsMem.{Mem}
 use Rattle.seize_acts.specs.Given.SeizeDeclared.advance.Advance.{Advance}
@@ -13,7 +12,6 @@ use Rattle.threads_rule.specs.Given.ResizeNewMap.{plan_at}
 use Rattle.threads_rule.specs.Given.ResizeDeclared.new_map.NewMap.{NewMap}
 use Rattle.threads_rule.specs.Given.ResizeDeclared.new_map.Opening.{Opening}
 use Rattle.threads_rule.specs.Given.ResizeDeclared.new_map.Opening.TheVariants as openings
-use Rattle.threads_rule.specs.Given.RuleChart.{Chart}
 use Rattle.play_lists.specs.Given.TellerTells.{StepsTold}
 use Rattle.play_lists.specs.Given.EffectsDeclared.changed.Changed.{Changed}
 use Rattle.play_lists.specs.Given.EffectsDeclared.changed.Changed.TheVariants as changed
@@ -26,7 +24,7 @@ use Rattle.run_schedules.specs.Schedules.Views.{capacity_or, map_at, tables_of}
 use Rattle.play_lists.specs.Given.EffectsEffects.{effects_of, known_after}
 use Rattle.play_lists.specs.Given.EffectsKnown.{Known}
 use Rattle.play_lists.specs.Given.EffectsDeclared.acting.Acting.TheVariants as acts
-use Rattle.play_events.specs.Given.FinishesMakings.{Beginning, IsNewChart, MakingFacts}
+use Rattle.play_events.specs.Given.FinishesMakings.{Beginning, MakingFacts}
 use Rattle.play_lists.specs.Given.FollowsShows.{Shows}
 use Rattle.play_lists.specs.Given.OthersMakings.{WasNew, making_after}
 use Rattle.play_lists.specs.Given.ScenesHeld.{Held, IsAt}
@@ -47,19 +45,16 @@ use Rattle.play_linear.proofs.Linear.MapActs.{deed_by}
 use Rattle.play_linear.proofs.Linear.OthersGo.{makings_step}
 use Rattle.play_events.specs.EachMoves.Parts.{DoesIts}
 use Rattle.play_events.proofs.EachMoves.Counted.{are_so_many, freeing_has_none, own_made, places_as_pairs, so_many}
-use Rattle.play_events.proofs.EachMoves.Parts.{all_also, granted_so, none_may, refuses_so}
+use Rattle.play_events.proofs.EachMoves.Parts.{all_also, granted_so, none_may}
 use Rattle.play_events.proofs.EachMoves.Rooted.{IsFreeing, Rooted}
+use Rattle.play_lists.proofs.Agrees.Grants.{refusals_so as refuses_so}
+use Rattle.play_lists.proofs.Given.LoggedMakingsRun.{new_past as new_tables}
 
 -- where it frees its root nothing else is done
 pub frees_quietly : {K V : Type 0} (c : NewMap) (m n : Mem (Node K V)) (told : Changed) (end : NewMap × Advance Setting) (stands : Opening) → IsFreeing stands
     → StepsTold K V (NewMap × Advance Setting) m changed.Nothing (plan_at c stands) n told end → (map : ℕ) (known : Known) → effects_of (acts.Making map) known told ≡ []
 frees_quietly c m n told end (openings.Frees fault) is s map known = ap (effects_of (acts.Making map) known) s.1.1
 frees_quietly c m n told end _ is s map known = absurd is
-
--- a new map has one table where it has places, and none else
-new_tables : {K : Type 0} (hash : K → ℕ) (answer : Setting) (places : ℕ) (chart : Chart K) → IsNewChart hash answer places chart → chart.past ≡ (if places == 0 then 0 else 1)
-new_tables hash answer places chart (inl (none, is)) = ap (λ (c : Chart _). c.past) is ∙ sym (ap (λ (n : ℕ). if n == 0 then 0 else 1) none)
-new_tables hash answer places chart (inr (some, limit, is)) = ap (λ (c : Chart _). c.past) is ∙ sym (ap (λ (q : Bool). if q then 0 else 1) (ne_eqb places 0 some))
 
 module _ {K V S : Type 0} (same : K → K → Bool) (hash : ℕ → K → ℕ) (x : State K V S) (s : Scene K V) (old new : Held K V) (at : IsAt same hash old s)
     (all : ShowsAnswers same (past x.history) (moment x.history) x.known s) (i : ℕ) (b : Beginning K) (makes : s.makers i ≡ Some b) (machine : NewMap) (said : Advance Setting)

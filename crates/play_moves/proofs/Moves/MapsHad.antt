@@ -4,7 +4,6 @@ use Rattle.std.specs.List.{list_any}
 use Rattle.std.proofs.Common.{refl, ap, sym, subst, ◌∙◌, inl, inr}
 use Rattle.std.proofs.lemmas.Bool.{cases_eq}
 use Rattle.seize_acts.specs.Acts.Answers.{Grant}
-use Rattle.seize_acts.proofs.Acts.Answers.{same_some}
 use Rattle.run_schedules.specs.Given.SeizeWordsMem.{Mem}
 use Rattle.run_schedules.specs.Given.SeizeWordsDeclared.fault.Fault.{Fault}
 use Rattle.run_schedules.specs.Given.RawDeclared.machines.end_map.EndMap.{EndMap}
@@ -43,12 +42,12 @@ use Rattle.play_lists.specs.Played.Play.{Ending, Making, Now, State, all_stepped
 use Rattle.play_lists.specs.Played.Reached.{IsOf, made_so, makes_so, stands_so}
 use Rattle.play_lists.proofs.Played.PlayedAs.{PlayedAs, ReclaimedAs}
 use Rattle.play_linear.specs.Linear.Coming.{ComesBy, MapsComeAndGo}
-use Rattle.play_linear.proofs.Linear.Gone.{nothing_told}
 use Rattle.play_linear.proofs.Linear.MapActs.{deed_by}
 use Rattle.play_linear.proofs.Linear.RowsPlayed.{IsOfRow, is_of_row}
 use Rattle.play_linear.proofs.Linear.StepsPlayed.{there_alike}
 use Rattle.play_events.proofs.EachMoves.MapsIn.{AreIn, LeavesMaps, comes_in, fails_in, found_in, goes_in, none_in, still_in, then_in}
 use Rattle.play_events.proofs.EachMoves.Rooted.{Rooted, step_rooted}
+use Rattle.run_schedules.proofs.Given.General.{same_some, none_mapped as nothing_told}
 
 -- who acts on slots, or reclaims all, leaves maps
 rows_leave_maps : {K V : Type 0} (d : Deed K V) → IsOfRow d → LeavesMaps d

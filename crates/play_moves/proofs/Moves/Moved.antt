@@ -2,7 +2,6 @@
 use Rattle.std.specs.Prelude.{◌≡◌, ◌<◌, ◌^◌, Bool, List, [], ◌∷◌, Some}
 use Rattle.std.specs.List.{AllByRecursion}
 use Rattle.std.proofs.Common.{ℕ, refl, sym, subst, ◌∙◌}
-use Rattle.seize_acts.proofs.Acts.Answers.{same_some}
 use Rattle.run_schedules.specs.Schedules.After.{AtEachEvent}
 use Rattle.run_schedules.specs.Schedules.Terms.{Terms, shards_of}
 use Rattle.play_lists.specs.Given.EffectsKnown.{nothing_known}
@@ -39,6 +38,7 @@ use Rattle.play_moves.proofs.Moves.MoveOn.{OtherFinds, all_move_on}
 use Rattle.play_moves.proofs.Moves.OtherStays.{OthersStand, others_stay}
 use Rattle.play_moves.proofs.Moves.OthersFound.{others_found}
 use Rattle.play_moves.proofs.Moves.StepsStay.{Asks, Beside, WithOrder, WithSteps, steps_stay}
+use Rattle.run_schedules.proofs.Given.General.{same_some}
 
 -- who asks for a map asks for its shards, and for its places
 pub both_asked : {K V S : Type 0} (shards : ℕ) (act : Act K V S) → AsksMap shards act → AsksShards shards act × AsksPlaces act

@@ -1,13 +1,11 @@
 -- The step of a row on a slot, and one by which all is reclaimed, as they are played: they do what they may.
-use Rattle.std.specs.Prelude.{◌≡◌, ℕ, Bool, true, List, [], ◌∷◌, map}
+use Rattle.std.specs.Prelude.{◌≡◌, ℕ, Bool, true, List, []}
 use Rattle.std.specs.List.{list_all}
-use Rattle.std.proofs.Common.{refl, sym, subst}
+use Rattle.std.proofs.Common.{sym, subst}
 use Rattle.seize_acts.specs.Given.SeizeDeclared.rows.reclaim_all.ReclaimAll.{ReclaimAll}
 use Rattle.seize_acts.specs.Given.SeizeDeclared.rows.settle.Settled.{Settled}
 use Rattle.play_lists.specs.Given.TablesDeclared.node.Node.{Node}
 use Rattle.run_schedules.specs.declared.effect.Effect.{Effect}
-use Rattle.run_schedules.specs.declared.effect.Effect.TheVariants.{Reclaimed}
-use Rattle.run_schedules.specs.declared.effect.Thing.{Thing}
 use Rattle.run_schedules.specs.declared.outcome.Outcome.{Outcome}
 use Rattle.run_schedules.specs.Schedules.Handing.{is_reclaiming}
 use Rattle.play_lists.specs.Given.EffectsDeclared.changed.Changed.{Changed}
@@ -28,8 +26,10 @@ use Rattle.play_lists.specs.Played.Play.{State, is_over, is_refusal, row_deed, s
 use Rattle.play_linear.specs.Linear.Shown.{ShowsAnswers}
 use Rattle.play_linear.proofs.Linear.RowsPlayed.{IsOfRow, is_of_row}
 use Rattle.play_events.specs.EachMoves.Parts.{DoesIts}
-use Rattle.play_events.proofs.EachMoves.Parts.{all_also, granted_so, refuses_so}
+use Rattle.play_events.proofs.EachMoves.Parts.{all_also, granted_so}
 use Rattle.play_events.proofs.EachMoves.RowKinds.{row_may}
+use Rattle.play_events.proofs.Given.LegalOfAll.Steps.{things_reclaim as all_reclaim}
+use Rattle.play_lists.proofs.Agrees.Grants.{refusals_so as refuses_so}
 
 module _ {K V : Type 0} (log : List (Entry K V)) (o : Outcome V) (known : Known) (changed : Changed) where
   abbrev of : Deed K V → Entry K V
@@ -44,10 +44,6 @@ module _ {K V : Type 0} (log : List (Entry K V)) (o : Outcome V) (known : Known)
   of_row (Tends s) is may = record { may = may; granted = granted_so acts.Row known changed; refuses = refuses_so acts.Row known changed; whole = tt; leaves = tt }
   of_row (ReclaimsAll last) is may = record { may = may; granted = granted_so acts.Row known changed; refuses = refuses_so acts.Row known changed; whole = tt; leaves = tt }
   of_row _ is may = absurd is
-
-pub all_reclaim : (things : List Thing) → list_all is_reclaiming (map Reclaimed things) ≡ true
-all_reclaim [] = refl
-all_reclaim (y ∷ ys) = all_reclaim ys
 
 module _ {K V S : Type 0} (same : K → K → Bool) (hash : ℕ → K → ℕ) (x : State K V S) (s : Scene K V) (old new : Held K V) (all : ShowsAnswers same (past x.history) (moment x.history) x.known s) where
   pub rows_move : IsAt same hash old s → (i : ℕ) (row : SlotRow) (here : IsOnSlot s i row) (said : RowTold (Node K V)) → RowLeads same hash i said s old new → (o : Outcome V)

@@ -2,7 +2,6 @@
 -- places as capacities ask for.
 use Rattle.std.specs.Prelude.{◌≡◌, ℕ, max, Bool, true, false, Option, Some, None}
 use Rattle.std.proofs.Common.{refl, ap, sym, subst, ◌∙◌}
-use Rattle.seize_acts.proofs.Acts.Answers.{same_some}
 use Rattle.seize_acts.specs.Given.SeizeWorld.{IsInside}
 use Rattle.seize_acts.specs.Given.SeizeDeclared.rows.reclaim_all.ReclaimAll.{ReclaimAll}
 use Rattle.play_lists.specs.Given.TablesLengths.{entries_of}
@@ -47,6 +46,7 @@ use Rattle.play_events.proofs.EachMoves.Opens.{acts_open, still_open}
 use Rattle.play_moves.proofs.Moves.Order.Kept.{New, Orderly, order_is_kept}
 use Rattle.play_moves.proofs.Moves.Stays.{Moves, moves_stay}
 use Rattle.play_moves.proofs.Moves.Steps.Kept.{Found, May, steps_are_kept}
+use Rattle.run_schedules.proofs.Given.General.{same_some}
 
 -- what is so unless it counts
 unless_so : {K V : Type 0} (u : UnderWay K V K) (P Q : Type 0) → (P → Q) → UnlessCounts u P → UnlessCounts u Q

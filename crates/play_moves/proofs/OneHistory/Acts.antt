@@ -2,7 +2,6 @@
 use Rattle.std.specs.Prelude.{◌≢◌, ◌==◌, ◌⊎◌, ◌++◌, Option, Some, None, if◌then◌else◌, is_ok, length}
 use Rattle.std.proofs.Common.{◌≡◌, ℕ, Bool, true, false, List, [], ◌∷◌, inl, inr, refl, sym, subst, ap, ◌∙◌}
 use Rattle.std.proofs.lemmas.Bool.{cases_eq, eq-eqb, ne_eqb}
-use Rattle.seize_acts.proofs.Acts.Answers.{same_some}
 use Rattle.run_schedules.specs.Given.SeizeWordsMem.{Mem, value_at}
 use Rattle.run_schedules.specs.Given.SeizeWordsWord.{block_in}
 use Rattle.play_lists.specs.Given.TablesDeclared.node.Node.{Node}
@@ -65,6 +64,7 @@ use Rattle.play_moves.proofs.OneHistory.Order.{IsAside, IsOpen, NewestCall, asid
 use Rattle.play_moves.proofs.OneHistory.Lookups.{so_then}
 use Rattle.play_moves.proofs.OneHistory.Tells.{EndsAs, GoesOn, HasAnswered, HasEndedLast, HasSeenPair, IfNewest, IsCalled, SaysSo, Tells, answered_on, answered_then, called_on, last_on, quiet, wants}
 use Rattle.play_moves.proofs.OneHistory.Words.{HasWords}
+use Rattle.run_schedules.proofs.Given.General.{same_some}
 
 -- calls of other callers
 others : {X : Type 0} (calls : ℕ → ℕ → Option X) (m i : ℕ) (it : Option X) (on j : ℕ) → j ≢ i → with_call calls m i it on j ≡ calls on j

@@ -4,8 +4,7 @@ use Rattle.std.specs.List.{AllByRecursion}
 use Rattle.std.proofs.Common.{◌≡◌, ℕ, Bool, List, [], ◌∷◌, refl, sym, subst, ap, ◌∙◌}
 use Rattle.std.proofs.lemmas.List.{append-nil}
 use Rattle.play_lists.proofs.Given.ActsFurther.{led_further}
-use Rattle.seize_acts.proofs.Acts.Answers.{same_some}
-use Rattle.threads_rule.proofs.Views.Listed.{all_more, numbered_on}
+use Rattle.threads_rule.proofs.Views.Listed.{numbered_on}
 use Rattle.play_lists.specs.Given.TablesDeclared.node.Node.{Node}
 use Rattle.threads_rule.specs.Views.Listed.{Called, AreNumbered, calls_of, calls_then, has_told, seat_of, seen_of, seen_then}
 use Rattle.run_schedules.specs.Schedules.After.{AtEachEvent}
@@ -37,6 +36,7 @@ use Rattle.play_moves.proofs.OneHistory.Lookups.{lookup_owes}
 use Rattle.play_moves.proofs.OneHistory.Numbers.{once}
 use Rattle.play_moves.proofs.OneHistory.Tells.{Tells}
 use Rattle.play_moves.proofs.OneHistory.Words.{HasWords, acts_say, reclaiming_says, silent}
+use Rattle.run_schedules.proofs.Given.General.{same_some, all_and_one as all_more}
 
 module _ {X : Type 0} where
   -- what comes is what was there

@@ -4,7 +4,6 @@ use Rattle.std.specs.List.{AllByRecursion}
 use Rattle.std.proofs.lemmas.Bool.{eq-eqb}
 use Rattle.std.proofs.Common.{ℕ, Bool, true, false, List, [], ◌∷◌, inl, inr, refl, sym, subst, ap, ◌∙◌}
 use Rattle.threads_rule.proofs.Views.Leaves.{section_place}
-use Rattle.seize_acts.proofs.Acts.Answers.{same_some}
 use Rattle.threads_rule.specs.Given.SeizeSeatsState.{State, view_of}
 use Rattle.threads_rule.specs.Given.SeizeViewsDeclared.view.Fixed.{Fixed}
 use Rattle.run_schedules.specs.Given.SeizeWordsDeclared.fault.Fault.{Fault}
@@ -48,6 +47,7 @@ use Rattle.play_moves.proofs.OneHistory.Answered.{IsIts, calls_its, runs, same_c
 use Rattle.play_moves.proofs.OneHistory.Legal.{histories_are_legal}
 use Rattle.play_moves.proofs.OneHistory.Order.{NewestCall, newest_as}
 use Rattle.play_moves.proofs.OneHistory.Tells.{EndsAs, HasEndedLast, HasSeenPair, IfNewest}
+use Rattle.run_schedules.proofs.Given.General.{same_some}
 
 -- What a call on one key has come to, by what it was told of it.
 module _ {K V : Type 0} (known : Known) (replies : List (Option ℕ × Reply V)) where

@@ -2,7 +2,6 @@
 use Rattle.std.specs.Prelude.{Bool, List, [], ◌∷◌}
 use Rattle.std.specs.List.{AllByRecursion}
 use Rattle.std.proofs.Common.{ℕ, refl, sym, subst, ◌∙◌}
-use Rattle.seize_acts.proofs.Acts.Answers.{same_some}
 use Rattle.threads_rule.specs.Given.SeizeSeatsState.{State}
 use Rattle.threads_rule.specs.Given.SeizeViewsDeclared.view.Fixed.{Fixed}
 use Rattle.play_lists.specs.Given.TablesDeclared.node.Node.{Node}
@@ -23,6 +22,7 @@ use Rattle.play_moves.proofs.Moves.Legal.{lists_keep_all}
 use Rattle.play_moves.specs.OneHistory.Legal.{AsksSo, HistoriesAreLegal, HistoriesKeepAll}
 use Rattle.play_moves.proofs.OneHistory.Numbers.{once}
 use Rattle.play_moves.proofs.OneHistory.Own.{hash_at, own_from}
+use Rattle.run_schedules.proofs.Given.General.{same_some}
 
 module _ {K V S : Type 0} (same : K → K → Bool) (hash : S → K → ℕ) (fixed : Fixed) (s : State (Node K V) (View K V S) (MapsWorld K V S)) (h : Holds same hash fixed s) where
   -- each map has the hash of the hasher with which it was made

@@ -1,7 +1,6 @@
 -- A lookup owes nothing, and so it is answered what the finite map of its map has for the key at a moment since it began.
 use Rattle.std.specs.Prelude.{◌+◌, ◌++◌, length, flat_map, Option, Some, None, if◌then◌else◌}
 use Rattle.std.proofs.Common.{◌≡◌, ℕ, Bool, true, false, List, [], ◌∷◌, inl, inr, refl, sym, subst, ap, ◌∙◌}
-use Rattle.seize_acts.proofs.Acts.Answers.{same_some}
 use Rattle.run_histories.specs.Histories.Due.{Owes, ShowsDue}
 use Rattle.play_events.specs.Given.PointsFactsCalls.{Change, Unchanged, Stored as HasStored, Replaced as HasReplaced, Removed as HasRemoved}
 use Rattle.play_events.specs.Given.CallersTogether.{UnderWay as UnderWayIn, OnKey, ForRoom, Counting, OverAll}
@@ -27,6 +26,8 @@ use Rattle.run_schedules.specs.Schedules.Views.{call_of, finite_map}
 use Rattle.run_schedules.specs.Deeds.Deeds.{Entry, Steps, acted_on, moment, named}
 use Rattle.run_schedules.specs.Deeds.History.{IsLinearizable, moments_from, past, transition}
 use Rattle.play_lists.proofs.Given.FollowsCalls.{changed, changed_same, found, of_same}
+use Rattle.run_histories.proofs.Promises.Brief.Shown.{one_as as one_so}
+use Rattle.run_schedules.proofs.Given.General.{same_some}
 
 module _ {K V : Type 0} (same : K → K → Bool) (log : Past K V) (m : Moment K V) (known : Known) (s : Scene K V) (dues : ShowsDue same named log m known s) where
   -- a lookup has changed nothing
@@ -104,12 +105,6 @@ module _ {K V : Type 0} where
         owes : shift_of f ≡ [] → (q : Bool) → (if q then call_by m f c else c).due ≡ c.due
         owes none true = still_due m f c none
         owes none false = refl
-
--- what is so of one of them is so of it in other words
-one_so : {X : Type 0} (P Q : X → Type 0) → ((x : X) → P x → Q x) → (xs : List X) → OneOf P xs → OneOf Q xs
-one_so P Q so [] one = one
-one_so P Q so (x ∷ xs) (inl is) = inl (so x is)
-one_so P Q so (x ∷ xs) (inr later) = inr (one_so P Q so xs later)
 
 module _ {K V : Type 0} (same : K → K → Bool) (i : ℕ) (answer : Response V) (effects : List Effect) (refused : Bool) (log : List (Entry K V)) (there : UnderWay K V)
     (here : call_of (named i) (moment log) ≡ Some there) (key : K) (call_is : there.call ≡ calls.On (Get key)) (free : there.due ≡ None)

@@ -1,8 +1,7 @@
 -- Histories worked by hand: a lookup that was answered stands in its history, and was so; and so do storings, and answers one for one. And wrong ones, each refused for its reason.
 use Rattle.std.specs.Prelude.{nat_eq}
 use Rattle.std.specs.Option.{is_none}
-use Rattle.std.proofs.Common.{◌≡◌, ℕ, true, false, List, [], ◌∷◌, ◌⊎◌, inl, inr, refl, sym, subst, ap, ◌∙◌, arith, Option, Some, None}
-use Rattle.seize_acts.proofs.Acts.Answers.{same_some}
+use Rattle.std.proofs.Common.{◌≡◌, ℕ, false, List, [], ◌∷◌, inl, refl, sym, subst, ap, ◌∙◌, arith, Option, Some, None}
 use Rattle.play_lists.specs.Given.TablesDeclared.resize_mode.ResizeMode.TheVariants.{Incremental}
 use Rattle.run_schedules.specs.declared.call.Response.{Response}
 use Rattle.run_schedules.specs.declared.call.Response.TheVariants as answer
@@ -28,6 +27,7 @@ use Rattle.run_schedules.specs.Given.RawDeclared.machines.progress.Progress.TheV
 use Rattle.threads_rule.specs.Views.Listed.{Called}
 use Rattle.play_moves.specs.OneHistory.Lookups.{IsLookedUp, WasHad, WasSo}
 use Rattle.play_moves.specs.OneHistory.Order.{HaveGot}
+use Rattle.run_schedules.proofs.Given.General.{either, true_not_false as none_no, same_some}
 
 abbrev entry : Deed ℕ ℕ → Outcome ℕ → List Effect → Entry ℕ ℕ
 entry deed outcome effects = record { deed = deed; outcome = outcome; effects = effects; refused = false }
@@ -42,9 +42,6 @@ looking log = entry (Begins 3 3 0 (On (Get 1))) Goes [] ∷ log
 
 abbrev told : Response ℕ → List (Entry ℕ ℕ) → List (Entry ℕ ℕ)
 told a log = entry (Steps 3) (Answered a) [] ∷ looking log
-
-none_no : true ≡ false → ⊥
-none_no h = cc
 
 -- what is there
 abbrev the : {X : Type 0} → (o : Option X) → is_none o ≡ false → (x : X) × (o ≡ Some x)
@@ -68,11 +65,6 @@ stands =
 
 was_so : IsLookedUp nat_eq (told answer.Absent first) 3 0 1 answer.Absent
 was_so = inl (record { deed = refl; comes = refl; there = (there (looking first) refl).0; here = (there (looking first) refl).1; on = refl; what = refl; so = inl refl })
-
--- neither of two is so
-either : {A B : Type 0} → (A → ⊥) → (B → ⊥) → A ⊎ B → ⊥
-either f g (inl a) = f a
-either f g (inr b) = g b
 
 never : ⊥ → ⊥
 never h = h

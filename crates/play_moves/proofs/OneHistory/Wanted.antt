@@ -1,7 +1,6 @@
 -- The machine of a call that begins tells what is wanted, but for how that is answered, of which map, and in which slot.
 use Rattle.std.specs.Prelude.{Option, Some, None}
 use Rattle.std.proofs.Common.{◌≡◌, ℕ, Bool, refl, sym, ap, ◌∙◌}
-use Rattle.seize_acts.proofs.Acts.Answers.{same_some}
 use Rattle.play_lists.specs.Given.TablesDeclared.node.Node.{Node}
 use Rattle.play_lists.specs.Given.TablesDeclared.node.Node.TheVariants as node
 use Rattle.play_lists.specs.Given.TablesDeclared.setting.Setting.{Setting}
@@ -19,6 +18,7 @@ use Rattle.threads_rule.specs.Views.Begun.{machine_for}
 use Rattle.threads_rule.specs.Views.Listed.{plain}
 use Rattle.threads_rule.specs.declared.view.Map.{Map}
 use Rattle.play_lists.specs.Given.ActsActs.{Wanted, Get, Remove, Insert, TryToInsert, Compute, Update, UpdateOrInsert, TryToInsertWith, RemoveIf, MakeRoom, Count, GoOver}
+use Rattle.run_schedules.proofs.Given.General.{same_some}
 
 module _ {K V : Type 0} where
   -- by what it does where the key is there and where it is missing, by what stands for the key, the pair that it has, and what it takes and was told

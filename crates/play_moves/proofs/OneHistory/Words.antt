@@ -1,7 +1,6 @@
 -- What a step of a call has told has words: wherever a list of acts has led, the entry of the newest act comes to what that has told, if it was the step of a call.
 use Rattle.std.specs.Prelude.{◌++◌, Some}
 use Rattle.std.proofs.Common.{◌≡◌, ℕ, Bool, List, [], ◌∷◌, refl, sym, subst, ap, ◌∙◌}
-use Rattle.seize_acts.proofs.Acts.Answers.{same_some}
 use Rattle.play_lists.specs.Given.TablesDeclared.node.Node.{Node}
 use Rattle.run_schedules.specs.Given.RawDeclared.machines.machine.Machine.{Machine}
 use Rattle.run_schedules.specs.Given.RawDeclared.machines.progress.Progress.{Progress}
@@ -31,6 +30,7 @@ use Rattle.play_lists.specs.Played.Reached.{IsOf}
 use Rattle.seize_acts.specs.Acts.Answers.{Grant}
 use Rattle.play_lists.proofs.Played.PlayedAs.{PlayedAs, ReclaimedAs}
 use Rattle.play_lists.proofs.Played.Tied.{CallTied, call_tied}
+use Rattle.run_schedules.proofs.Given.General.{same_some}
 
 -- the last of a list
 module _ {X : Type 0} where

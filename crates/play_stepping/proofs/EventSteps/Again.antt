@@ -31,10 +31,10 @@ use Rattle.play_scheduler.specs.declared.scheduler.Scheduler.{Scheduler}
 use Rattle.play_scheduler.proofs.Here.{Here}
 use Rattle.play_scheduler.proofs.Given.RowsLists.{changed_at, set_seen}
 use Rattle.play_scheduler.proofs.Replied.{far_asks}
-use Rattle.play_stepping.proofs.EventSteps.StepSays.{the}
 use Rattle.play_scheduler.proofs.Given.ScenesMay.{standing_is}
 use Rattle.play_scheduler.specs.Given.ScenesScene.{Scene}
 use Rattle.run_executor.specs.Executing.IsThere.{held_by}
+use Rattle.seize_words.proofs.General.{same_some as the}
 
 pub far_ready : (stand : Stands) → far_of stand ≡ far.Ready → stand ≡ IsReady
 far_ready IsReady e = refl

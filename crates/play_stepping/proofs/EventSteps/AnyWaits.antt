@@ -14,7 +14,6 @@ use Rattle.papaya_raw.specs.Given.ReservesDeclared.sweep.Swept.{Swept}
 use Rattle.papaya_raw.specs.Given.ReservesDeclared.sweep.Swept.TheVariants as swept
 use Rattle.papaya_raw.specs.Call.{call_plan}
 use Rattle.papaya_raw.specs.Machine.{called as of_key, reserved as of_room, swept as of_sweep}
-use Rattle.papaya_raw.specs.Progress.{of_outcome, of_swept}
 use Rattle.papaya_raw.specs.declared.machines.answer.Called.{Called}
 use Rattle.papaya_raw.specs.declared.machines.answer.Called.TheVariants as says
 use Rattle.papaya_raw.specs.declared.machines.call.KeyCall.{KeyCall}
@@ -42,30 +41,13 @@ use Rattle.play_scheduler.specs.Played.{StandsFor}
 use Rattle.play_scheduler.specs.declared.scheduler.Scheduler.{Scheduler}
 use Rattle.run_grows.proofs.Quiet.LookSays.{key_waits, never_waits}
 use Rattle.play_stepping.proofs.EventSteps.RoomsWait.{SaysWaits, room_says, sweep_says}
-use Rattle.play_stepping.proofs.EventSteps.StepSays.{the}
 use Rattle.play_stepping.proofs.EventSteps.WaitsFor.{quiet, waits_so}
 use Rattle.play_scheduler.proofs.Given.ScenesMay.{standing_is}
 use Rattle.run_executor.specs.Given.ScenesStepping.{StepsFrom}
 use Rattle.run_executor.specs.Executing.IsThere.{held_by}
 use Rattle.run_executor.specs.Given.ScenesHeld.{Held}
-
--- what a reservation, or a sweep, says as it waits
-room_waits : {T : Type 0} (x : Yielding T Unit) → of_outcome x ≡ progress.Waits → x ≡ outcome.Waits
-room_waits outcome.Waits e = refl
-room_waits outcome.Goes e = absurd (cc e)
-room_waits (outcome.Gave value) e = absurd (cc e)
-room_waits (outcome.Done end) e = absurd (cc e)
-room_waits (outcome.Refused fault) e = absurd (cc e)
-
-sweep_waits : {T : Type 0} (x : Swept T) → of_swept x ≡ progress.Waits → x ≡ swept.Waits
-sweep_waits swept.Waits e = refl
-sweep_waits swept.Goes e = absurd (cc e)
-sweep_waits (swept.Gave value) e = absurd (cc e)
-sweep_waits swept.Ready e = absurd (cc e)
-sweep_waits (swept.Pair word) e = absurd (cc e)
-sweep_waits (swept.Asks word) e = absurd (cc e)
-sweep_waits swept.Done e = absurd (cc e)
-sweep_waits (swept.Refused fault) e = absurd (cc e)
+use Rattle.owner_whole.proofs.Lowers.Waits.{swept_waits as sweep_waits, outcome_waits as room_waits}
+use Rattle.seize_words.proofs.General.{same_some as the}
 
 module _ {K V S : Type 0} (same : K → K → Bool) (hash : K → ℕ) (terms : Terms) (m : Moment K V) (p : Scheduler K V S) (stands : StandsFor same hash terms m p) (own : List ℕ) (of i : ℕ)
     (x : UnderWay K V K) (under : stands.scene.calls of i ≡ Some x) (named : stands.name i ≡ own) (new : Held K V) (next : Machine K V K)

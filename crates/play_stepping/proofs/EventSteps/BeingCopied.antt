@@ -1,5 +1,5 @@
 -- A pair of a map that stands in the root, while a table is linked behind that, is the one that the finite map has of its key, and may be being copied, as the moment tells.
-use Rattle.std.specs.Prelude.{Option, Some, None, nat_le}
+use Rattle.std.specs.Prelude.{Option, Some, None}
 use Rattle.std.proofs.Common.{◌≡◌, ℕ, suc, ◌≤◌, ◌<◌, Bool, true, refl, ap, sym, ◌∙◌, arith}
 use Rattle.seize.specs.World.{World}
 use Rattle.papaya_raw.specs.Given.TablesDeclared.node.Node.{Node}
@@ -18,11 +18,9 @@ use Rattle.run_executor.specs.Given.ChangesHad.{Had, HadJust}
 use Rattle.run_executor.proofs.Given.ChangesNow.{now_had}
 use Rattle.play_scheduler.specs.Played.{StandsFor}
 use Rattle.play_scheduler.specs.declared.scheduler.Scheduler.{Scheduler}
-use Rattle.play_stepping.proofs.EventSteps.Waiting.{both_true, chain_longer, first_as}
+use Rattle.play_stepping.proofs.EventSteps.Waiting.{chain_longer, first_as}
 use Rattle.play_scheduler.specs.Given.ScenesScene.{slot_of}
-
-upto : (a b : ℕ) → a ≤ b → nat_le a b ≡ true
-upto a b l = grind (arith, l)
+use Rattle.seize_words.proofs.General.{at_most_true as upto, and_true as both_true}
 
 module _ {K V S : Type 0} (same : K → K → Bool) (hash : K → ℕ) (terms : Terms) (m : Moment K V) (p : Scheduler K V S) (stands : StandsFor same hash terms m p) (of : ℕ)
     (st : Standing K) (is : stands.scene.maps of ≡ Some st) where

@@ -4,16 +4,12 @@ use Rattle.std.proofs.Common.{refl, sym, ap, subst, ◌∙◌}
 use Rattle.run_executor.specs.Named.Roll.{at_place, called}
 use Rattle.run_executor.specs.declared.caller.NamedCaller.{NamedCaller}
 use Rattle.play_stepping.specs.EventSteps.Stepping.{HasCaller, IsCaller, IsPlaced}
-use Rattle.play_stepping.proofs.EventSteps.StepSays.{the}
+use Rattle.seize_words.proofs.General.{none_of as none_there, same_some as the}
 
 -- what is there, and what is not
 pub some_there : {X : Type 0} (o : Option X) → is_some o ≡ true → (x : X) × (o ≡ Some x)
 some_there None e = absurd (cc e)
 some_there (Some x) e = (x, refl)
-
-pub none_there : {X : Type 0} (o : Option X) → is_some o ≡ false → o ≡ None
-none_there None e = refl
-none_there (Some x) e = absurd (cc e)
 
 -- what is so where nothing was told
 pub none_told : {A X : Type 0} (P : X → Type 0) (r : Option X) → is_some r ≡ false → MatchOption r A P → A

@@ -22,7 +22,7 @@ use Rattle.run_executor.specs.Named.Telling.{goes_on}
 use Rattle.play_scheduler.specs.declared.scheduler.Scheduler.{Scheduler}
 use Rattle.play_scheduler.proofs.Here.{here_at}
 use Rattle.play_stepping.proofs.EventSteps.OneStep.{step_comes}
-use Rattle.play_stepping.proofs.EventSteps.StepSays.{the}
+use Rattle.seize_words.proofs.General.{same_some as the}
 
 module _ {K V S : Type 0} (same : K → K → Bool) (hash : K → ℕ) (terms : Terms) (own : List ℕ) (place : ℕ) (m : Moment K V) where
   -- before the first one

@@ -30,7 +30,6 @@ use Rattle.owner_whole.specs.Given.PointsSteps.{AreLawful}
 use Rattle.owner_whole.specs.Given.PointsTold.{IsRowOfCall, IsRowOfCopier}
 use Rattle.owner_whole.specs.Given.LateFactsReserves.{CopiesWhole, IsEnding, ReservingFacts}
 use Rattle.owner_whole.specs.Given.LateFactsSweeps.{SweepingFacts}
-use Rattle.owner_whole.specs.Given.LateKinds.{LooksAt}
 use Rattle.owner_whole.specs.Given.LateLateCalls.{LateCallFacts}
 use Rattle.owner_whole.specs.Given.LateLateCopies.{LateCopierFacts, LateCopying}
 use Rattle.owner_whole.specs.Given.LateToldReserves.{IsRowOfReserve}
@@ -57,10 +56,11 @@ use Rattle.play_scheduler.proofs.Given.SettlesPassed.{numbered, passed_first, ta
 use Rattle.run_schedules.specs.Schedules.Effects.{passed}
 use Rattle.play_scheduler.specs.Played.{StandsFor}
 use Rattle.play_scheduler.specs.declared.scheduler.Scheduler.{Scheduler}
-use Rattle.play_stepping.proofs.EventSteps.StepSays.{the}
 use Rattle.play_stepping.proofs.EventSteps.Waiting.{IsForResizes, owing_hands, waits_for_copier, waits_for_handing}
 use Rattle.owner_whole.proofs.Given.WaitsWorks.{OnlyLooks, works}
 use Rattle.play_scheduler.specs.Given.ScenesScene.{slot_of}
+use Rattle.owner_whole.proofs.Given.WaitersAwaited.{looks_within as looks_none}
+use Rattle.seize_words.proofs.General.{same_some as the}
 
 -- the row of a call that copies is its copier's
 key_row : (stands : Calling) (q : Copier) → copier_in stands ≡ Some q → IsRowOfCall stands → IsRowOfCopier q.stands
@@ -75,12 +75,6 @@ room_row _ q e row = absurd (cc e)
 sweep_row : (stands : Sweeping) (q : Copier) → copier_in_sweep stands ≡ Some q → IsRowOfSweep stands → IsRowOfCopier q.stands
 sweep_row (sweeps.Copies copier) q e row = subst (λ (x : Copier). IsRowOfCopier x.stands) (the copier q e) row
 sweep_row _ q e row = absurd (cc e)
-
--- one that only looks stands within none
-looks_none : (stands : Calling) → LooksAt stands → copier_in stands ≡ None
-looks_none (at.Looks lookup) looks = refl
-looks_none (at.Over end) looks = refl
-looks_none _ looks = absurd looks
 
 looking_none : {K V : Type 0} (u : UnderWay K V K) → IsLooking (machine_of u) → copier_of u ≡ None
 looking_none (OnKey u) looks = looks_none u.call.stands looks.1

@@ -61,10 +61,11 @@ use Rattle.play_stepping.proofs.EventSteps.PlaysSteps.{stands_elsewhere}
 use Rattle.play_stepping.proofs.EventSteps.RightSteps.{waits_never}
 use Rattle.play_scheduler.proofs.RanOn.{maps_named, there_stays}
 use Rattle.play_scheduler.proofs.Rights.{entry, in_turn, out_of_turn, plays, quiet}
-use Rattle.play_stepping.proofs.EventSteps.StepSays.{asks_nothing, the}
+use Rattle.play_stepping.proofs.EventSteps.StepSays.{asks_nothing}
 use Rattle.play_stepping.proofs.EventSteps.SteppedTo.{going_on, has_gone, none_named}
 use Rattle.play_scheduler.proofs.Stopped.{ready_parts, shows_by, shows_is}
 use Rattle.play_scheduler.specs.Given.ScenesScene.{HasCall}
+use Rattle.seize_words.proofs.General.{same_some as the}
 
 module _ {K V S : Type 0} (same : K → K → Bool) (hash : K → ℕ) (terms : Terms) (own : List ℕ) (n : ℕ) (w : Moment K V) (p : Scheduler K V S) (stands : StandsAs (WalksFar own n) same hash terms w p)
     (place : ℕ) (at_place : ReadyAt own place p) where

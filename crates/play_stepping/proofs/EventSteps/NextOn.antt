@@ -42,7 +42,7 @@ use Rattle.play_scheduler.proofs.Given.RowsLists.{set_itself}
 use Rattle.run_grows.proofs.Quiet.NextSays.{IsNextSaying, NextSays, over_idle, over_says, words_idle, words_say}
 use Rattle.play_stepping.proofs.EventSteps.OneStep.{goes_next}
 use Rattle.play_scheduler.proofs.RanOn.{maps_named, there_stays}
-use Rattle.play_stepping.proofs.EventSteps.StepSays.{goes_as, the}
+use Rattle.play_stepping.proofs.EventSteps.StepSays.{goes_as}
 use Rattle.play_stepping.proofs.EventSteps.SteppedTo.{going_on}
 use Rattle.play_stepping.proofs.EventSteps.SweepSteps.{knows_at}
 use Rattle.play_scheduler.proofs.Given.ScenesMay.{standing_is}
@@ -50,6 +50,7 @@ use Rattle.run_executor.specs.Executing.IsThere.{IsThere, held_by}
 use Rattle.play_scheduler.specs.Given.ScenesScene.{HasCall, Scene, slot_of}
 use Rattle.run_executor.specs.Given.ScenesStepping.{StepLeads, StepsFrom, has_ended, scene_after}
 use Rattle.run_executor.specs.Given.ScenesHeld.{Held}
+use Rattle.seize_words.proofs.General.{same_some as the}
 
 module _ {K V : Type 0} where
   -- what says so is a sweep

@@ -16,10 +16,10 @@ use Rattle.run_executor.specs.declared.caller.NamedCaller.{NamedCaller}
 use Rattle.play_scheduler.specs.declared.played.Played.{Played}
 use Rattle.play_scheduler.specs.declared.scheduler.Scheduler.{Scheduler}
 use Rattle.play_stepping.specs.EventSteps.Stepping.{HasWalked, IsStepOf, IsStepped, TookNext, WalkComes, callers_then, outcome_of}
-use Rattle.play_stepping.proofs.EventSteps.StepSays.{the}
 use Rattle.run_executor.specs.Executing.IsThere.{IsThere, KeepsGiven}
 use Rattle.run_executor.specs.Executing.Replying.{AsksThere}
 use Rattle.play_scheduler.specs.Given.ScenesScene.{Scene}
+use Rattle.seize_words.proofs.General.{same_some as the}
 
 module _ {K V S : Type 0} (same : K → K → Bool) (hash : K → ℕ) (place : ℕ) (old : Scheduler K V S) (asked : Logged K V S) (said : Progress (Node K V)) (outcome : Outcome V) (steps : ℕ) (effects : Vec Effect)
     (walked : Scheduler K V S) (comes : WalkComes same hash place steps said [] effects.items (record old { logged = asked }) walked) (callers : List (NamedCaller V))

@@ -54,12 +54,13 @@ use Rattle.run_grows.proofs.Quiet.LookSays.{never_waits}
 use Rattle.play_scheduler.proofs.Here.{Here, here_at}
 use Rattle.play_scheduler.proofs.Given.RowsLists.{changed_at, removed_at, set_get, set_position, set_seen}
 use Rattle.play_scheduler.proofs.RanOn.{maps_named, there_stays}
-use Rattle.play_stepping.proofs.EventSteps.StepSays.{Says, the}
+use Rattle.play_stepping.proofs.EventSteps.StepSays.{Says}
 use Rattle.play_stepping.proofs.EventSteps.SteppedTo.{going_on, has_gone, here_then, name_is, next, none_named, s2}
 use Rattle.play_stepping.proofs.EventSteps.AnyWaits.{any_quiet, any_waits_for}
 use Rattle.play_scheduler.specs.Given.ScenesScene.{Scene}
 use Rattle.run_executor.specs.Given.ScenesStepping.{StepLeads, StepsFrom, has_ended}
 use Rattle.run_executor.specs.Executing.IsThere.{held_by}
+use Rattle.seize_words.proofs.General.{true_or_false as ended_cases, same_some as the}
 
 module _ {K V : Type 0} (by : Known) (its : CallKind) (value : Option V) where
   -- what a caller keeps
@@ -163,10 +164,6 @@ module _ {K V : Type 0} where
   over_next machine (progress.Done answer) after is over = is
   over_next machine (progress.Refused fault) after is over = is
   over_next machine _ after is over = absurd (cc over)
-
-ended_cases : (b : Bool) → (b ≡ true) ⊎ (b ≡ false)
-ended_cases true = inl refl
-ended_cases false = inr refl
 
 module _ {K V S : Type 0} (same : K → K → Bool) (hash : K → ℕ) (terms : Terms) (m : Moment K V) (p : Scheduler K V S) (stands : StandsFor same hash terms m p) (own : List ℕ) (place : ℕ)
     (at : GoesAt own place p) (said : Progress (Node K V)) (new : Logged K V S) (before after : List Effect) where

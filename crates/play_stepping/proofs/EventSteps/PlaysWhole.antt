@@ -38,7 +38,7 @@ use Rattle.play_stepping.proofs.EventSteps.PlaysAgain.{busy_stands}
 use Rattle.play_stepping.proofs.EventSteps.PlaysSteps.{few_steps, goes_right, never_busy, stands_elsewhere, stands_then, waits_so}
 use Rattle.play_stepping.proofs.EventSteps.RightSteps.{makes_whole, never_quiet, waits_never}
 use Rattle.play_scheduler.proofs.Rights.{entry, in_turn, out_of_turn, plays, quiet}
-use Rattle.play_stepping.proofs.EventSteps.StepSays.{the}
+use Rattle.seize_words.proofs.General.{same_some as the}
 
 plain : {V : Type 0} (o : Outcome V) → (o ≡ Refused Busy → ⊥) → is_busy o ≡ false
 plain (Refused Busy) never = absurd (never refl)

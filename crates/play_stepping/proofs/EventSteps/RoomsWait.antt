@@ -38,14 +38,12 @@ use Rattle.owner_whole.specs.Given.PointsTold.{IsRowOfCopier}
 use Rattle.owner_whole.specs.Given.LateFactsReserves.{ReserveFacts, ReservingFacts, CopiesWhole, IsEnding}
 use Rattle.owner_whole.specs.Given.LateFactsSweeps.{SweepFacts, SweepingFacts}
 use Rattle.owner_whole.specs.Given.LateLateReserves.{LateReserveFacts, LateReserving}
-use Rattle.owner_whole.specs.Given.LateToldReserves.{IsRowOfReserve}
 use Rattle.owner_whole.specs.Given.LateToldSweeps.{IsRowOfSweep}
 use Rattle.owner_whole.specs.Given.CallersOverAll.{CallOverAll, row_of_sweep as swept_row}
 use Rattle.owner_whole.specs.Given.CallersRooms.{CallForRoom, row_of_room}
 use Rattle.owner_whole.specs.Given.CallersRows.{IsRowOn, row_of_copier, row_of_disposal}
 use Rattle.owner_whole.specs.Given.CallersSights.{seen_by}
 use Rattle.owner_whole.specs.Given.CallersTogether.{UnderWay, ForRoom, OverAll, Together, in_slot}
-use Rattle.owner_whole.proofs.Whole.Rows.Kinds.{copier_decided}
 use Rattle.owner_whole.proofs.Whole.Sweeps.Leads.{sweep_decided}
 use Rattle.owner_whole.proofs.Given.WaitsAwaited.{by_copier}
 use Rattle.owner_whole.proofs.Given.WaitsLaws.{rooms_wait_for_a_copying, room_rows_wait_for_a_holder, sweeps_wait_for_a_copying, sweep_rows_wait_for_a_holder}
@@ -76,22 +74,13 @@ use Rattle.play_scheduler.specs.Given.KeptEnds.{HaveEndsIn}
 use Rattle.owner_whole.specs.Given.SeizeActsWaits.{SettlesOn}
 use Rattle.run_executor.proofs.Given.ScenesTold.{as_step}
 use Rattle.play_scheduler.specs.Given.ScenesScene.{slot_of}
+use Rattle.owner_whole.proofs.Lowers.Waits.{room_decided}
 
 -- a row that works on one slot settles on that
 pub on_slot : (slot s : ℕ) (row : Row) → IsRowOn slot row → SettlesOn s row → s ≡ slot
 on_slot slot s (Settles c) is on = sym on ∙ is
 on_slot slot s (Leaves c) is on = sym on ∙ is
 on_slot slot s _ is on = absurd on
-
-room_decided : (x : Reserving) → IsRowOfReserve x ⊎ (IsRowOfReserve x → ⊥)
-room_decided (reserves.Copies copier) = copier_decided copier.stands
-room_decided reserves.Reads = inr (λ row. row)
-room_decided (reserves.Makes making) = inr (λ row. row)
-room_decided (reserves.Sums table sum) = inr (λ row. row)
-room_decided (reserves.Follows table need) = inr (λ row. row)
-room_decided (reserves.Grows table making) = inr (λ row. row)
-room_decided reserves.Over = inr (λ row. row)
-room_decided (reserves.Refused fault) = inr (λ row. row)
 
 -- the row that a sweep stands at is told in one way
 same_row : (slot : ℕ) (stands : Sweeping) → swept_row slot stands ≡ row_of_sweep slot stands

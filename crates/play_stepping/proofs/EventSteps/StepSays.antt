@@ -68,12 +68,10 @@ use Rattle.play_scheduler.proofs.Given.ScenesMay.{standing_is}
 use Rattle.run_executor.specs.Given.ScenesHeld.{Held, IsAt}
 use Rattle.play_scheduler.specs.Given.ScenesScene.{Scene, slot_of}
 use Rattle.run_executor.specs.Given.ScenesStepping.{StepLeads, scene_after}
-
-pub the : {X : Type 0} (a b : X) → ◌≡◌ {A = Option X} (Some a) (Some b) → a ≡ b
-the a b e = cc e
+use Rattle.seize_words.proofs.General.{same_some as the}
 
 -- a question that has words is told by the number of its pair
-told_by : (by : Known) (about question : Option ℕ) → IsToldQuestion by about question → IsToldQuestion by about (option_map (number_by by) about)
+pub told_by : (by : Known) (about question : Option ℕ) → IsToldQuestion by about question → IsToldQuestion by about (option_map (number_by by) about)
 told_by by None None told = tt
 told_by by None (Some n) told = absurd told
 told_by by (Some word) None told = absurd told

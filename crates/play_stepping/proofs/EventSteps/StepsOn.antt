@@ -11,7 +11,7 @@ use Rattle.run_executor.specs.Named.Telling.{goes_on}
 use Rattle.play_scheduler.specs.declared.scheduler.Scheduler.{Scheduler}
 use Rattle.play_stepping.proofs.EventSteps.ComesOn.{comes_next, midst_next}
 use Rattle.play_scheduler.proofs.Here.{here_at}
-use Rattle.play_stepping.proofs.EventSteps.StepSays.{the}
+use Rattle.seize_words.proofs.General.{same_some as the}
 
 module _ {K V S : Type 0} (same : K → K → Bool) (hash : K → ℕ) (place : ℕ) (first : Scheduler K V S) (before : List Effect) where
   -- whatever moment it stood for, the call goes on after so many steps

@@ -7,8 +7,6 @@ use Rattle.std.proofs.lemmas.List.{length-map}
 use Rattle.seize.specs.World.{Rests}
 use Rattle.owner_whole.specs.Given.SeizeEndsHolders.{has_batch}
 use Rattle.papaya_raw.specs.Given.TablesChunks.{is_incremental}
-use Rattle.papaya_raw.specs.declared.machines.call.Calling.{Calling}
-use Rattle.papaya_raw.specs.declared.machines.call.Calling.TheVariants as at
 use Rattle.play_scheduler.specs.Given.RuleChart.{Chart}
 use Rattle.play_scheduler.specs.Given.RuleWords.{Blocks}
 use Rattle.play_scheduler.specs.Given.ShownShown.{tables_on}
@@ -26,8 +24,6 @@ use Rattle.run_schedules.specs.Schedules.Terms.{Terms}
 use Rattle.run_schedules.specs.Schedules.Sequential.{key_of}
 use Rattle.run_schedules.specs.Schedules.Views.{call_of, chain_of, finite_map, first_of, first_or, grows_in_chunks, map_at, tables_of}
 use Rattle.run_schedules.specs.Schedules.Waiting.{is_resizing, is_to_be_copied, may_wait_for, waits_on_map}
-use Rattle.owner_whole.specs.Given.LateKinds.{LooksAt}
-use Rattle.owner_whole.specs.Given.PointsTold.{IsRowOfCall}
 use Rattle.owner_whole.specs.Given.CallersOverAll.{CallOverAll}
 use Rattle.owner_whole.specs.Given.CallersRooms.{CallForRoom}
 use Rattle.owner_whole.specs.Given.CallersTogether.{CallOnKey, UnderWay, OnKey, ForRoom, Counting, OverAll}
@@ -45,6 +41,8 @@ use Rattle.play_scheduler.proofs.ShapesHere.{shapes_from}
 use Rattle.play_scheduler.proofs.Given.ScenesMay.{standing_is}
 use Rattle.play_scheduler.specs.Given.ScenesScene.{slot_of}
 use Rattle.run_executor.specs.Executing.IsThere.{held_by}
+use Rattle.owner_whole.proofs.Given.WaitsWorks.{no_row}
+use Rattle.seize_words.proofs.General.{or_second as or_right, and_true as both_true, or_first as or_left}
 
 -- as many tables as are counted
 tables_count : {K : Type 0} (c : Chart K) (blocks : Blocks) (t k : ℕ) → length (tables_on c blocks t k) ≡ k
@@ -56,26 +54,6 @@ all_true true true true x y z = refl
 all_true false b c x y z = absurd (cc x)
 all_true true false c x y z = absurd (cc y)
 all_true true true false x y z = absurd (cc z)
-
-pub both_true : (a b : Bool) → a ≡ true → b ≡ true → (a && b) ≡ true
-both_true true true x y = refl
-both_true false b x y = absurd (cc x)
-both_true true false x y = absurd (cc y)
-
-or_left : (a b : Bool) → a ≡ true → (a || b) ≡ true
-or_left true b e = refl
-or_left false b e = absurd (cc e)
-
-or_right : (a b : Bool) → b ≡ true → (a || b) ≡ true
-or_right true b e = refl
-or_right false true e = refl
-or_right false false e = absurd (cc e)
-
--- a lookup stands at no row
-no_row : (q : Calling) → LooksAt q → IsRowOfCall q → ⊥
-no_row (at.Looks lookup) looks row = row
-no_row (at.Over end) looks row = row
-no_row _ looks row = absurd looks
 
 -- For what a call waits on its map, by what was called.
 module _ {K V : Type 0} (same : K → K → Bool) (m : Moment K V) where

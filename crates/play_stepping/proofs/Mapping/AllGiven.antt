@@ -47,10 +47,11 @@ use Rattle.run_executor.specs.declared.caller.NamedCaller.{NamedCaller}
 use Rattle.run_executor.specs.declared.named_map.NamedMap.{NamedMap}
 use Rattle.play_scheduler.specs.declared.scheduler.Scheduler.{Scheduler}
 use Rattle.play_scheduler.proofs.Quiet.{stands_on}
-use Rattle.play_scheduler.proofs.RanOn.{both_true, maps_named, some_setting}
+use Rattle.play_scheduler.proofs.RanOn.{maps_named, some_setting}
 use Rattle.play_scheduler.proofs.Rights.{entry, in_turn, out_of_turn, plays, quiet}
 use Rattle.run_executor.specs.Executing.IsThere.{use_at}
 use Rattle.play_scheduler.specs.Given.ScenesScene.{Scene}
+use Rattle.seize_words.proofs.General.{both_true}
 
 empty_is : {X : Type 0} (xs : List X) → is_empty xs ≡ (length xs == 0)
 empty_is [] = refl

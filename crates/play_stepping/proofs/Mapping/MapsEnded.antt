@@ -61,12 +61,13 @@ use Rattle.play_stepping.proofs.Mapping.MapLists.{all_back, all_seen, by_recursi
 use Rattle.play_stepping.proofs.Mapping.Mapped.{stands_mapped}
 use Rattle.play_scheduler.proofs.Maps.{map_some, number_is}
 use Rattle.play_scheduler.proofs.Quiet.{stands_on}
-use Rattle.play_scheduler.proofs.RanOn.{both_true, there_stays}
+use Rattle.play_scheduler.proofs.RanOn.{there_stays}
 use Rattle.play_scheduler.proofs.Rights.{entry, in_turn, out_of_turn, plays, quiet}
 use Rattle.run_executor.specs.Executing.Ending.{NoCallOn}
 use Rattle.run_executor.specs.Executing.IsThere.{IsThere, ending_in}
 use Rattle.play_scheduler.specs.Given.ScenesEnding.{ending_begun}
 use Rattle.play_scheduler.specs.Given.ScenesScene.{IsEnding, Scene}
+use Rattle.seize_words.proofs.General.{both_true}
 
 -- what ends with a map is nothing to which maps are there
 module _ {K V : Type 0} (acted : Option ℕ) where

@@ -5,6 +5,7 @@ use Rattle.std.proofs.lemmas.Bool.{eq-eqb}
 use Rattle.run_schedules.specs.Runs.LifeCycle.{times}
 use Rattle.run_schedules.specs.Schedules.Lists.{is_among}
 use Rattle.play_scheduler.proofs.Given.RowsLeast.{as_many, off}
+use Rattle.run_grows.proofs.Given.RemainsLists.{none_times}
 
 -- one number is so often in a list that the list is so much longer than without it
 off_times : (j : ℕ) (xs : List ℕ) → times j xs + length (off j xs) ≡ length xs
@@ -53,14 +54,6 @@ few (suc n) xs once below =
     let one = once n in
     let long = off_times n xs in
     omega (arith, less, one, long)
-
-none_times : (r : ℕ) (xs : List ℕ) → is_among r xs ≡ false → times r xs ≡ 0
-none_times r [] e = refl
-none_times r (x ∷ xs) e = by (r == x) e (none_times r xs)
-  where
-    by : (q : Bool) → (q || is_among r xs) ≡ false → (is_among r xs ≡ false → times r xs ≡ 0) → (if q then 1 else 0) + times r xs ≡ 0
-    by true f ih = absurd (cc f)
-    by false f ih = (let none = ih f in omega (arith, none))
 
 module _ (used : List ℕ) (roots : ℕ) where
   pub all_used : ((q : ℕ) → q < roots → is_among q used ≡ true) → nat_lt (length used) roots ≡ false

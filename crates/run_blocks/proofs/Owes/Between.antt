@@ -17,7 +17,6 @@ use Rattle.run_debts.specs.Given.FinishesMachines.{machine_of}
 use Rattle.run_debts.specs.Given.FinishesMaps.{with_call as with_in}
 use Rattle.run_debts.specs.Given.FollowsCalling.{NoneNamed}
 use Rattle.run_debts.proofs.Given.FollowsCalling.{is_same_refl}
-use Rattle.run_debts.proofs.Given.FollowsSteps.{one_of}
 use Rattle.run_debts.proofs.Given.HandsAsking.{which}
 use Rattle.owner_calls.proofs.Holds.Calls.Runs.{told_so, calls_begin}
 use Rattle.run_debts.specs.Given.OthersWalks.{given_up}
@@ -27,6 +26,7 @@ use Rattle.run_blocks.specs.Owes.Made.{own_word, OwnsSo, IsItsBlock, HasBlock, N
 use Rattle.run_blocks.proofs.Owes.Kept.{calls_beside, calls_its, calls_without, HadAsMuch, fresh_has, others_there, told_had, left_had, come_had}
 use Rattle.run_debts.specs.Given.ScenesReplying.{unless_stopped}
 use Rattle.run_debts.specs.Given.ScenesScene.{Scene}
+use Rattle.run_debts.proofs.Given.General.{same_some as one_of}
 
 -- As a run begins there is no call, and no block.
 pub made_begins : (K V : Type 0) → MadeBegins K V

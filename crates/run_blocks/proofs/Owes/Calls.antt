@@ -1,5 +1,5 @@
 -- A step of a call, of whichever kind: its effects find its block for a pair as they must, and each has what the moment says after it.
-use Rattle.std.specs.Prelude.{◌≡◌, ◌≢◌, ◌<◌, ℕ, ◌+◌, Bool, true, false, List, Option, Some, None, option_map, ◌⊎◌, if◌then◌else◌}
+use Rattle.std.specs.Prelude.{◌≡◌, ◌≢◌, ◌<◌, ℕ, ◌+◌, Bool, true, false, List, Option, Some, None, ◌⊎◌}
 use Rattle.std.proofs.Common.{refl, ap, sym, subst, ◌∙◌, inl, inr}
 use Rattle.std.proofs.lemmas.Bool.{cases_eq}
 use Rattle.run_debts.specs.Given.SeizeWordsMem.{Mem, Can, Took, value_at}
@@ -36,7 +36,7 @@ use Rattle.run_debts.specs.Given.EffectsDeclared.acting.Acting.TheVariants as ac
 use Rattle.run_debts.specs.Given.EffectsDeclared.role.Role.{Role}
 use Rattle.run_debts.specs.Given.EffectsDeclared.role.Role.TheVariants as role
 use Rattle.run_debts.specs.Given.FinishesEndings.{StepsAmong}
-use Rattle.run_debts.specs.Given.FinishesMachines.{machine_of, GoesOnAs}
+use Rattle.run_debts.specs.Given.FinishesMachines.{machine_of}
 use Rattle.run_debts.specs.Given.FinishesMaps.{Standing}
 use Rattle.run_debts.specs.Given.FollowsBlocks.{WasLinked, HasRole}
 use Rattle.run_debts.specs.Given.FollowsShows.{Shows}
@@ -46,7 +46,7 @@ use Rattle.run_debts.proofs.Given.FollowsCalling.{is_same_refl}
 use Rattle.run_debts.proofs.Given.FollowsOperations.{LeavesBy, operated_leaves}
 use Rattle.run_debts.proofs.Given.FollowsRows.{one_step_leaves}
 use Rattle.run_debts.proofs.Given.FollowsRowSteps.{row_done}
-use Rattle.run_debts.proofs.Given.FollowsSteps.{WentTo, went_to, made_so, DidSo, OfNoRow, one_of}
+use Rattle.run_debts.proofs.Given.FollowsSteps.{WentTo, went_to, made_so, DidSo, OfNoRow}
 use Rattle.run_debts.specs.Given.FollowsCalls.{IsCalled}
 use Rattle.run_debts.proofs.Given.HandsAsking.{which}
 use Rattle.run_debts.proofs.Given.HandsRowSteps.{rows_hand_theirs}
@@ -72,22 +72,12 @@ use Rattle.run_blocks.proofs.Owes.Words.{WordGoes, KeepsWord, none_for_pair}
 use Rattle.run_blocks.proofs.Owes.Valued.{HasGiven, call_valued, row_no_own, knows_given}
 use Rattle.run_blocks.proofs.Owes.Walks.{plan_made, call_makes}
 use Rattle.run_debts.proofs.Given.OthersOutcomes.{told_in}
-use Rattle.run_debts.proofs.Given.ScenesGoes.{goes_as}
 use Rattle.run_debts.proofs.Given.ScenesMay.{may_step}
 use Rattle.run_debts.specs.Given.ScenesHeld.{Held, IsAt}
 use Rattle.run_debts.specs.Given.ScenesScene.{Scene, slot_of}
-use Rattle.run_debts.specs.Given.ScenesStepping.{StepLeads, StepsFrom, going_on, has_ended, scene_after}
-
--- a call that goes on is the machine that it has come to
-pub goes_as_one : {K V : Type 0} (machine : Machine K V K) (said : Progress (Node K V)) (next : Option (UnderWay K V K)) → GoesOnAs machine said next → (x : UnderWay K V K) → next ≡ Some x → machine_of x ≡ machine
-goes_as_one machine said next goes x is = by (has_ended said) refl
-  where
-    whole : Some (machine_of x) ≡ going_on machine said
-    whole = ap (option_map machine_of) (sym is) ∙ goes_as machine said next goes
-
-    by : (q : Bool) → has_ended said ≡ q → machine_of x ≡ machine
-    by true e = absurd (let none : Some (machine_of x) ≡ None = whole ∙ ap (λ (q : Bool). if q then None else Some machine) e in cc none)
-    by false e = (let some : Some (machine_of x) ≡ Some machine = whole ∙ ap (λ (q : Bool). if q then None else Some machine) e in cc some)
+use Rattle.run_debts.specs.Given.ScenesStepping.{StepLeads, StepsFrom, scene_after}
+use Rattle.run_debts.proofs.Calls.{goes_as_one}
+use Rattle.run_debts.proofs.Given.General.{same_some as one_of}
 
 module _ {K V : Type 0} (same : K → K → Bool) (hash : ℕ → K → ℕ) (name : ℕ → List ℕ) (m : Moment K V) (known : Known) (s : Scene K V) (old new : Held K V) (at : IsAt same hash old s)
     (whole : ShowsWhole same name m known s) (made : ShowsMade name m known s) (map i : ℕ) (u : UnderWay K V K) (here : s.calls map i ≡ Some u) (said : Progress (Node K V))

@@ -28,7 +28,7 @@ use Rattle.run_blocks.specs.Owes.Events.{LeavesNothingMade, EventsLeaveNothingMa
 use Rattle.run_blocks.specs.Owes.Made.{ShowsMade}
 use Rattle.run_blocks.specs.Owes.Short.{ShowsShort, FindsGrown, FindGrown}
 use Rattle.run_blocks.specs.Owes.Tables.{ShowsTables, FindsTable, FindTables}
-use Rattle.run_blocks.proofs.Owes.Calls.{goes_as_one, step_keeps_made}
+use Rattle.run_blocks.proofs.Owes.Calls.{step_keeps_made}
 use Rattle.run_blocks.proofs.Owes.Clear.{walks_are_clear}
 use Rattle.run_blocks.proofs.Owes.Kept.{calls_its}
 use Rattle.run_blocks.proofs.Owes.Short.Calls.{step_keeps_short}
@@ -39,6 +39,7 @@ use Rattle.run_debts.specs.Given.FinishesMachines.{machine_of}
 use Rattle.run_debts.specs.Given.ScenesHeld.{Held, IsAt}
 use Rattle.run_debts.specs.Given.ScenesScene.{Scene}
 use Rattle.run_debts.specs.Given.ScenesStepping.{StepLeads}
+use Rattle.run_debts.proofs.Calls.{goes_as_one}
 
 -- what an effect finds of blocks, tables and growths it finds of all that the call has made
 finds_made : {K V : Type 0} (terms : Terms) (moments : List (Moment K V)) (m : Moment K V) (f : Effect) (c : CallThere K V) → FindsBlock f c → FindsTable m f c → FindsGrown f c → FindsMade terms moments m f c
@@ -71,7 +72,7 @@ several_find P own map [] effects m before after = after
 several_find P own map (f ∷ done) effects m before after = (before.0, several_find P own map done effects (with_effect (Some own) (Some map) f m) before.1 after)
 
 -- who is short of no growth has grown, whatever the outcome
-has_grown : {K V : Type 0} (o : Outcome V) (c : CallThere K V) → c.is_short ≡ false → HasGrown o c
+pub has_grown : {K V : Type 0} (o : Outcome V) (c : CallThere K V) → c.is_short ≡ false → HasGrown o c
 has_grown (outcome.Refused Memory) c e = tt
 has_grown _ c e = e
 

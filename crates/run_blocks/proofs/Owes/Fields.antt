@@ -8,8 +8,8 @@ use Rattle.run_debts.specs.Given.SchedulesMoment.{UnderWay as CallThere, Moment}
 use Rattle.run_debts.specs.Given.SchedulesViews.{call_of}
 use Rattle.run_debts.proofs.Given.FollowsCalling.{found_passes, is_same_refl}
 use Rattle.run_debts.proofs.Given.FollowsCalls.{changed_same, changed, of_same, found}
-use Rattle.run_debts.proofs.Given.FollowsSteps.{one_of}
 use Rattle.run_debts.proofs.Given.HandsCalling.{caller_is}
+use Rattle.run_debts.proofs.Given.General.{same_some as one_of}
 
 -- one effect after another
 abbrev pub all_by : {X : Type 0} → (Effect → X → X) → List Effect → X → X

@@ -20,9 +20,9 @@ use Rattle.run_debts.specs.Given.FollowsCalling.{told, come_to}
 use Rattle.run_debts.specs.Given.FollowsCalls.{ShowsCalls}
 use Rattle.run_debts.proofs.Given.FollowsCalling.{is_same_refl, apart_back, found_kept, come, come_of_same, replied_same}
 use Rattle.run_debts.proofs.Given.FollowsCalls.{IsOfSame, changed, found}
-use Rattle.run_debts.proofs.Given.FollowsSteps.{one_of}
 use Rattle.run_debts.proofs.Given.HandsAsking.{which}
 use Rattle.run_debts.proofs.Given.HandsCalling.{caller_is}
+use Rattle.run_debts.proofs.Given.General.{same_some as one_of}
 
 -- the calls of other callers are as they were
 pub calls_beside : {X : Type 0} (calls : ℕ → ℕ → Option X) (of i : ℕ) (next : Option X) (n j : ℕ) → j ≢ i → with_in calls of i next n j ≡ calls n j

@@ -15,12 +15,12 @@ use Rattle.run_debts.specs.Given.FinishesMachines.{machine_of}
 use Rattle.run_debts.specs.Given.FinishesMaps.{with_call as with_in}
 use Rattle.run_debts.specs.Given.FollowsCalling.{NoneNamed, told, come_to}
 use Rattle.run_debts.specs.Given.FollowsCalls.{ShowsCalls}
-use Rattle.run_debts.proofs.Given.FollowsSteps.{one_of}
 use Rattle.run_debts.proofs.Given.HandsAsking.{which}
 use Rattle.run_debts.specs.Given.OthersWalks.{given_up}
 use Rattle.run_blocks.proofs.Owes.Kept.{calls_without, HasAsMuch, HadAsMuch, fresh_has, others_there, told_had, left_had, come_had}
 use Rattle.run_debts.specs.Given.ScenesReplying.{scene_with, unless_stopped}
 use Rattle.run_debts.specs.Given.ScenesScene.{Scene}
+use Rattle.run_debts.proofs.Given.General.{same_some as one_of}
 
 module _ {K V : Type 0} (mark : CallThere K V → Bool) (P : Machine K V K → Type 0) (kept : (c d : CallThere K V) → HasAsMuch c d → mark d ≡ mark c) where
   abbrev pub Marked : (ℕ → List ℕ) → Moment K V → Scene K V → Type 0

@@ -1,5 +1,5 @@
 -- What a step of a call leaves of blocks for pairs that are not stored, by what its operation does and by what its machine names.
-use Rattle.std.specs.Prelude.{◌≡◌, ◌≢◌, ℕ, ◌+◌, Bool, true, false, List, [], ◌∷◌, Option, Some, None, ◌⊎◌}
+use Rattle.std.specs.Prelude.{◌≡◌, ◌≢◌, ℕ, ◌+◌, Bool, true, false, List, [], ◌∷◌, Some, None, ◌⊎◌}
 use Rattle.std.proofs.Common.{refl, ap, sym, subst, ◌∙◌, inl, inr}
 use Rattle.std.proofs.lemmas.Bool.{cases_eq}
 use Rattle.run_debts.specs.Given.SeizeWordsWord.{block_in}
@@ -27,13 +27,11 @@ use Rattle.run_blocks.proofs.Owes.Effects.{block_by, all_kept, none_stored, none
 use Rattle.run_blocks.proofs.Owes.Fields.{all_by}
 use Rattle.run_blocks.proofs.Owes.Roles.{own_of, own_is, DoesSo, Leaves, Makes, GivesUp, Stores}
 use Rattle.run_blocks.proofs.Owes.Words.{WordGoes, KeepsWord, NewWord, LosesWord}
+use Rattle.run_debts.proofs.Given.General.{same_some as one_caller}
 
 -- a block is not whose it is not
 not_own : (r : Role) (i : ℕ) → own_of r ≡ None → r ≡ role.OwnPair i → ⊥
 not_own r i none is = absurd (let some : None ≡ Some i = sym none ∙ ap own_of is in cc some)
-
-one_caller : (i j : ℕ) → ◌≡◌ {A = Option ℕ} (Some i) (Some j) → i ≡ j
-one_caller i j e = cc e
 
 module _ {K V : Type 0} (own : List ℕ) (m : Moment K V) (caller map : ℕ) (known : Known) (told : Changed) where
   abbrev its : Acting

@@ -46,6 +46,7 @@ use Rattle.run_debts.specs.Given.EffectsKnown.{Known}
 use Rattle.run_debts.specs.Given.FollowsCalls.{IsCalled}
 use Rattle.run_debts.specs.Given.HandsAsked.{as_told, given_by, AreReplies, IsAskedAs}
 use Rattle.run_blocks.proofs.Owes.Walks.{IsToOwn}
+use Rattle.run_debts.proofs.Given.General.{or_either as either_so}
 
 gives : {V : Type 0} (r : Reply V) (value : V) → as_told r ≡ reply.Insert value → is_gift r ≡ true
 gives (Gives w) value e = refl
@@ -53,12 +54,6 @@ gives Removes value e = absurd (cc e)
 gives (Aborts w) value e = absurd (cc e)
 gives (Decides true) value e = absurd (cc e)
 gives (Decides false) value e = absurd (cc e)
-
-either_so : (a b : Bool) → (a ≡ true) ⊎ (b ≡ true) → (a || b) ≡ true
-either_so true b so = refl
-either_so false true so = refl
-either_so false false (inl e) = absurd (cc e)
-either_so false false (inr e) = absurd (cc e)
 
 -- a value that a call was told is a gift
 pub gift_told : {V : Type 0} (number : ℕ → ℕ) (stored : ℕ) (asked : List (Asked V)) (replies : List (Option ℕ × Reply V)) (about : Option ℕ) (value : V) → AreReplies number stored asked replies

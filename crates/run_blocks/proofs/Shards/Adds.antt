@@ -18,12 +18,12 @@ use Rattle.run_debts.specs.Given.ReservesDeclared.sweep.Sweeping.TheVariants as 
 use Rattle.run_debts.specs.Given.EffectsDeclared.changed.Changed.{Changed}
 use Rattle.run_debts.specs.Given.EffectsDeclared.changed.Changed.TheVariants as changed
 use Rattle.run_debts.specs.Given.EffectsKnown.{Known}
-use Rattle.run_debts.proofs.Given.FollowsSteps.{one_of}
 use Rattle.run_debts.proofs.Given.ChangesChanges.{acted_on}
 use Rattle.run_blocks.specs.Shards.Adds.{adds_in_calling, adds_in_sweeping, adds_of, Adds}
 use Rattle.run_debts.specs.Counts.{counts_in_calling, counts_in_sweeping, is_to_count}
 use Rattle.run_debts.proofs.Gains.{due_same}
 use Rattle.run_debts.proofs.Uncounted.{CountsNowhere}
+use Rattle.run_debts.proofs.Given.General.{same_some as one_of}
 
 -- what is about to add something is about to count
 pub adds_counts : (p : Calling) (removed : ℕ) → adds_in_calling p ≡ Some removed → counts_in_calling p ≡ true

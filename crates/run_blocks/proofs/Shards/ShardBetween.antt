@@ -32,7 +32,6 @@ use Rattle.run_debts.specs.Given.FollowsCalling.{NoneNamed}
 use Rattle.run_debts.specs.Given.FollowsCalls.{ShowsCalls}
 use Rattle.run_debts.proofs.Given.FollowsCalling.{apart_back, found_kept, come, come_of_same, replied_same}
 use Rattle.run_debts.proofs.Given.FollowsCalls.{IsOfSame, changed, found}
-use Rattle.run_debts.proofs.Given.FollowsSteps.{one_of}
 use Rattle.run_debts.proofs.Given.HandsAsking.{which}
 use Rattle.run_debts.proofs.Given.HandsCalling.{caller_is}
 use Rattle.run_blocks.specs.Shards.Adds.{adds_in_calling, adds_in_sweeping, adds_of, Adds, ShowsAdds}
@@ -42,6 +41,7 @@ use Rattle.run_blocks.specs.Shards.ShardWords.{ShowsShards, MakesUncounted}
 use Rattle.run_blocks.proofs.Shards.Adds.{machine_adds}
 use Rattle.run_debts.proofs.Between.{told_same}
 use Rattle.run_debts.specs.Given.ScenesScene.{Scene}
+use Rattle.run_debts.proofs.Given.General.{same_some as one_of}
 
 -- a machine that is about to add something takes no reply
 key_told : {K V : Type 0} (p : KeyCall K V K) (stands : Calling) (told : MachineReply V) → p.stands ≡ stands → counts_in_calling stands ≡ true → adds_in_calling (told_at stands p told).0.stands ≡ adds_in_calling p.stands

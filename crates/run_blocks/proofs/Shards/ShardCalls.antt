@@ -30,7 +30,7 @@ use Rattle.run_debts.specs.Given.FollowsCalls.{IsCalled}
 use Rattle.run_debts.specs.Given.FollowsShows.{Shows}
 use Rattle.run_debts.proofs.Given.FollowsAlike.{put_here, put_elsewhere}
 use Rattle.run_debts.proofs.Given.FollowsOperations.{LeavesBy, Operated, operated_leaves}
-use Rattle.run_debts.proofs.Given.FollowsSteps.{WentTo, went_to, made_so, one_of}
+use Rattle.run_debts.proofs.Given.FollowsSteps.{WentTo, went_to, made_so}
 use Rattle.run_debts.proofs.Given.HandsAsking.{which}
 use Rattle.run_debts.proofs.Given.HandsCalling.{caller_is}
 use Rattle.run_debts.specs.Given.MomentsWhole.{ShowsWhole}
@@ -50,6 +50,7 @@ use Rattle.run_blocks.proofs.Shards.WordOps.{word_lasts}
 use Rattle.run_debts.specs.Given.ScenesHeld.{Held, IsAt}
 use Rattle.run_debts.specs.Given.ScenesScene.{Scene}
 use Rattle.run_debts.specs.Given.ScenesStepping.{StepLeads, scene_after}
+use Rattle.run_debts.proofs.Given.General.{same_some as one_of}
 
 module _ {K V : Type 0} (same : K → K → Bool) (hash : ℕ → K → ℕ) (name : ℕ → List ℕ) (m : Moment K V) (known : Known) (s : Scene K V) (old new : Held K V) (at_old : IsAt same hash old s)
     (whole : ShowsWhole same name m known s) (counts : ShowsCounts name m s) (counters : ShowsCounters name m s) (map i : ℕ) (u : UnderWay K V K) (here : s.calls map i ≡ Some u)

@@ -20,7 +20,6 @@ use Rattle.run_debts.specs.Given.FinishesMakings.{Beginning, HasMade, HasOwnCoun
 use Rattle.run_debts.specs.Given.FinishesMaps.{Standing, IsSameMap}
 use Rattle.run_debts.proofs.Given.FinishesBeside.Makings.Lasts.{made_counter}
 use Rattle.run_debts.proofs.Given.FollowsOperations.{Operated}
-use Rattle.run_debts.proofs.Given.FollowsSteps.{one_of}
 use Rattle.run_blocks.specs.Shards.Adds.{ShowsAdds}
 use Rattle.run_blocks.specs.Shards.ShardWords.{ShowsShards, IsUncounted, MakesUncounted}
 use Rattle.run_debts.specs.Shards.{is_counting}
@@ -29,6 +28,7 @@ use Rattle.run_debts.proofs.Uncounted.{CountsNowhere}
 use Rattle.run_blocks.proofs.Shards.WordOps.{word_lasts}
 use Rattle.run_debts.specs.Given.ScenesHeld.{Held, IsAt}
 use Rattle.run_debts.specs.Given.ScenesScene.{Scene}
+use Rattle.run_debts.proofs.Given.General.{same_some as one_of}
 
 -- effects of which none counts leave shards, and so do those of no call
 module _ {K V : Type 0} where

@@ -35,7 +35,6 @@ use Rattle.run_debts.specs.Given.FinishesMakings.{Beginning, HasMade, OpeningFac
 use Rattle.run_debts.specs.Given.FinishesMaps.{Standing}
 use Rattle.run_debts.specs.Given.FollowsBlocks.{HasRole}
 use Rattle.run_debts.proofs.Given.FollowsOperations.{LeavesBy, Operated, operated, operated_leaves}
-use Rattle.run_debts.proofs.Given.FollowsSteps.{one_of}
 use Rattle.run_debts.specs.Given.MomentsWhole.{ShowsWhole}
 use Rattle.run_debts.proofs.Given.OthersMakingPlans.{DoneBy, making_done, CounterFrom, counter_from}
 use Rattle.run_blocks.specs.Shards.ShardSteps.{MakingsKeepCounters}
@@ -51,6 +50,7 @@ use Rattle.run_debts.proofs.Given.ScenesMay.{may_make}
 use Rattle.run_debts.specs.Given.ScenesHeld.{Held, IsAt}
 use Rattle.run_debts.specs.Given.ScenesMaking.{MakingStepsFrom}
 use Rattle.run_debts.specs.Given.ScenesScene.{Scene, slot_of}
+use Rattle.run_debts.proofs.Given.General.{same_some as one_of}
 
 -- which words of blocks the step of a making may write
 module _ (P : ℕ → Type 0) where

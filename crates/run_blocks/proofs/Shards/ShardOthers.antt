@@ -22,7 +22,6 @@ use Rattle.run_debts.specs.Given.FinishesFactsEnds.{Deed, Spares, taken_by}
 use Rattle.run_debts.specs.Given.FinishesMakings.{Beginning, HasMade}
 use Rattle.run_debts.specs.Given.FinishesMaps.{Standing}
 use Rattle.run_debts.proofs.Given.FollowsOperations.{Operated}
-use Rattle.run_debts.proofs.Given.FollowsSteps.{one_of}
 use Rattle.run_debts.specs.Given.MomentsWhole.{ShowsWhole}
 use Rattle.run_debts.specs.Given.OthersEndings.{ending_after}
 use Rattle.run_debts.specs.Given.OthersRows.{scene_then}
@@ -40,6 +39,7 @@ use Rattle.run_debts.specs.Given.ScenesHeld.{Held, IsAt}
 use Rattle.run_debts.specs.Given.ScenesOnSlots.{HappensAt, RowSteps}
 use Rattle.run_debts.specs.Given.ScenesRows.{request_of}
 use Rattle.run_debts.specs.Given.ScenesScene.{IsOnSlot, Scene, slot_of}
+use Rattle.run_debts.proofs.Given.General.{same_some as one_of}
 
 -- in the same memory words are the same
 memory_kept : {K V : Type 0} (m m2 : Mem (Node K V)) → m2 ≡ m → (c f x y : ℕ) → word_at m (Word c f) ≡ Some x → word_at m2 (Word c f) ≡ Some y → y ≡ x

@@ -31,7 +31,7 @@ use Rattle.run_places.specs.Given.ScenesScene.{Scene}
 use Rattle.run_places.specs.Given.ScenesStepping.{StepLeads}
 
 -- it copies, or it does not
-copies_or_not : (p : Calling) → IsCopying p ⊎ (IsCopying p → ⊥)
+pub copies_or_not : (p : Calling) → IsCopying p ⊎ (IsCopying p → ⊥)
 copies_or_not (at.Helps copier goal) = inl tt
 copies_or_not (at.Copies copier) = inl tt
 copies_or_not _ = inr (λ copies. copies)

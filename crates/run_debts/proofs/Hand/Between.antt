@@ -20,7 +20,6 @@ use Rattle.run_places.specs.Given.FollowsCalling.{NoneNamed}
 use Rattle.run_places.specs.Given.FollowsCalls.{ShowsCalls}
 use Rattle.run_places.proofs.Given.FollowsCalling.{is_same_refl, apart_back, found_kept, come, come_of_same, replied_same}
 use Rattle.run_places.proofs.Given.FollowsCalls.{IsOfSame, changed, found}
-use Rattle.run_places.proofs.Given.FollowsSteps.{one_of}
 use Rattle.run_places.proofs.Hands.Asking.{which}
 use Rattle.run_places.proofs.Hands.Calling.{caller_is}
 use Rattle.run_places.specs.Given.OthersWalks.{given_up}
@@ -30,6 +29,7 @@ use Rattle.run_debts.proofs.Gains.{none_changed}
 use Rattle.run_debts.proofs.Hand.Asked.{told_stays, asked_stays}
 use Rattle.run_debts.proofs.Hand.Roles.{hand_same, hand_noted}
 use Rattle.run_places.specs.Given.ScenesScene.{Scene}
+use Rattle.run_places.proofs.Given.General.{same_some as one_of}
 
 -- As a run begins there is no call.
 pub owed_begins : (K V : Type 0) → OwedBegins K V

@@ -19,7 +19,7 @@ use Rattle.owner_facts.specs.Given.FinishesMachines.{machine_of}
 use Rattle.run_places.specs.Given.FollowsCalls.{IsCalled}
 use Rattle.run_places.specs.Given.FollowsShows.{Shows}
 use Rattle.run_places.proofs.Given.FollowsOnward.{KeepsRoles}
-use Rattle.run_places.proofs.Given.FollowsSteps.{WentTo, went_to, one_of}
+use Rattle.run_places.proofs.Given.FollowsSteps.{WentTo, went_to}
 use Rattle.run_places.proofs.Hands.Asking.{which}
 use Rattle.run_places.proofs.Hands.Calling.{caller_is}
 use Rattle.run_places.proofs.Changes.Steps.{led_on}
@@ -35,6 +35,7 @@ use Rattle.run_debts.proofs.Owing.{owes_follow}
 use Rattle.run_places.specs.Given.ScenesHeld.{Held, IsAt}
 use Rattle.run_places.specs.Given.ScenesScene.{Scene}
 use Rattle.run_places.specs.Given.ScenesStepping.{StepLeads, scene_after}
+use Rattle.run_places.proofs.Given.General.{same_some as one_of}
 
 module _ {K V : Type 0} (same : K → K → Bool) (hash : ℕ → K → ℕ) (name : ℕ → List ℕ) (m : Moment K V) (known : Known) (s : Scene K V) (old new : Held K V) (at : IsAt same hash old s)
     (whole : ShowsWhole same name m known s) (shows : ShowsOwed name m known s) (map i : ℕ) (u : UnderWay K V K) (here : s.calls map i ≡ Some u) (said : Progress (Node K V))

@@ -22,11 +22,7 @@ use Rattle.run_schedules.specs.Schedules.Entry.{Entry, acted_on, acting, caller_
 use Rattle.run_schedules.specs.Schedules.Moment.{UnderWay, Moment}
 use Rattle.run_schedules.specs.Schedules.Views.{number_of}
 use Rattle.run_effects.specs.Tallies.Told.{AreBack}
-
--- what is so of all of two lists is so of all of both
-pub joined : {X : Type 0} (P : X → Type 0) (xs ys : List X) → AllByRecursion P xs → AllByRecursion P ys → AllByRecursion P (xs ++ ys)
-joined P [] ys all more = more
-joined P (x ∷ xs) ys all more = (all.0, joined P xs ys all.1 more)
+use Rattle.seize_words.proofs.General.{all_append as joined}
 
 module _ {K V : Type 0} where
   -- a pair that was stored stays what it is as further ones are

@@ -14,7 +14,7 @@ use Rattle.run_effects.specs.declared.tally.Tally.{Tally}
 use Rattle.run_effects.specs.declared.tally.Whereabouts.{Whereabouts}
 use Rattle.run_effects.specs.declared.tally.Whereabouts.TheVariants.{Unborn}
 
-abbrev once : Bool → ℕ
+abbrev pub once : Bool → ℕ
 once true = 1
 once false = 0
 

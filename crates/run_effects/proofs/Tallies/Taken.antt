@@ -1,6 +1,6 @@
 -- A block that is taken away leaves the others.
 use Rattle.std.specs.Prelude.{◌≡◌, ◌≢◌, ◌+◌, ℕ, suc, Bool, List, [], ◌∷◌, ◌++◌, Option, Some, None, IsSome, if◌then◌else◌}
-use Rattle.std.proofs.Common.{refl, sym, ap, subst, ◌∙◌, arith}
+use Rattle.std.proofs.Common.{refl, sym, ap, ◌∙◌, arith}
 use Rattle.std.proofs.lemmas.Bool.{ne_eqb}
 use Rattle.std.proofs.lemmas.List.{append-nil}
 use Rattle.seize_words.specs.declared.block.Block.{Block}
@@ -13,6 +13,7 @@ use Rattle.run_schedules.specs.declared.ended.Pair.{Pair}
 use Rattle.run_effects.specs.declared.role.Role.{Role}
 use Rattle.run_effects.specs.declared.role.Role.TheVariants as role
 use Rattle.run_effects.specs.Tallies.Left.{noted, noted_below}
+use Rattle.seize_words.proofs.General.{some_is}
 
 module _ {T : Type 0} (m : Mem T) (b : ℕ) where
   there : (o : Option (Block T)) → block_of m b ≡ o → IsSome (value_in o) → (x : Block T) × (block_of m b ≡ Some x)
@@ -23,9 +24,6 @@ module _ {T : Type 0} (m : Mem T) (b : ℕ) where
   others_stay some d other =
       let x = there (block_of m b) refl some in
       ap value_in (block_of-with_block m b d x.0 None x.1 ∙ ap (λ (q : Bool). if q then None else block_of m d) (ne_eqb d b other))
-
-some_is : {T : Type 0} (o : Option T) (t : T) → o ≡ Some t → IsSome o
-some_is o t is = subst IsSome (sym is) refl
 
 -- what is taken out of a block that holds a pair is that
 pub pair_taken : {K V : Type 0} (m m2 : Mem (Node K V)) (b : ℕ) (k : K) (v : V) → value_at m b ≡ Some (node.Pair k v) → (value : Node K V) → Took m (Take b) (Taken value) m2 → value ≡ node.Pair k v

@@ -8,22 +8,7 @@ use Rattle.seize_words.specs.OneMemory.Mem.{Mem, same_at, block_of, word_in, wor
 use Rattle.seize_words.specs.OneMemory.Op.{Op, Out, Load, Store, Swap, Add, Or, Exchange, Make, Take, Rewrite, Room, Found, Stored, Exchanged, Made, Taken, Roomed}
 use Rattle.seize_words.proofs.OneMemory.OneOwner.AfterWrites.{word_at-with_word, word_at-with_value, block_of-with_block, block_of-made}
 use Rattle.run_effects.specs.Tells.Seen.{Seen, Wrote, word_or, seen_of}
-
--- names that are the same
-same_is : (x y : At) → same_at x y ≡ true → x ≡ y
-same_is (Root r) (Root q) e = ap Root (grind arith)
-same_is (Used r) (Used q) e = ap Used (grind arith)
-same_is (Slot s i) (Slot t j) e = grind arith
-same_is (Entry a i) (Entry b j) e = grind arith
-same_is (Word a i) (Word b j) e = grind arith
-same_is x y e = absurd (cc)
-
-is_same : (x : At) → same_at x x ≡ true
-is_same (Root r) = grind arith
-is_same (Used r) = grind arith
-is_same (Slot s i) = grind arith
-is_same (Entry a i) = grind arith
-is_same (Word a i) = grind arith
+use Rattle.map_rule.proofs.Given.SeizeMemoryWords.Named.{same_at-true as same_is, same_at-refl as is_same}
 
 -- a word that a map's users write: of a root, or of a block
 abbrev pub IsUsersWord : At → Type 0

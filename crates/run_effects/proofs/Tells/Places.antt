@@ -11,7 +11,7 @@ use Rattle.map_tables.specs.declared.marks.TheConstants.{TOMBSTONE}
 use Rattle.map_tables.specs.declared.node.Node.{Node}
 use Rattle.map_tables.specs.declared.setting.Setting.{Setting}
 use Rattle.map_tables.specs.declared.table_words.TheConstants.{NEXT, PLACES}
-use Rattle.map_rule.specs.Chart.{Phase, Still, Place, Empty, Tombstone, Holds, Chart, put_in}
+use Rattle.map_rule.specs.Chart.{Phase, Still, Place, Empty, Tombstone, Holds, Chart}
 use Rattle.map_rule.specs.Moves.{Move, Links, Stores, Replaces, Removes, Marks, MarksBlocking, Skips, Unmarks, Puts, Covers, PutsLate, Claims, Reclaims, Counts, GivesUp, Aborts, Promotes, Announces, lent_place, Allowed, after}
 use Rattle.map_rule.specs.Rule.{IsLawful}
 use Rattle.map_rule.specs.Words.{Blocks, byte_of, place_word, next_word, root_word}
@@ -24,10 +24,7 @@ use Rattle.run_effects.proofs.Tells.Changed.{IsUsersWord}
 use Rattle.run_effects.proofs.Tells.Kept.{IsWritten}
 use Rattle.run_effects.proofs.Tells.Names.{IsQuietTo, IsQuietMove, quiet_move}
 use Rattle.run_effects.proofs.Tells.Quiet.{block_of_place, quiet_written}
-
--- what is put at a place stands there
-put_here : {X : Type 0} (f : ℕ → ℕ → X) (t k : ℕ) (v : X) → put_in f t k v t k ≡ v
-put_here f t k v = grind arith
+use Rattle.map_rule.proofs.Moves.Writes.{put_in_here as put_here}
 
 module _ {K V : Type 0} (same : K → K → Bool) (hash : K → ℕ) (lawful : IsLawful same (spot_of hash)) (fits : (k : K) → hash k < 2 ^ 64) (setting : Setting) (m m2 : Mem (Node K V))
     (c c2 : Chart K) (blocks blocks2 : Blocks) (map : IsMap same hash setting.mode setting.root m c blocks) (map2 : IsMap same hash setting.mode setting.root m2 c2 blocks2)

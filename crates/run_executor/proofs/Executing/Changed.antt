@@ -17,9 +17,9 @@ use Rattle.run_executor.specs.declared.worker.Work.TheVariants as work
 use Rattle.run_shows.specs.declared.row.SlotUse.TheVariants as slot_use
 use Rattle.run_executor.proofs.Executing.Again.{there_again, used_on, work_own}
 use Rattle.run_executor.proofs.Executing.Places.{call_found, no_call, own_call, within}
-use Rattle.run_shows.proofs.Scenes.NoCall.{none_of}
 use Rattle.run_executor.specs.Executing.IsThere.{ChangesAt, HasRow, IsThere, IsUsedAs, call_in, ending_in, making_in, place_of, use_at, worker_at, worker_with}
 use Rattle.run_shows.specs.Scenes.Scene.{Scene, slot_of}
+use Rattle.seize_words.proofs.General.{none_mapped as none_of}
 
 module _ {K V : Type 0} where
   -- a call is no making of a map, and no end of one

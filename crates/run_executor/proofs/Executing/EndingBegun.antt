@@ -18,11 +18,11 @@ use Rattle.run_executor.specs.declared.worker.Work.TheVariants as work
 use Rattle.run_executor.proofs.Executing.Fresh.{caller_in, fresh_before, fresh_changes, no_calls_yet, no_ending_yet, no_making_yet, resting}
 use Rattle.run_executor.proofs.Executing.Made.{finished_at}
 use Rattle.run_executor.proofs.Executing.Places.{within}
-use Rattle.run_shows.proofs.Scenes.NoCall.{none_of}
 use Rattle.run_executor.specs.Executing.Ending.{EndingBegins}
 use Rattle.run_executor.specs.Executing.IsThere.{IsThere}
 use Rattle.run_shows.specs.Scenes.Ending.{ending_begun}
 use Rattle.run_shows.specs.Scenes.Scene.{Scene, slot_of}
+use Rattle.seize_words.proofs.General.{none_mapped as none_of}
 
 -- a map whose setting is kept stands
 standing_of : {K : Type 0} (setting : Setting) (it : Option (Standing K)) → option_map (λ standing. standing.setting) it ≡ Some setting → (standing : Standing K) × (it ≡ Some standing) × (standing.setting ≡ setting)

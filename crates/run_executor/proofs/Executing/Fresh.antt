@@ -8,9 +8,9 @@ use Rattle.run_shows.specs.Given.FinishesMachines.{machine_of}
 use Rattle.run_executor.specs.declared.executor.Executor.{Executor}
 use Rattle.run_shows.specs.declared.callers.TheConstants.{SLOTS}
 use Rattle.run_executor.specs.declared.worker.Work.{Work}
-use Rattle.run_shows.proofs.Scenes.NoCall.{none_of}
 use Rattle.run_executor.specs.Executing.IsThere.{ChangesAt, HasRow, IsThere, call_in, ending_in, in_slot, making_in, place_of, work_of, worker_at, worker_of}
 use Rattle.run_shows.specs.Scenes.Scene.{Scene, slot_of}
+use Rattle.seize_words.proofs.General.{none_mapped as none_of}
 
 -- its number
 abbrev pub caller_in : {K V S : Type 0} → Executor K V S → ℕ → ℕ

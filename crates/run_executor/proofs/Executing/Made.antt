@@ -13,9 +13,9 @@ use Rattle.run_executor.specs.declared.executor.Executor.{Executor}
 use Rattle.run_shows.specs.declared.row.SlotUse.TheVariants as slot_use
 use Rattle.run_executor.specs.declared.worker.Work.{Work}
 use Rattle.run_executor.proofs.Executing.Again.{own, there_again, used_on}
-use Rattle.run_shows.proofs.Scenes.NoCall.{none_of}
 use Rattle.run_executor.specs.Executing.IsThere.{ChangesAt, HasRow, IsThere, IsUsedAs, call_in, ending_in, making_in, place_of, use_at, worker_at, worker_of}
 use Rattle.run_shows.specs.Scenes.Scene.{Scene, slot_of}
+use Rattle.seize_words.proofs.General.{none_mapped as none_of}
 
 module _ {K V S : Type 0} (same : K → K → Bool) (hash : K → ℕ) (e : Executor K V S) (s : Scene K V) (at : IsThere same hash e s) (i : ℕ) (had has : Option (Work K V))
     (before : worker_at e (place_of i) ≡ worker_of (slot_of i) had) (no_call_had : (m : ℕ) → call_in had m ≡ None) (no_call_has : (m : ℕ) → call_in has m ≡ None)

@@ -13,10 +13,10 @@ use Rattle.run_executor.specs.declared.worker.Work.TheVariants as work
 use Rattle.run_executor.proofs.Executing.Fresh.{caller_in, fresh_before, fresh_changes, no_calls_yet, no_ending_yet, no_making_yet, resting}
 use Rattle.run_executor.proofs.Executing.Made.{made_at}
 use Rattle.run_executor.proofs.Executing.Places.{one_number}
-use Rattle.run_shows.proofs.Scenes.NoCall.{none_of}
 use Rattle.run_executor.specs.Executing.IsThere.{IsThere}
 use Rattle.run_executor.specs.Executing.MakingBegins.{MakingBegins, next_making}
 use Rattle.run_shows.specs.Scenes.Scene.{Scene, slot_of}
+use Rattle.seize_words.proofs.General.{none_mapped as none_of}
 
 module _ {K V S : Type 0} (same : K → K → Bool) (hash : K → ℕ) (e : Executor K V S) (s : Scene K V) (at : IsThere same hash e s) (slot : ℕ) (fits : slot < SLOTS) (given : Setting) (places : ℕ)
     (e2 : Executor K V S) (memory : e2.memory ≡ e.memory)

@@ -33,7 +33,7 @@ use Rattle.run_shows.specs.Scenes.Rows.{begun_row, request_of, uses_begun}
 use Rattle.run_shows.specs.Scenes.Scene.{Scene, row_of, slot_of}
 
 -- the row of each neither retires nor defers a block
-of_slots : (slot : ℕ) (called : SlotCall) → IsOfSlots (request_of slot called)
+pub of_slots : (slot : ℕ) (called : SlotCall) → IsOfSlots (request_of slot called)
 of_slots slot (call.Register enters) = tt
 of_slots slot call.Enter = tt
 of_slots slot call.Leave = tt

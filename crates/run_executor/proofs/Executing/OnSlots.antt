@@ -27,7 +27,6 @@ use Rattle.run_executor.specs.declared.worker.Worker.{Worker}
 use Rattle.run_executor.proofs.Executing.Again.{later, there_again}
 use Rattle.run_executor.proofs.Executing.Makings.{set_there}
 use Rattle.run_executor.proofs.Executing.Places.{found_in}
-use Rattle.run_shows.proofs.Scenes.NoCall.{none_of}
 use Rattle.run_executor.proofs.Executing.RowsGo.{Goes, goes}
 use Rattle.run_executor.specs.Executing.IsThere.{ChangesAt, HasRow, IsThere, IsUsedAs, call_in, ending_in, making_in, place_of, work_of, worker_at, worker_of, held_by}
 use Rattle.run_executor.specs.Executing.OnSlots.{row_on}
@@ -35,6 +34,7 @@ use Rattle.run_shows.proofs.Scenes.Goes.{same_map_keeps}
 use Rattle.run_shows.specs.Scenes.OnSlots.{HappensTo, RowSteps}
 use Rattle.run_shows.specs.Scenes.Rows.{change_of, uses_after}
 use Rattle.run_shows.specs.Scenes.Scene.{Scene, row_of, slot_of, IsOnSlot}
+use Rattle.seize_words.proofs.General.{none_mapped as none_of}
 
 module _ (K V : Type 0) where
   no_call : (m : ℕ) (row : SlotRow) (it : RowTold (Node K V)) → call_in (row_on row it) m ≡ None

@@ -1,11 +1,11 @@
 -- How slots are used: where nobody has anything under way in a slot, no row works on it; and slots are used as noted, once one is used otherwise.
-use Rattle.std.specs.Prelude.{◌≡◌, ◌≢◌, ◌<◌, ◌+◌, ◌⊎◌, ℕ, Bool, true, List, [], ◌∷◌, length, Option, slice_index_or, slice_set}
+use Rattle.std.specs.Prelude.{◌≡◌, ◌≢◌, ◌<◌, ◌+◌, ◌⊎◌, ℕ, Bool, true, List, [], length, Option, slice_index_or, slice_set}
 use Rattle.std.proofs.Common.{refl, sym, ap, subst, ◌∙◌, inl, inr, arith}
 use Rattle.std.proofs.lemmas.Bool.{cases_eq}
 use Rattle.std.proofs.lemmas.List.{get_or-set_other, get_or-set_same}
 use Rattle.seize.specs.Law.{is_open}
 use Rattle.seize.specs.World.{Row, Rests, Registers, Enters, Settles, Leaves, Defers, Frees, Use, Outside, Inside, IsTaken, with_at}
-use Rattle.run_effects.specs.Given.SeizeWaitingHeld.{same as alike, count}
+use Rattle.run_effects.specs.Given.SeizeWaitingHeld.{same as alike}
 use Rattle.run_effects.proofs.Given.SeizeMovesState.Ghost.{emptied}
 use Rattle.run_effects.proofs.Given.SeizeRuleRows.Known.{works_on}
 use Rattle.run_effects.proofs.Given.SeizeRuleRows.Teams.{UseFits, shares, is_shared}
@@ -21,17 +21,7 @@ use Rattle.run_executor.specs.declared.worker.Work.{Work}
 use Rattle.run_executor.specs.Executing.IsThere.{HasRow, IsThere, IsUsedAs, use_at}
 use Rattle.run_executor.specs.Executing.OnSlots.{NobodyIn}
 use Rattle.run_shows.specs.Scenes.Scene.{Scene, slot_of}
-
--- nobody stands in a list that nobody is counted in
-no_team : (team : List ℕ) → ((i : ℕ) → count i team ≡ 0) → length team ≡ 0
-no_team [] none = refl
-no_team (x ∷ team) none = absurd (by (alike x x) (self x) (none x))
-  where
-    self : (x : ℕ) → alike x x ≡ 1
-    self x = grind arith
-
-    by : (k : ℕ) → k ≡ 1 → k + count x team ≡ 0 → ⊥
-    by k one zero = omega (arith, one, zero)
+use Rattle.run_shows.proofs.Given.SeizeSetsTurns.Heads.{nobody as no_team}
 
 not_alike : (a b : ℕ) → a ≢ b → alike a b ≡ 0
 not_alike a b ne = grind (arith, ne)

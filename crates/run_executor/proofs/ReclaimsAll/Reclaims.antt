@@ -23,12 +23,12 @@ use Rattle.run_executor.specs.declared.executor.Executor.{Executor}
 use Rattle.run_shows.specs.declared.row.SlotUse.{SlotUse}
 use Rattle.run_executor.specs.declared.worker.Work.{Work}
 use Rattle.run_executor.specs.ReclaimsAll.Reclaiming.{NobodyHas, MayReclaim, IsReclaimingThere, Leaves, ReclaimsThere}
-use Rattle.run_shows.proofs.Scenes.NoCall.{none_of}
 use Rattle.run_executor.specs.Executing.IsThere.{HasRow, IsThere, IsUsedAs, KeepsGiven, call_in, ending_in, held_by, making_in}
 use Rattle.run_shows.proofs.Scenes.Goes.{same_map_keeps}
 use Rattle.run_shows.proofs.Scenes.Told.{as_step}
 use Rattle.run_shows.specs.Scenes.Reclaiming.{ReclaimingComesToThere}
 use Rattle.run_shows.specs.Scenes.Scene.{Scene, slot_of}
+use Rattle.seize_words.proofs.General.{none_mapped as none_of}
 
 module _ {K V S : Type 0} (same : K → K → Bool) (hash : K → ℕ) (e : Executor K V S) (s : Scene K V) (at : IsThere same hash e s) (nobody : NobodyHas e) where
   idle : AllStandIdle V same same e.batch_size e.roots slot_of s.maps s.calls s.makers s.enders s.world

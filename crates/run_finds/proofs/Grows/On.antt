@@ -67,8 +67,8 @@ use Rattle.run_executor.specs.Given.EffectsDeclared.changed.Changed.{Changed}
 use Rattle.run_executor.specs.Given.EffectsDeclared.changed.Changed.TheVariants as changes
 use Rattle.run_finds.specs.Growing.{HasForNone, GrowsAt}
 use Rattle.run_finds.proofs.Shaping.{always_plan_more, FirstGoes, first_goes, first_begun, NextGoes, next_goes, next_begun}
-use Rattle.run_finds.proofs.Grown.{number_is}
 use Rattle.run_executor.proofs.Given.ScenesTold.{as_step}
+use Rattle.run_executor.proofs.Given.General.{equal_so as number_is}
 
 -- What its table says, by the word that it reads: in blocking mode a place that sends it on has a next table, and the last table has none.
 module _ {K V : Type 0} (had : ℕ) (p : KeyCall K V K) (m : Mem (Node K V)) where

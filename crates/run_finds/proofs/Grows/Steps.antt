@@ -39,7 +39,6 @@ use Rattle.run_executor.proofs.Given.FollowsSteps.{WentTo, went_to}
 use Rattle.run_executor.proofs.Given.HandsAsking.{which}
 use Rattle.run_executor.specs.Given.MomentsWhole.{ShowsWhole}
 use Rattle.run_executor.proofs.Given.OthersOutcomes.{told_in}
-use Rattle.run_blocks.proofs.Owes.Calls.{goes_as_one}
 use Rattle.run_blocks.proofs.Owes.Machines.{call_none}
 use Rattle.run_blocks.proofs.Owes.Valued.{call_valued, row_no_own, knows_given}
 use Rattle.run_blocks.proofs.Owes.Walks.{IsToOwn, call_makes}
@@ -55,6 +54,7 @@ use Rattle.run_finds.proofs.Joined.{valued_grows}
 use Rattle.run_executor.specs.Given.ScenesHeld.{Held, IsAt}
 use Rattle.run_executor.specs.Given.ScenesScene.{Scene, slot_of}
 use Rattle.run_executor.specs.Given.ScenesStepping.{StepLeads, StepsFrom, scene_after}
+use Rattle.run_blocks.proofs.Given.SettlesCalls.{goes_as_one}
 
 -- A map has had no fewer tables after any effects.
 pub tables_have_been : (K V : Type 0) → TablesHaveBeen K V

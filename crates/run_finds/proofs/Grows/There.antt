@@ -39,8 +39,8 @@ use Rattle.run_executor.specs.Given.LateLateCalls.{LateCalling}
 use Rattle.run_executor.specs.Given.LateLeft.{Left}
 use Rattle.run_executor.specs.Given.CallersSights.{Sight, seen_by, IsSight}
 use Rattle.run_executor.specs.Given.CallersTogether.{CallOnKey, in_slot, Knows}
-use Rattle.run_finds.proofs.Grown.{number_is}
 use Rattle.run_finds.proofs.Grows.On.{TableTells}
+use Rattle.run_executor.proofs.Given.General.{equal_so as number_is}
 
 -- In blocking mode a call goes on from a place only where its word has the mark of copying.
 

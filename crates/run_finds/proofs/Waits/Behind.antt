@@ -37,7 +37,8 @@ use Rattle.run_executor.specs.Given.CallersTogether.{CallOnKey, OnKey, OverAll, 
 use Rattle.run_blocks.specs.Given.SettlesDue.{ToPut, due_in_defer, due_in_disposing, due_in_copying, due_in_calling, due_in_reserving, due_in_sweeping}
 use Rattle.run_blocks.specs.Given.SettlesInHand.{pair_in_calling, pair_in_sweeping}
 use Rattle.run_finds.specs.Waits.{waits_in_disposing, waits_in_calling, waits_in_sweeping}
-use Rattle.run_finds.proofs.Waits.Due.{never_put, dispose_due}
+use Rattle.run_finds.proofs.Waits.Due.{dispose_due}
+use Rattle.run_blocks.proofs.Given.SettlesHand.Behind.{settle_puts as never_put}
 
 module _ (word : ℕ) (place : At) where
   put_place : (c : Defer) (q : Deferring) → due_in_defer c q ≡ Some (ToPut word place) → c.table_word ≡ place

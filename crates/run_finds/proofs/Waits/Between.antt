@@ -8,11 +8,11 @@ use Rattle.run_executor.specs.Given.SchedulesMoment.{UnderWay as CallThere}
 use Rattle.run_executor.specs.Given.SchedulesViews.{call_of}
 use Rattle.run_executor.specs.Given.CallersTogether.{UnderWay}
 use Rattle.run_executor.specs.Given.FinishesMachines.{machine_of}
-use Rattle.run_executor.proofs.Given.FollowsSteps.{one_of}
 use Rattle.run_executor.proofs.Given.HandsAsking.{which}
 use Rattle.run_blocks.specs.Given.SettlesHand.{in_hand}
 use Rattle.run_blocks.proofs.Given.SettlesHand.Roles.{hand_same}
 use Rattle.run_finds.specs.Waits.{waits_in, pair_in, IsHeldPast, KeepsHands, WaitsStay, WaitsFollowOwed, CallsBeginWaits}
+use Rattle.run_executor.proofs.Given.General.{same_some as one_of}
 
 pub waits_stay : (K V : Type 0) → WaitsStay K V
 waits_stay K V name m v s t waits leaves keeps map i u is word some d d_is k owed =

@@ -2,13 +2,9 @@
 use Rattle.std.specs.Prelude.{◌≡◌, ℕ, Option, Some, None}
 use Rattle.std.proofs.Common.{refl, ap, sym, subst, ◌∙◌}
 use Rattle.run_executor.specs.Given.SeizeWordsWord.{block_in}
-use Rattle.run_executor.specs.Given.SeizeWordsDeclared.at.At.{At}
 use Rattle.run_executor.specs.Given.SeizeDeclared.rows.defer.Defer.{Defer}
 use Rattle.run_executor.specs.Given.SeizeDeclared.rows.defer.Deferring.{Deferring}
 use Rattle.run_executor.specs.Given.SeizeDeclared.rows.defer.Deferring.TheVariants as deferring
-use Rattle.run_executor.specs.Given.SeizeDeclared.rows.settle.Settle.{Settle}
-use Rattle.run_executor.specs.Given.SeizeDeclared.rows.settle.Settling.{Settling}
-use Rattle.run_executor.specs.Given.SeizeDeclared.rows.settle.Settling.TheVariants as settling
 use Rattle.run_blocks.specs.Given.ResizeDeclared.copier.Copier.{Copier}
 use Rattle.run_blocks.specs.Given.ResizeDeclared.copier.Copying.{Copying}
 use Rattle.run_blocks.specs.Given.ResizeDeclared.copier.Copying.TheVariants as copying
@@ -27,10 +23,11 @@ use Rattle.run_executor.specs.Given.RawDeclared.machines.machine.Machine.{Machin
 use Rattle.run_executor.specs.Given.RawDeclared.machines.machine.Machine.TheVariants as kinds
 use Rattle.run_executor.specs.Given.EffectsKnown.{Known}
 use Rattle.run_executor.specs.Given.EffectsDeclared.role.Role.TheVariants as role
-use Rattle.run_blocks.specs.Given.SettlesDue.{Due, ToRetire, ToPut, word_due, due_in_settle, due_in_defer, due_in_disposing, due_in_copying, due_in_calling, due_in_reserving, due_in_sweeping, due_in_row}
+use Rattle.run_blocks.specs.Given.SettlesDue.{Due, ToRetire, ToPut, word_due, due_in_defer, due_in_disposing, due_in_copying, due_in_calling, due_in_reserving, due_in_sweeping, due_in_row}
 use Rattle.run_blocks.specs.Given.SettlesHand.{things_at, in_hand_of_call, in_hand_of_sweep, in_hand, IsTableRole, HoldsAt, IsTableAt, NotesTables, NotesOfCall, NotesOfRoom, NotesOfSweep, NotesInHand}
 use Rattle.run_blocks.specs.Given.SettlesInHand.{pair_in_disposing, pair_in_calling, pair_in_sweeping}
 use Rattle.run_finds.specs.Waits.{waits_in_disposing, waits_in_calling, waits_in_sweeping, waits_in, pair_in}
+use Rattle.run_blocks.proofs.Given.SettlesHand.Behind.{settle_puts as never_put}
 
 abbrev pub word_of : Due → ℕ
 word_of (ToRetire word) = word
@@ -40,15 +37,6 @@ word_of (ToPut word place) = word
 abbrev pub WaitsBy : Due → Option ℕ → Type 0
 WaitsBy (ToRetire word) waits = waits ≡ None
 WaitsBy (ToPut word place) waits = (turn : ℕ) × (waits ≡ Some turn)
-
--- a row of either kind hands over in its way
-pub never_put : (c : Settle) (p : Settling) (word : ℕ) (place : At) → due_in_settle c p ≡ Some (ToPut word place) → ⊥
-never_put c settling.Sees word place e = cc e
-never_put c settling.Holds word place e = cc e
-never_put c settling.Pops word place e = cc e
-never_put c (settling.Firsts block) word place e = cc e
-never_put c (settling.Batches block) word place e = cc e
-never_put c _ word place e = cc e
 
 never_retired : (c : Defer) (p : Deferring) (word : ℕ) → due_in_defer c p ≡ Some (ToRetire word) → ⊥
 never_retired c deferring.Over word e = cc e

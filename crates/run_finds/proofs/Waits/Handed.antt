@@ -35,11 +35,11 @@ use Rattle.run_blocks.proofs.Given.SettlesHand.All.{own_or_row}
 use Rattle.run_blocks.proofs.Given.SettlesTakings.{steps_take_out}
 use Rattle.run_finds.specs.Rest.{FindsHanded, FindHanded}
 use Rattle.run_finds.specs.Waits.{waits_in, IsHeldPast, ShowsWaits, FindsPast, FindPast, FindsBehind, FindBehind, FindsSpace, FindSpace, PastIsHanded, CallsHandPast}
-use Rattle.run_finds.proofs.Quiet.{neither}
 use Rattle.run_finds.proofs.Waits.Due.{word_of, DueHas, row_due}
 use Rattle.run_executor.specs.Given.ScenesHeld.{Held, IsAt}
 use Rattle.run_executor.specs.Given.ScenesScene.{Scene}
 use Rattle.run_executor.specs.Given.ScenesStepping.{StepLeads}
+use Rattle.run_executor.proofs.Given.General.{both_false as neither}
 
 module _ {K V : Type 0} where
   -- the parts, by the kind of effect

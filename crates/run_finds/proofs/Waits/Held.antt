@@ -20,6 +20,7 @@ use Rattle.run_finds.specs.Past.{HasLeftMaps, FindsOnward}
 use Rattle.run_finds.specs.Waits.{LiesFor, IsHeldPast, LeavesHeld}
 use Rattle.run_finds.proofs.Capacities.{effect_leaves}
 use Rattle.run_finds.proofs.Past.{past_on, kept, goes_on, left_still}
+use Rattle.run_executor.proofs.Given.General.{at_most_itself as itself}
 
 module _ {K V : Type 0} (map : ℕ) (m v : Moment K V) (k : ℕ) where
   -- a pair that was stored, and lies, where it did, before a root that has not gone back
@@ -39,9 +40,6 @@ module _ {K V : Type 0} (who : Option (List ℕ)) (acted : Option ℕ) where
         lies_same map m (with_effect who acted f m) k waits same.0 same.1 (goes_on who acted f m on map)
             (effect_leaves grows_in_chunks (λ g n. refl) who acted f m map) held.1,
       )
-
-itself : (n : ℕ) → n ≤ n
-itself n = omega arith
 
 -- Of a call: what it finds of its map is all that is needed of numbers, and one that is put behind a table is in no map, whichever it is.
 module _ {K V : Type 0} (own : List ℕ) (acts_on : ℕ) where

@@ -35,12 +35,12 @@ use Rattle.run_blocks.proofs.Given.SettlesDueCalls.{rows_tell_due}
 use Rattle.run_blocks.proofs.Given.SettlesHand.All.{own_or_row}
 use Rattle.run_blocks.proofs.Given.SettlesTakings.{steps_take_out}
 use Rattle.run_finds.specs.Waits.{IsHeldPast, ShowsWaits, FindsBehind, FindBehind}
-use Rattle.run_finds.proofs.Quiet.{neither}
 use Rattle.run_finds.proofs.Waits.Due.{row_due}
 use Rattle.run_finds.specs.Puts.{ShowsPuts, CallsPutBehind}
 use Rattle.run_executor.specs.Given.ScenesHeld.{Held, IsAt}
 use Rattle.run_executor.specs.Given.ScenesScene.{Scene}
 use Rattle.run_executor.specs.Given.ScenesStepping.{StepLeads}
+use Rattle.run_executor.proofs.Given.General.{both_false as neither}
 
 -- an effect that hands nothing over is put behind no table
 module _ {K V : Type 0} where

@@ -28,14 +28,13 @@ use Rattle.run_executor.specs.Given.FollowsCalling.{NoneNamed, come_to, told}
 use Rattle.run_executor.specs.Given.FollowsCalls.{ShowsCalls as IsThere}
 use Rattle.run_executor.proofs.Given.FollowsCalling.{apart_back, come, come_of_same, found_kept, replied_same}
 use Rattle.run_executor.proofs.Given.FollowsCalls.{found}
-use Rattle.run_executor.proofs.Given.FollowsSteps.{WentTo, one_of, went_to}
+use Rattle.run_executor.proofs.Given.FollowsSteps.{WentTo, went_to}
 use Rattle.run_executor.proofs.Given.HandsAsking.{which}
 use Rattle.run_executor.proofs.Given.HandsCalling.{caller_is}
 use Rattle.run_executor.specs.Given.OthersWalks.{given_up}
 use Rattle.run_executor.specs.Given.MomentsWhole.{ShowsWhole}
 use Rattle.run_executor.proofs.Given.ChangesBegun.{comes_begun, effects_begun, if_begun, replied_begun}
 use Rattle.run_executor.proofs.Given.ChangesLogs.{grows, now_there}
-use Rattle.run_logged.proofs.Given.OwesCalls.{goes_as_one}
 use Rattle.run_grows.proofs.Grows.Finding.Between.{fewer_calls}
 use Rattle.run_executor.proofs.Given.ScenesMay.{standing_is}
 use Rattle.run_executor.specs.Given.ScenesHeld.{Held, IsAt}
@@ -44,6 +43,8 @@ use Rattle.run_executor.specs.Given.ScenesScene.{Scene}
 use Rattle.run_executor.specs.Given.ScenesStepping.{StepLeads, scene_after}
 use Rattle.run_schedules.specs.Schedules.Transition.{Past, further}
 use Rattle.run_executor.specs.Given.ChangesHistories.{IsPast}
+use Rattle.run_executor.proofs.Given.General.{same_some as one_of}
+use Rattle.run_logged.proofs.Given.SettlesCalls.{goes_as_one}
 
 -- pairs are where they were
 pub record HasSamePairs {K V : Type 0} (m v : Moment K V) : Type 0 where

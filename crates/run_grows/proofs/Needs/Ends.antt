@@ -1,7 +1,7 @@
 -- Where all of a map ends, each pair is in the map as it ends, and each table is linked.
 use Rattle.std.specs.Prelude.{◌≡◌, ◌<◌, ◌≤◌, ◌+◌, ◌-◌, ◌==◌, ◌&&◌, ◌||◌, ℕ, zero, suc, Bool, true, false, cond, List, [], ◌∷◌, ◌++◌, map, Some, None, if◌then◌else◌}
 use Rattle.std.specs.List.{list_any}
-use Rattle.std.proofs.Common.{refl, sym, ap, subst, ◌∙◌, arith, inl, inr, eqb-true}
+use Rattle.std.proofs.Common.{refl, sym, ap, subst, ◌∙◌, arith, inl, inr}
 use Rattle.std.proofs.lemmas.Bool.{cases_order, eq-eqb}
 use Rattle.papaya_raw.specs.Given.SeizeWorld.{times}
 use Rattle.papaya_raw.specs.Given.TablesChunks.{is_incremental}
@@ -10,7 +10,7 @@ use Rattle.run_schedules.specs.declared.effect.Effect.TheVariants.{Ended, Taken}
 use Rattle.run_schedules.specs.declared.effect.TableId.{TableId}
 use Rattle.run_schedules.specs.Schedules.Effects.{AtEachEffect, at_stage, with_effect}
 use Rattle.run_schedules.specs.Schedules.Lives.{EventFinds}
-use Rattle.run_schedules.specs.Schedules.Moment.{Place, InMap, GivenBack, IsTaken, TableThere, Moment}
+use Rattle.run_schedules.specs.Schedules.Moment.{InMap, GivenBack, IsTaken, TableThere, Moment}
 use Rattle.run_schedules.specs.Schedules.Things.{same_table}
 use Rattle.run_schedules.specs.Schedules.Views.{is_in_map, is_linked, is_stage}
 use Rattle.run_executor.specs.Given.FinishesOrders.{pairs_of}
@@ -20,11 +20,7 @@ use Rattle.run_executor.proofs.Given.FollowsFinds.{among, same_one}
 use Rattle.run_executor.proofs.Given.SpotsUnreclaimed.{table_is}
 use Rattle.run_executor.specs.Given.MomentsWholeEnds.{tables_ended}
 use Rattle.run_grows.specs.Needs.Ends.{EndsFindAll}
-
--- a place in a map
-in_map_is : (of : ℕ) (p : Place) → is_in_map of p ≡ true → p ≡ InMap of
-in_map_is of (InMap x) is = ap InMap (sym (eqb-true of x is))
-in_map_is of _ is = absurd (cc is)
+use Rattle.run_executor.proofs.Given.FollowsStored.{in_map_true as in_map_is}
 
 -- of a list with something before the rest
 more_times : (n o : ℕ) (ps : List ℕ) → 0 < times o ps → 0 < times o (n ∷ ps)

@@ -48,7 +48,6 @@ use Rattle.run_executor.specs.Given.EffectsDeclared.acting.Acting.{Acting}
 use Rattle.run_executor.specs.Given.EffectsDeclared.acting.Acting.TheVariants as acts
 use Rattle.run_executor.specs.Given.FinishesMakings.{Beginning, OpeningFacts}
 use Rattle.run_executor.specs.Given.FollowsShows.{Shows}
-use Rattle.run_executor.proofs.Given.FollowsSteps.{one_of}
 use Rattle.run_executor.specs.Given.OthersMakings.{making_after}
 use Rattle.run_logged.specs.Given.OwesMaking.{making_in_opening}
 use Rattle.run_logged.specs.Given.OwesTables.{table_in, table_made, ShowsTables}
@@ -60,7 +59,7 @@ use Rattle.run_logged.proofs.Given.OwesTables.Roles.{of_table, NoneOfTable}
 use Rattle.run_grows.specs.Needs.Firsts.{IsForPlaces, OpensFor, ShowsOpenings, FindsFirst, MakingsOpen, FirstsAreAll, MakingsGoOn, MakingsLinkFirst}
 use Rattle.run_sweeps.specs.Given.FindsShaping.{ShapedAt}
 use Rattle.run_sweeps.proofs.Given.FindsCapacities.{few_places, no_fault}
-use Rattle.run_sweeps.proofs.Given.FindsGrown.{found_of, number_is}
+use Rattle.run_sweeps.proofs.Given.FindsGrown.{found_of}
 use Rattle.run_sweeps.proofs.Given.FindsLinking.{made_so as made_as_shaped, turn_new}
 use Rattle.run_sweeps.proofs.Given.FindsLists.{each_is}
 use Rattle.run_sweeps.proofs.Given.FindsShaping.{always_plan_more, goes_shaped}
@@ -68,6 +67,7 @@ use Rattle.run_executor.proofs.Given.ScenesTold.{as_step}
 use Rattle.run_executor.specs.Given.ScenesHeld.{Held, IsAt}
 use Rattle.run_executor.specs.Given.ScenesMaking.{MakingComesTo, MakingLeads}
 use Rattle.run_executor.specs.Given.ScenesScene.{Scene}
+use Rattle.run_executor.proofs.Given.General.{same_some as one_of, equal_so as number_is}
 
 -- A step of the making of a map leaves it the places that its table is to have, and makes a table for those.
 

@@ -15,7 +15,7 @@ use Rattle.run_schedules.specs.declared.effect.Growth.TheVariants.{ABlock}
 use Rattle.run_schedules.specs.declared.effect.TableId.{TableId}
 use Rattle.run_schedules.specs.Schedules.Effects.{with_effect, with_effects}
 use Rattle.run_schedules.specs.Schedules.Handing.{is_first_making, is_table_made}
-use Rattle.run_schedules.specs.Schedules.Moment.{IsLinked as AtLinked, TableThere, Moment}
+use Rattle.run_schedules.specs.Schedules.Moment.{TableThere, Moment}
 use Rattle.run_schedules.specs.Schedules.Views.{tables_of}
 use Rattle.run_executor.specs.Given.EffectsEffects.{effects_of, known_after, table_at}
 use Rattle.run_executor.specs.Given.EffectsKnown.{Known}
@@ -34,9 +34,7 @@ use Rattle.run_grows.proofs.Needs.Makings.{makings_do_theirs}
 use Rattle.run_executor.specs.Given.ScenesHeld.{Held, IsAt}
 use Rattle.run_executor.specs.Given.ScenesMaking.{MakingLeads}
 use Rattle.run_executor.specs.Given.ScenesScene.{Scene}
-
-abbrev linked : TableId → TableShape → TableThere
-linked t shape = record { table = t; shape = shape; stage = AtLinked }
+use Rattle.run_sweeps.proofs.Given.FindsGrown.{linked_as as linked}
 
 -- Of the effects of a making those that say nothing of tables make none, and the map has as many as before.
 module _ {K V : Type 0} (map : ℕ) (of : Option ℕ) where

@@ -31,7 +31,7 @@ use Rattle.run_places.specs.Given.FinishesMaps.{Standing, IsSameMap}
 use Rattle.run_places.specs.Given.EffectsKnown.{Known}
 use Rattle.run_places.specs.Given.EffectsDeclared.role.Role.TheVariants as role
 use Rattle.run_places.specs.Given.FollowsShows.{Shows}
-use Rattle.run_places.proofs.Given.FollowsSteps.{WentTo, DidSo, LeadsThere, one_of}
+use Rattle.run_places.proofs.Given.FollowsSteps.{WentTo, DidSo, LeadsThere}
 use Rattle.run_places.specs.Moments.Whole.{ShowsWhole}
 use Rattle.run_histories.specs.Histories.Answers.{NamesPair, IsToldAs, AnswersWereSo}
 use Rattle.run_places.specs.Changes.Had.{HadThen}
@@ -47,6 +47,7 @@ use Rattle.run_places.specs.Given.ScenesHeld.{Held, IsAt}
 use Rattle.run_places.specs.Given.ScenesScene.{Scene, slot_of}
 use Rattle.run_places.specs.Given.ScenesStepping.{StepLeads}
 use Rattle.run_places.specs.Given.SchedulesTransition.{Past}
+use Rattle.run_places.proofs.Given.General.{same_some as one_of}
 
 pub ended : {T : Type 0} (end : Called T) (answer : KeyAnswer) → Done (Key answer) ≡ of_called end → end ≡ called.Done answer
 ended called.Goes answer e = absurd (cc e)

@@ -18,7 +18,6 @@ use Rattle.run_places.specs.Given.FollowsCalling.{NoneNamed, told, come_to}
 use Rattle.run_places.specs.Given.FollowsShows.{Shows}
 use Rattle.run_places.proofs.Given.FollowsCalling.{is_same_refl, apart_back, replied_same, come, come_of_same, found_kept, begins_with, told_with, come_with}
 use Rattle.run_places.proofs.Given.FollowsCalls.{found}
-use Rattle.run_places.proofs.Given.FollowsSteps.{one_of}
 use Rattle.run_places.specs.Hands.Asked.{as_told, ShowsAsked}
 use Rattle.run_places.proofs.Hands.Asking.{which}
 use Rattle.run_places.proofs.Hands.Beginning.{runs_begin_so}
@@ -35,6 +34,7 @@ use Rattle.run_places.proofs.Changes.Within.{within_alike}
 use Rattle.run_places.specs.Given.ScenesReplying.{scene_with}
 use Rattle.run_places.specs.Given.ScenesScene.{Scene, slot_of}
 use Rattle.run_places.specs.Given.SchedulesTransition.{Past, further}
+use Rattle.run_places.proofs.Given.General.{same_some as one_of}
 
 pub histories_begin : (K V : Type 0) → HistoriesBegin K V
 histories_begin K V same roots name =

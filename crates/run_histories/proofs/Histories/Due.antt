@@ -29,7 +29,7 @@ use Rattle.run_places.specs.Given.EffectsDeclared.acting.Acting.TheVariants as a
 use Rattle.run_places.specs.Given.FollowsMaps.{ShowsPairs}
 use Rattle.run_places.specs.Given.FollowsShows.{Shows}
 use Rattle.run_places.proofs.Given.FollowsCalled.{room_goes_on, counting_goes_on, sweep_goes_on, key_goes_on}
-use Rattle.run_places.proofs.Given.FollowsSteps.{WentTo, DidSo, LeadsThere, one_of}
+use Rattle.run_places.proofs.Given.FollowsSteps.{WentTo, DidSo, LeadsThere}
 use Rattle.run_places.proofs.Hands.Asking.{which}
 use Rattle.run_places.proofs.Hands.Calling.{caller_is}
 use Rattle.run_places.proofs.Hands.Replacing.{calls_after}
@@ -55,6 +55,7 @@ use Rattle.run_places.specs.Given.ScenesHeld.{Held, IsAt}
 use Rattle.run_places.specs.Given.ScenesScene.{Scene, slot_of}
 use Rattle.run_places.specs.Given.ScenesStepping.{StepLeads}
 use Rattle.run_places.specs.Given.SchedulesTransition.{Past}
+use Rattle.run_places.proofs.Given.General.{same_some as one_of}
 
 module _ {K V : Type 0} (number number2 : ℕ → ℕ) (stored stored2 : ℕ) (numbers : (n : ℕ) → n < stored → number2 n ≡ number n) (more : stored ≤ stored2) (one : OneKey K V) (c d : CallThere K V)
     (due_is : d.due ≡ c.due) (replies_are : d.replies ≡ c.replies) where

@@ -25,7 +25,6 @@ use Rattle.run_places.specs.Given.FinishesMaps.{Standing}
 use Rattle.run_places.specs.Given.FollowsCalling.{told}
 use Rattle.run_places.proofs.Given.FollowsCalling.{is_same_refl, replied_same, come}
 use Rattle.run_places.proofs.Given.FollowsCalls.{found}
-use Rattle.run_places.proofs.Given.FollowsSteps.{one_of}
 use Rattle.run_places.specs.Hands.Asked.{as_told, IsAskedAs}
 use Rattle.run_places.proofs.Hands.Asking.{which}
 use Rattle.run_places.proofs.Hands.Calling.{caller_is}
@@ -37,6 +36,7 @@ use Rattle.run_histories.proofs.Histories.Due.{owes_on, same_change}
 use Rattle.run_places.specs.Given.ScenesHeld.{Held, IsAt}
 use Rattle.run_places.specs.Given.ScenesReplying.{scene_with}
 use Rattle.run_places.specs.Given.ScenesScene.{Scene, slot_of}
+use Rattle.run_places.proofs.Given.General.{same_some as one_of}
 
 module _ {K V : Type 0} where
   -- what a call owes, was told and was called with

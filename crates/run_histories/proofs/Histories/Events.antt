@@ -28,7 +28,6 @@ use Rattle.run_places.specs.Given.CallersTogether.{CallOnKey, OnKey}
 use Rattle.run_places.specs.Given.EffectsEffects.{effects_of, known_after}
 use Rattle.run_places.specs.Given.EffectsKnown.{Known}
 use Rattle.run_places.specs.Given.EffectsDeclared.acting.Acting.TheVariants as acts
-use Rattle.run_places.proofs.Given.FollowsSteps.{one_of}
 use Rattle.run_places.proofs.Hands.Replacing.{calls_after}
 use Rattle.run_histories.specs.Histories.Answers.{IsToldAs, IsToldDone}
 use Rattle.run_histories.specs.Histories.Events.{ComesToIt}
@@ -48,6 +47,7 @@ use Rattle.run_places.specs.Given.ScenesHeld.{Held, IsAt}
 use Rattle.run_places.specs.Given.ScenesScene.{Scene}
 use Rattle.run_places.specs.Given.ScenesStepping.{StepLeads}
 use Rattle.run_places.specs.Given.SchedulesTransition.{Past, Transition, call_found, call_left, worked_by}
+use Rattle.run_places.proofs.Given.General.{same_some as one_of}
 
 module _ {K V : Type 0} (same : K → K → Bool) (hash : ℕ → K → ℕ) (name : ℕ → List ℕ) (log : Past K V) (beginning : Moment K V) (map i : ℕ) (one : OneKey K V) (c : CallThere K V) (one_is : c.call ≡ On one)
     (done : List Effect) (m : Moment K V) (known : Known) (s : Scene K V) (u : CallOnKey K V K) (midst : InMidst same name log beginning map i one c done m known s u)

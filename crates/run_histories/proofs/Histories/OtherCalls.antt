@@ -36,7 +36,7 @@ use Rattle.run_places.specs.Given.FollowsSteps.{TakesNone}
 use Rattle.run_places.proofs.Given.FollowsOperations.{operated_leaves, LeavesBy}
 use Rattle.run_places.proofs.Given.FollowsRows.{one_step_leaves}
 use Rattle.run_places.proofs.Given.FollowsRowSteps.{row_done}
-use Rattle.run_places.proofs.Given.FollowsSteps.{WentTo, went_to, made_so, DidSo, OfNoRow, one_of}
+use Rattle.run_places.proofs.Given.FollowsSteps.{WentTo, went_to, made_so, DidSo, OfNoRow}
 use Rattle.run_places.proofs.Hands.Replacing.{calls_after}
 use Rattle.run_places.proofs.Hands.RowSteps.{rows_hand_theirs}
 use Rattle.run_places.proofs.Spots.Shifts.{Shifts, KeepsAll, StoresOne, ReplacesOne, RemovesOne, calm_shifts}
@@ -51,6 +51,7 @@ use Rattle.run_places.specs.Given.ScenesHeld.{Held, IsAt}
 use Rattle.run_places.specs.Given.ScenesScene.{Scene, slot_of}
 use Rattle.run_places.specs.Given.ScenesStepping.{StepLeads}
 use Rattle.run_places.specs.Given.SchedulesTransition.{call_found, call_left, worked_by}
+use Rattle.run_places.proofs.Given.General.{same_some as one_of}
 
 module _ {K V : Type 0} (same : K → K → Bool) where
   -- nothing is what each call may remove

@@ -23,7 +23,7 @@ use Rattle.run_places.specs.Given.EffectsKnown.{Known}
 use Rattle.run_places.specs.Given.EffectsDeclared.acting.Acting.TheVariants as acts
 use Rattle.run_places.specs.Given.FollowsCalls.{IsCalled}
 use Rattle.run_places.specs.Given.FollowsShows.{Shows}
-use Rattle.run_places.proofs.Given.FollowsSteps.{WentTo, DidSo, LeadsThere, one_of}
+use Rattle.run_places.proofs.Given.FollowsSteps.{WentTo, DidSo, LeadsThere}
 use Rattle.run_places.proofs.Hands.Replacing.{calls_after}
 use Rattle.run_places.specs.Moments.Whole.{ShowsWhole}
 use Rattle.run_places.proofs.Moments.After.{effects_after}
@@ -47,6 +47,7 @@ use Rattle.run_places.specs.Given.ScenesHeld.{Held, IsAt}
 use Rattle.run_places.specs.Given.ScenesScene.{Scene, slot_of}
 use Rattle.run_places.specs.Given.ScenesStepping.{StepLeads}
 use Rattle.run_places.specs.Given.SchedulesTransition.{Past}
+use Rattle.run_places.proofs.Given.General.{same_some as one_of}
 
 -- what is called for on no key is no call on a key
 pub on_no_key : {K V : Type 0} (same : K → K → Bool) (u : UnderWay K V K) (its : Call K V) → IsCalled same u its → IsOnNoKey its → (x : CallOnKey K V K) → u ≡ OnKey x → ⊥

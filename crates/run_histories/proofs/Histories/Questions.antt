@@ -19,9 +19,9 @@ use Rattle.run_places.specs.Given.SchedulesMoment.{Stands, Going, Asking, Told, 
 use Rattle.run_places.specs.Given.SchedulesViews.{number_of}
 use Rattle.run_places.proofs.Given.FollowsCalling.{is_same_is, found_passes, replied_same, come, come_of_same}
 use Rattle.run_places.proofs.Given.FollowsCalls.{IsOfSame, changed_same, changed, of_same}
-use Rattle.run_places.proofs.Given.FollowsSteps.{one_of}
 use Rattle.run_histories.specs.Histories.Questions.{unanswered, replied_to, GoesItself, AsksStill, HasAskedJust, EventAsksStill, QuestionsBegin, EffectsKeepQuestions, CallsBeginQuestions, CallsTakeQuestions, CallsComeToQuestions, EventsKeepQuestions}
 use Rattle.run_places.specs.Given.SchedulesTransition.{further}
+use Rattle.run_places.proofs.Given.General.{same_some as one_of}
 
 -- one that goes on does not ask
 quiet : (V : Type 0) (stands : Stands) (o : Outcome V) → GoesItself o → AsksStill stands o → unanswered stands ≡ []

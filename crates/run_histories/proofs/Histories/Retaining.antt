@@ -17,7 +17,6 @@ use Rattle.run_places.specs.Given.FinishesMaps.{Standing}
 use Rattle.run_places.specs.Given.EffectsKnown.{Known}
 use Rattle.run_places.specs.Given.EffectsDeclared.role.Role.TheVariants as role
 use Rattle.run_places.specs.Given.FollowsShows.{Shows}
-use Rattle.run_places.proofs.Given.FollowsSteps.{one_of}
 use Rattle.run_histories.specs.Histories.Answers.{NamesPair}
 use Rattle.run_places.specs.Changes.Had.{HadThen}
 use Rattle.run_places.specs.Changes.Histories.{ShowsHistory}
@@ -25,12 +24,12 @@ use Rattle.run_histories.specs.Histories.Retaining.{RetainingsMayAsk}
 use Rattle.run_places.proofs.Changes.Found.{FoundIn, found}
 use Rattle.run_places.proofs.Changes.Had.{had_pair}
 use Rattle.run_places.proofs.Changes.Logs.{each_of, now_there}
-use Rattle.run_places.proofs.Changes.Now.{both_true}
 use Rattle.run_histories.proofs.Histories.Roles.{named_by}
 use Rattle.run_histories.proofs.Histories.Several.{stands}
 use Rattle.run_places.specs.Given.ScenesHeld.{Held, IsAt}
 use Rattle.run_places.specs.Given.ScenesScene.{Scene, slot_of}
 use Rattle.run_places.specs.Given.SchedulesTransition.{Past}
+use Rattle.run_places.proofs.Given.General.{both_true, same_some as one_of}
 
 -- what the finite map has of a class is in the map
 pub found_there : {K V : Type 0} (same : K → K → Bool) (map : ℕ) (m : Moment K V) (k : K) (q : ℕ) → finite_map same map m k ≡ Some q → is_in_map map (m.place q) ≡ true

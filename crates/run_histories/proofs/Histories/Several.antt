@@ -22,7 +22,6 @@ use Rattle.run_places.specs.Given.FinishesMaps.{Standing}
 use Rattle.run_places.specs.Given.EffectsEffects.{effects_of, known_after}
 use Rattle.run_places.specs.Given.EffectsKnown.{Known}
 use Rattle.run_places.specs.Given.EffectsDeclared.acting.Acting.TheVariants as acts
-use Rattle.run_places.proofs.Given.FollowsSteps.{one_of}
 use Rattle.run_places.proofs.Hands.Replacing.{calls_after}
 use Rattle.run_places.proofs.Moments.Calls.{calls_keep_whole}
 use Rattle.run_histories.specs.Histories.Due.{Owes}
@@ -39,6 +38,7 @@ use Rattle.run_places.specs.Given.ScenesHeld.{Held, IsAt}
 use Rattle.run_places.specs.Given.ScenesScene.{Scene}
 use Rattle.run_places.specs.Given.ScenesStepping.{StepLeads, scene_after}
 use Rattle.run_places.specs.Given.SchedulesTransition.{Past}
+use Rattle.run_places.proofs.Given.General.{same_some as one_of}
 
 -- what a call has changed by a step it has changed since the beginning of the event, where nothing had changed before
 module _ {K V : Type 0} (same : K → K → Bool) (map : ℕ) (one : OneKey K V) (c d : CallThere K V) (m v : Moment K V) (same_call : IsSameCall c d) (on_map : c.map ≡ map)

@@ -22,7 +22,7 @@ use Rattle.run_places.specs.Given.EffectsKnown.{Known}
 use Rattle.run_places.specs.Given.EffectsDeclared.acting.Acting.TheVariants as acts
 use Rattle.run_places.specs.Given.FollowsShows.{Shows}
 use Rattle.run_places.specs.Given.FollowsSteps.{TakesNone}
-use Rattle.run_places.proofs.Given.FollowsSteps.{WentTo, one_of}
+use Rattle.run_places.proofs.Given.FollowsSteps.{WentTo}
 use Rattle.run_places.proofs.Hands.RowSteps.{rows_hand_theirs}
 use Rattle.run_places.specs.Moments.Whole.{ShowsWhole}
 use Rattle.run_places.proofs.Moments.OnSlots.{stood_same}
@@ -36,6 +36,7 @@ use Rattle.run_places.specs.Given.ScenesHeld.{Held, IsAt}
 use Rattle.run_places.specs.Given.ScenesScene.{Scene, slot_of}
 use Rattle.run_places.specs.Given.ScenesStepping.{StepLeads}
 use Rattle.run_places.specs.Given.SchedulesTransition.{Past}
+use Rattle.run_places.proofs.Given.General.{same_some as one_of}
 
 -- a moment after effects that shift no pair has the pairs that it had
 module _ {K V : Type 0} where

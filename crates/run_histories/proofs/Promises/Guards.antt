@@ -19,10 +19,10 @@ use Rattle.run_places.specs.Given.RunsDeclared.outcome.Outcome.TheVariants.{Done
 use Rattle.run_places.specs.Given.SchedulesAfter.{there_on, unsheltered, sheltered_on}
 use Rattle.run_places.specs.Given.SchedulesMoment.{Sheltered}
 use Rattle.run_places.specs.Given.EffectsKnown.{Known}
-use Rattle.run_places.proofs.Given.FollowsSteps.{one_of}
 use Rattle.run_histories.specs.Promises.Guards.{EntersInside, GuardsComeAndGo, OneIsInsideAgain, OnlyGuardsLeaveNobody}
 use Rattle.run_histories.specs.Promises.Sheltered.{GuardsAreInside, IsSheltered, AreSheltered}
 use Rattle.run_histories.proofs.Promises.Lists.{all_of}
+use Rattle.run_places.proofs.Given.General.{same_some as one_of}
 
 pub no_guard : {A : Type 0} (g : NamedGuard) → None ≡ Some g → A
 no_guard g e = absurd (cc e)

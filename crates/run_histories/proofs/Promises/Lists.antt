@@ -13,10 +13,7 @@ use Rattle.run_places.specs.Given.RunsDeclared.effect.Thing.{Thing}
 use Rattle.run_places.specs.Given.RunsDeclared.effect.Thing.TheVariants.{ATable}
 use Rattle.run_places.specs.Given.SchedulesEffects.{passed}
 use Rattle.run_places.specs.Given.SchedulesMoment.{Sheltered}
-
-pub all_append : {X : Type 0} (P : X → Type 0) (xs ys : List X) → AllByRecursion P xs → AllByRecursion P ys → AllByRecursion P (xs ++ ys)
-all_append P [] ys a b = b
-all_append P (x ∷ xs) ys a b = (a.0, all_append P xs ys a.1 b)
+use Rattle.run_places.proofs.Given.General.{all_append}
 
 pub all_of : {X : Type 0} (P Q : X → Type 0) (xs : List X) → ((x : X) → P x → Q x) → AllByRecursion P xs → AllByRecursion Q xs
 all_of P Q [] f all = tt

@@ -55,7 +55,7 @@ use Rattle.run_shows.proofs.Given.CallersTogether.At.{at_same, at_other}
 use Rattle.run_effects.specs.Effects.Known.{Known}
 use Rattle.run_shows.specs.Given.FinishesMaps.{Standing, IsSameMap}
 use Rattle.run_shows.specs.Follows.Shows.{Shows}
-use Rattle.run_shows.proofs.Follows.Steps.{WentTo, went_to, DidSo, one_of}
+use Rattle.run_shows.proofs.Follows.Steps.{WentTo, went_to, DidSo}
 use Rattle.run_shows.proofs.Others.Outcomes.{told_in}
 use Rattle.run_schedules.specs.Schedules.Moment.{Moment}
 use Rattle.run_blocks.proofs.Given.SettlesKeys.{steps as key_told}
@@ -69,6 +69,7 @@ use Rattle.run_shows.proofs.Scenes.Told.{as_step}
 use Rattle.run_shows.specs.Scenes.Held.{Held, IsAt}
 use Rattle.run_shows.specs.Scenes.Scene.{Scene, slot_of}
 use Rattle.run_shows.specs.Scenes.Stepping.{StepLeads, scene_after}
+use Rattle.run_shows.proofs.Given.General.{same_some as one_of}
 
 -- at a row no call is to end a copying
 row_point : (stands : Point) → IsRowOfCopier stands → IsIdleAt stands

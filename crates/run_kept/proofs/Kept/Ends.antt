@@ -38,7 +38,6 @@ use Rattle.run_shows.specs.Given.FinishesMakings.{Beginning, IsNewChart}
 use Rattle.run_shows.specs.Given.FinishesMaps.{Standing, IsSameMap, with_call as with_in}
 use Rattle.run_shows.specs.Follows.Calling.{NoneNamed}
 use Rattle.run_shows.proofs.Follows.Calling.{is_same_refl}
-use Rattle.run_shows.proofs.Follows.Steps.{one_of}
 use Rattle.run_shows.specs.Others.Endings.{ending_after}
 use Rattle.run_shows.specs.Others.Makings.{making_after}
 use Rattle.run_shows.specs.Others.Rows.{scene_then}
@@ -50,6 +49,7 @@ use Rattle.run_shows.specs.Scenes.Making.{MakingComesTo}
 use Rattle.run_shows.specs.Scenes.OnSlots.{HappensAt}
 use Rattle.run_shows.specs.Scenes.Replying.{scene_with, unless_stopped}
 use Rattle.run_shows.specs.Scenes.Scene.{Scene, at_first}
+use Rattle.run_shows.proofs.Given.General.{same_some as one_of}
 
 -- a call that is to do nothing for a copying goes on so, in blocking mode as one that begins
 pub idle_keeps : {K V : Type 0} (incremental : Bool) (c : Chart K) (calls : ℕ → Option (UnderWay K V K)) (i : ℕ) (next : Option (UnderWay K V K)) → HaveEndsIn incremental c calls

@@ -52,7 +52,7 @@ use Rattle.run_shows.proofs.Follows.Operations.{LeavesBy, Operated, operated_lea
 use Rattle.run_shows.proofs.Follows.Steps.{WentTo, went_to, made_so}
 use Rattle.run_executor.specs.Given.HandsRows.{ReclaimsNone}
 use Rattle.run_executor.proofs.Given.HandsGuarded.{there_is}
-use Rattle.run_executor.proofs.Given.HandsHanding.{plan_aside, settle_aside}
+use Rattle.run_executor.proofs.Given.HandsHanding.{plan_aside, settle_aside, is_batches as batches_or}
 use Rattle.run_executor.specs.Given.MomentsWhole.{ShowsWhole}
 use Rattle.run_schedules.specs.Schedules.Model.{handing}
 use Rattle.run_schedules.specs.Schedules.Moment.{Moment}
@@ -73,11 +73,6 @@ use Rattle.run_kept.proofs.Models.Unbatched.{IsKept, runs_unbatched}
 use Rattle.run_shows.specs.Scenes.Held.{Held, IsAt}
 use Rattle.run_shows.specs.Scenes.Scene.{Scene}
 use Rattle.run_shows.specs.Scenes.Stepping.{StepLeads}
-
--- whether it is about to write into a block which batch it is of
-batches_or : (p : Settling) → ((block : ℕ) × (p ≡ at.Batches block)) ⊎ ((block : ℕ) → p ≡ at.Batches block → ⊥)
-batches_or (at.Batches block) = inl (block, refl)
-batches_or _ = inr (λ block e. cc e)
 
 past_other : (p : Settling) → IsPast p → (block : ℕ) → p ≡ at.Batches block → ⊥
 past_other p past block e = subst IsPast e past

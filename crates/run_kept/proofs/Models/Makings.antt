@@ -16,7 +16,6 @@ use Rattle.run_schedules.specs.declared.effect.Effect.{Effect}
 use Rattle.run_schedules.specs.declared.effect.Effect.TheVariants.{Asked, Reclaimed}
 use Rattle.run_schedules.specs.declared.effect.Growth.TheVariants.{ABlock}
 use Rattle.run_schedules.specs.declared.effect.Thing.{Thing}
-use Rattle.run_schedules.specs.declared.effect.Thing.TheVariants.{APair, ATable}
 use Rattle.run_effects.specs.declared.changed.Changed.{Changed}
 use Rattle.run_effects.specs.declared.changed.Changed.TheVariants as changed
 use Rattle.run_effects.specs.declared.changed.Kind.{Kind}
@@ -30,7 +29,6 @@ use Rattle.run_effects.specs.declared.role.Role.TheVariants as role
 use Rattle.run_shows.specs.Given.FinishesEndings.{MakingStepsAmong}
 use Rattle.run_shows.specs.Given.FinishesMakings.{Beginning}
 use Rattle.run_shows.proofs.Follows.Alike.{is_calm, AllCalm}
-use Rattle.run_shows.proofs.Follows.Onward.{IsOfMap}
 use Rattle.run_shows.proofs.Follows.Operations.{LeavesBy}
 use Rattle.run_shows.specs.Others.Makings.{making_after}
 use Rattle.run_shows.proofs.Others.Leads.{word_says}
@@ -55,11 +53,7 @@ use Rattle.run_kept.proofs.Models.Turns.{users_follow, all_there}
 use Rattle.run_shows.specs.Scenes.Held.{Held, IsAt}
 use Rattle.run_shows.specs.Scenes.Making.{MakingStepsFrom}
 use Rattle.run_shows.specs.Scenes.Scene.{Scene, slot_of}
-
--- a thing is of a map
-pub thing_of_map : (x : Thing) (r : Role) → IsOfThing x r → IsOfMap r
-thing_of_map (APair n) r is = subst IsOfMap (sym is) tt
-thing_of_map (ATable t) r is = subst IsOfMap (sym is.1) tt
+use Rattle.run_blocks.proofs.Given.PromisesShelters.Lasting.{of_map as thing_of_map}
 
 -- what is calm reclaims nothing
 calm_back : (effects : List Effect) → AllCalm effects → NoneBack effects

@@ -9,9 +9,8 @@ use Rattle.seize.specs.Law.{Effect, Taken, is_retired, IsSound}
 use Rattle.seize.specs.Sequence.{taken_in}
 use Rattle.seize.specs.World.{World, Steps', times}
 use Rattle.seize.specs.declared.states.TheConstants.{LAST_SLOT}
-use Rattle.run_effects.proofs.Given.SeizeMovesState.Ghost.{Life, IsFree, IsOwned, IsLinked, IsUnlinked, IsDeferring, IsDeferred, IsPending, IsIn, IsDoomed, IsLeft, is_given}
+use Rattle.run_effects.proofs.Given.SeizeMovesState.Ghost.{is_given}
 use Rattle.run_effects.proofs.Given.SeizeRuleRows.Effects.{IsOneStep}
-use Rattle.run_effects.proofs.Given.SeizeMemoryWords.Shows.{lives}
 use Rattle.run_effects.proofs.Given.SeizeMemoryWords.There.{value_there}
 use Rattle.run_shows.proofs.Given.SeizeAloneHistories.NotTaken.{did, taken_gone}
 use Rattle.run_shows.proofs.Given.SeizeAloneHistories.Reached.{Reached, steps_reached}
@@ -34,6 +33,8 @@ use Rattle.run_shows.proofs.Follows.Told.{roomed_as_many}
 use Rattle.run_shows.proofs.Others.RowPlans.{TellsRow}
 use Rattle.run_executor.proofs.Given.MomentsOnSlots.{none_some}
 use Rattle.run_kept.specs.Models.Numbers.{things_of, AreOfRow}
+use Rattle.run_shows.proofs.Given.General.{some_there as some_value}
+use Rattle.run_waiting.proofs.Lives.Reclaimed.{given_lives}
 
 -- which blocks a step took away, as it is told
 abbrev pub TakesSo : Changed → List ℕ → Type 0
@@ -57,22 +58,6 @@ none_taken [] one none = refl
 none_taken (Taken c ∷ []) one none = absurd (none c refl)
 none_taken (_ ∷ []) one none = refl
 none_taken (e ∷ f ∷ effects) one none = absurd one
-
-given_lives : (l : Life) → is_given l ≡ true → lives l ≡ true
-given_lives IsFree e = absurd (cc e)
-given_lives (IsOwned i) e = refl
-given_lives IsLinked e = refl
-given_lives (IsUnlinked i) e = refl
-given_lives (IsDeferring i s t) e = refl
-given_lives (IsDeferred t) e = refl
-given_lives (IsPending i) e = refl
-given_lives (IsIn x) e = refl
-given_lives (IsDoomed i) e = refl
-given_lives (IsLeft i) e = refl
-
-some_value : {T : Type 0} (o : Option T) → IsSome o → (value : T) × (o ≡ Some value)
-some_value None is = absurd (cc is)
-some_value (Some value) is = (value, refl)
 
 module _ {K V : Type 0} (defers : Node K V → Option ℕ) (size : ℕ) (w : World (Node K V)) (r : Reached defers size w) (i : ℕ) (w2 : World (Node K V)) (step : Steps' defers i (w.row i) w w2) where
   abbrev pub it : RowStepped defers i w w2

@@ -6,7 +6,7 @@ use Rattle.run_schedules.specs.Given.SeizeWordsDeclared.at.At.{At}
 use Rattle.run_schedules.specs.Given.SeizeWordsDeclared.at.At.TheVariants.{Root, Used, Slot, Entry, Word}
 use Rattle.run_schedules.specs.Given.SeizeWordsMem.{Mem, same_at, block_of, value_in, value_at, word_at, with_block, with_room, with_word, fresh, Can, Took}
 use Rattle.run_schedules.specs.Given.SeizeWordsOp.{Op, Out, Load, Store, Swap, Add, Or, Exchange, Make, Take, Rewrite, Room, Found, Exchanged, Made, Taken, Roomed}
-use Rattle.run_schedules.specs.Given.SeizeWordsWord.{block_in, link_to}
+use Rattle.run_schedules.specs.Given.SeizeWordsWord.{link_to}
 use Rattle.run_schedules.proofs.Given.SeizeWordsOneOwner.AfterWrites.{word_at-with_word, word_at-with_value, value_at-with_word, block_of-with_block, block_of-made}
 use Rattle.seize.specs.declared.states.TheConstants.{FIRST}
 use Rattle.run_effects.proofs.Given.SeizeMemoryWords.Named.{same_at-true, block_there}
@@ -38,10 +38,7 @@ use Rattle.run_shows.proofs.Follows.Operations.{Operated}
 use Rattle.run_blocks.specs.Given.PromisesSheltered.{IsOfThing}
 use Rattle.run_kept.specs.Models.Numbers.{NoneBack}
 use Rattle.run_executor.proofs.Given.SpotsHanding.{AllKeep}
-
--- words that are the same name the same
-same_names : (old new : ℕ) → new ≡ old → names_same old new ≡ true
-same_names old new e = eq-eqb (block_in old) (block_in new) (ap block_in (sym e))
+use Rattle.run_shows.proofs.Follows.Quiet.{same_name as same_names}
 
 module _ (i map : ℕ) (known : Known) where
   abbrev its : Acting

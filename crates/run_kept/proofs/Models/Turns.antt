@@ -1,6 +1,6 @@
 -- Rows that run to their ends one after another, as they begin, go on and end, and what happens between them.
 use Rattle.std.specs.Prelude.{Option, Some, None, IsSome}
-use Rattle.std.proofs.Common.{◌≡◌, ◌≤◌, ◌<◌, ◌^◌, ◌+◌, ℕ, suc, true, List, [], ◌∷◌, ◌++◌, refl, ap, sym, subst}
+use Rattle.std.proofs.Common.{◌≡◌, ◌≤◌, ◌<◌, ◌^◌, ◌+◌, ℕ, suc, List, [], ◌∷◌, ◌++◌, refl, ap, sym, subst}
 use Rattle.std.proofs.Math.Path.{fun_ext}
 use Rattle.std.proofs.lemmas.List.{append-nil}
 use Rattle.seize.specs.Sequence.{Turn, Whole, Between, IsBetween, IsUsers, Calls, TakesTurns, changes, ended_by}
@@ -9,9 +9,7 @@ use Rattle.seize.specs.World.{World, Row, Rests, Request, Event, Begin, Step, En
 use Rattle.seize.specs.declared.states.TheConstants.{LAST_SLOT}
 use Rattle.run_schedules.specs.Given.SeizeWordsMem.{value_at}
 use Rattle.run_effects.specs.Given.SeizeWaitingHeld.{count, Every}
-use Rattle.run_effects.proofs.Given.SeizeMovesState.Ghost.{Life, IsFree, IsOwned, IsLinked, IsUnlinked, IsDeferring, IsDeferred, IsPending, IsIn, IsDoomed, IsLeft}
-use Rattle.run_shows.proofs.Given.SeizeRulePoints.Aside.{HandFits, is_handed}
-use Rattle.run_effects.proofs.Given.SeizeMemoryWords.Shows.{lives}
+use Rattle.run_shows.proofs.Given.SeizeRulePoints.Aside.{HandFits}
 use Rattle.run_effects.proofs.Given.SeizeMemoryWords.There.{value_there}
 use Rattle.run_shows.proofs.Given.SeizeRuleWorld.Rested.{Rested, start_rested, turns_rested}
 use Rattle.run_shows.proofs.Given.SeizeSetsTurns.All.{rows_follow, turns_shown, start_shown}
@@ -23,6 +21,7 @@ use Rattle.run_shows.proofs.Given.SeizeAloneWhole.Register.{steps_more, steps_en
 use Rattle.run_kept.specs.Models.Alike.{AllAre}
 use Rattle.run_kept.specs.Models.Turns.{sets_of, CameByTurns, IsInRow, TurnsBegin, RowsBegin, RowsGoOn, RowsEnd, EventsFollow, UsersFollow}
 use Rattle.run_kept.proofs.Models.Alike.Again.{all_are}
+use Rattle.run_shows.proofs.Given.FinishesBeside.Makings.Outs.{handed_lives}
 
 -- an event of users changes no waiting sets
 users_between : {T : Type 0} (e : Event T) → IsUsers e → IsBetween e × (ended_by e ≡ [])
@@ -33,19 +32,6 @@ users_between (LeavesOver i b further) is = absurd is
 users_between (Relinks i b word) is = absurd is
 users_between (Clears i b) is = absurd is
 users_between _ is = (tt, refl)
-
--- what was handed over lives
-handed_lives : (l : Life) → is_handed l ≡ true → lives l ≡ true
-handed_lives IsFree e = absurd (cc e)
-handed_lives (IsOwned i) e = refl
-handed_lives IsLinked e = refl
-handed_lives (IsUnlinked i) e = refl
-handed_lives (IsDeferring i s t) e = refl
-handed_lives (IsDeferred t) e = refl
-handed_lives (IsPending i) e = refl
-handed_lives (IsIn x) e = refl
-handed_lives (IsDoomed i) e = refl
-handed_lives (IsLeft i) e = refl
 
 module _ {T : Type 0} (defers : T → Option ℕ) (batch_size roots : ℕ) where
   pub turns_begin : TurnsBegin T defers batch_size roots

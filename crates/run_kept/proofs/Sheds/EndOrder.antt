@@ -17,13 +17,13 @@ use Rattle.run_effects.specs.Given.RuleRule.{Rule, Incremental, is_of}
 use Rattle.run_shows.specs.Given.PointsSteps.{AreLawful}
 use Rattle.run_shows.specs.Given.FinishesOrders.{pair_at, with_pairs, pairs_from, pairs_in, pairs_of}
 use Rattle.run_shows.proofs.Given.FinishesEnds.CountedBlocks.{some_here}
-use Rattle.run_shows.proofs.Given.FinishesEnds.OrdersPairs.{GivesAt, Stands, stands_at, stands_current, all_home}
+use Rattle.run_shows.proofs.Given.FinishesEnds.OrdersPairs.{GivesAt, Stands, stands_at, stands_current, all_home, phases_apart as not_both}
 use Rattle.run_executor.specs.Given.MomentsWholeEnds.{all_ended, tables_ended}
 use Rattle.run_executor.specs.Given.SpotsSpots.{named_by, spot_in, LiesAt}
 use Rattle.run_executor.proofs.Given.SpotsNames.{holds_is}
 
 -- whether a spot is before another, by their tables and places
-abbrev goes_before : ℕ → ℕ → ℕ → ℕ → Bool
+abbrev pub goes_before : ℕ → ℕ → ℕ → ℕ → Bool
 goes_before a b t i = nat_lt a t || ((a == t) && nat_lt b i)
 
 next_place : (t i : ℕ) → goes_before t i t (suc i) ≡ true
@@ -97,9 +97,6 @@ module _ {K : Type 0} (same : K → K → Bool) (hash : K → ℕ) (are : AreLaw
         let key = (rule.common.keyed t i n p x here).2 in
         let of : is_of same (spot_of hash) incremental k (c.key n) ≡ true = ap (is_of same (spot_of hash) incremental k) key ∙ are.lawful.classes.refl k in
         rule.common.once t i j n n p q x y k live here there of of
-
-  not_both : (n o : ℕ) (b d : Bool) → Holds n Still b ≡ Holds o Copying d → ⊥
-  not_both n o b d e = cc e
 
   not_copied : Still ≡ Copied → ⊥
   not_copied e = cc e

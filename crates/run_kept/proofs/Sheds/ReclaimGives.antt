@@ -29,6 +29,7 @@ use Rattle.run_effects.specs.declared.changed.Changed.TheVariants as changed
 use Rattle.run_shows.proofs.Follows.Operations.{LeavesBy}
 use Rattle.run_shows.specs.Follows.Steps.{TakesNone}
 use Rattle.run_shows.proofs.Others.Outcomes.{told_in}
+use Rattle.run_shows.proofs.Others.RowGives.{IsTakes}
 
 module _ {T : Type 0} where
   -- an operation, and a plan, that takes no block away
@@ -39,10 +40,6 @@ module _ {T : Type 0} where
   abbrev IsQuiet : {R : Type 0} → Plan T R → Type 0
   IsQuiet (Turn rest) = Unit {0}
   IsQuiet (Do op rest) = IsNoTake op
-
-abbrev IsTakes : Settling → Type 0
-IsTakes (settling.Takes next) = Unit {0}
-IsTakes _ = ⊥
 
 module _ {K V : Type 0} (m m2 : Mem (Node K V)) (told : Changed) where
   -- a value is handed out, or no block was taken away

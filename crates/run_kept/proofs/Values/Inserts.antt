@@ -39,14 +39,11 @@ use Rattle.run_executor.specs.Given.MomentsWhole.{ShowsWhole}
 use Rattle.run_kept.proofs.Values.KeyEnds.{MayFind}
 use Rattle.run_shows.specs.Scenes.Held.{Held, IsAt}
 use Rattle.run_shows.specs.Scenes.Scene.{Scene, slot_of}
+use Rattle.run_shows.proofs.Given.General.{same_some as same_call}
 
 -- the word of a block is not that of none
 word_some : (block code : ℕ) → 0 < block → block < 2 ^ 53 → code < 2 ^ 64 → word_to block code ≡ 0 → ⊥
 word_some block code some small few none = absurd (omega (arith, some, small, few, none))
-
--- one that is there is there once
-pub same_call : {X : Type 0} (a b : X) → Some a ≡ Some b → a ≡ b
-same_call a b is = cc is
 
 module _ {K V : Type 0} (same : K → K → Bool) (hash : ℕ → K → ℕ) (name : ℕ → List ℕ) (m : Moment K V) (known : Known) (s : Scene K V) (e : Held K V) (at_e : IsAt same hash e s)
     (whole : ShowsWhole same name m known s) (map i : ℕ) (st : Standing K) (stands_there : s.maps map ≡ Some st) (c : CallThere K V) (c_is : call_of (name i) m ≡ Some c) where

@@ -56,11 +56,12 @@ use Rattle.run_executor.specs.Named.Telling.{value_of}
 use Rattle.run_executor.specs.declared.kind.CallKind.TheVariants as kind
 use Rattle.run_kept.specs.Values.Values.{InsertsTellTheirs, IsEnding, KeepsValue, ValuesBegin, ValuesGoOn, ValuesTaken, kept_after}
 use Rattle.run_kept.proofs.Values.KeyEnds.{Comes, IsNotOver, MayFind, ending_stays, key_comes_so}
-use Rattle.run_kept.proofs.Values.Inserts.{FoundOver, asked_on, called_so, its_pair, may_find, same_call, takes_nothing}
+use Rattle.run_kept.proofs.Values.Inserts.{FoundOver, asked_on, called_so, its_pair, may_find, takes_nothing}
 use Rattle.run_shows.proofs.Scenes.Told.{as_step}
 use Rattle.run_shows.specs.Scenes.Held.{Held, IsAt}
 use Rattle.run_shows.specs.Scenes.Scene.{Scene, slot_of}
 use Rattle.run_shows.specs.Scenes.Stepping.{StepLeads, has_ended}
+use Rattle.run_shows.proofs.Given.General.{same_some as same_call}
 
 pub values_begin : (K V : Type 0) → ValuesBegin K V
 values_begin K V setting hash (On (TryInsert k v)) value = λ word e. absurd (cc e)

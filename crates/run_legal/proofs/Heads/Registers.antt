@@ -47,15 +47,10 @@ use Rattle.run_grows.specs.Given.ScenesHeld.{Held, IsAt}
 use Rattle.run_grows.specs.Given.ScenesOnSlots.{RowLeads, RowSteps}
 use Rattle.run_grows.specs.Given.ScenesRows.{begun_row, of_registering}
 use Rattle.run_grows.specs.Given.ScenesScene.{IsOnSlot, Scene, row_of}
+use Rattle.run_grows.proofs.Given.General.{less_not as le_of, less_so as lt_of}
 
 some_lt : (n : ℕ) → 0 < n → nat_lt 0 n ≡ true
 some_lt n more = grind (arith, more)
-
-lt_of : (a b : ℕ) → nat_lt a b ≡ true → a < b
-lt_of a b l = grind (arith, l)
-
-le_of : (a b : ℕ) → nat_lt a b ≡ false → b ≤ a
-le_of a b l = grind (arith, l)
 
 -- it has taken its slot
 abbrev pub has_taken : Registering → Bool

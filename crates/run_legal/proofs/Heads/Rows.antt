@@ -36,7 +36,7 @@ use Rattle.run_grows.proofs.Given.SeizeRuleWords.Kept.{IsQuietPlan, settle_quiet
 use Rattle.run_grows.proofs.Given.SeizeRulePoints.Known.{FitsAt, Fits, Pushes, bare}
 use Rattle.run_grows.proofs.Given.SeizeRulePoints.May.{may_at}
 use Rattle.run_grows.proofs.Given.SeizeRulePoints.Try.{never_word}
-use Rattle.run_grows.proofs.Given.SeizeRuleRows.Known.{OnSlot, FitsRow, FitsLeave, FitsDefer, word_of}
+use Rattle.run_grows.proofs.Given.SeizeRuleRows.Known.{OnSlot, FitsRow, FitsLeave, FitsDefer}
 use Rattle.run_grows.proofs.Given.SeizeRuleRows.Leave.{leaves_may}
 use Rattle.run_grows.proofs.Given.SeizeRuleRows.Leaving.{steps_back}
 use Rattle.run_grows.proofs.Given.SeizeRuleRows.Slots.{idle_head, enters_may, frees_may}
@@ -45,6 +45,7 @@ use Rattle.run_grows.proofs.Given.SeizeRuleWorld.Good.{Good}
 use Rattle.run_grows.proofs.Given.SeizeRuleWorld.Start.{words_good}
 use Rattle.run_grows.proofs.Given.SeizeEndsBatches.Free.{is_field, spares_plan, plan_same}
 use Rattle.run_grows.proofs.Given.SeizeEndsBatches.Rows.{settles_memory, defers_memory}
+use Rattle.run_grows.proofs.Given.SeizeAloneSpared.Steps.{word_some as becomes_some}
 
 module _ {T : Type 0} where
   -- the slot was taken at some time
@@ -91,10 +92,6 @@ module _ {T : Type 0} where
         by : (y : Bool) → eqb s t ≡ y → is_taken m2 s ≡ is_taken m s
         by true e = subst (λ (k : ℕ). is_taken m2 k ≡ is_taken m k) (sym (eqb-true s t e)) there
         by false e = ap (nat_lt 0) (elsewhere s e)
-
-becomes_some : (again : Bool) → 0 < word_of again
-becomes_some true = omega arith
-becomes_some false = omega arith
 
 pub positive : (n : ℕ) → (n ≡ 0 → ⊥) → 0 < n
 positive zero ne = absurd (ne refl)

@@ -31,7 +31,6 @@ use Rattle.run_grows.specs.Given.SchedulesTerms.{Terms}
 use Rattle.run_grows.specs.Given.EffectsKnown.{Known}
 use Rattle.run_grows.specs.Given.FinishesMakings.{IsFreeRoot}
 use Rattle.run_grows.specs.Given.MomentsOnSlots.{HadRetired}
-use Rattle.run_grows.proofs.Given.SpotsUnreclaimed.{and_both}
 use Rattle.run_grows.specs.Given.SeizeReclaimsRoots.{all_lists}
 use Rattle.run_grows.specs.Given.ReclaimsReclaims.{AllIsReclaimed, IsRootOf, ReclaimingTold}
 use Rattle.run_grows.specs.Given.ScenesReclaiming.{ReclaimingComesTo}
@@ -60,6 +59,7 @@ use Rattle.run_legal.proofs.SlotsAfter.{each_stores, like}
 use Rattle.run_legal.proofs.SlotsEnd.{slots_are_legal_but}
 use Rattle.run_grows.specs.Given.ScenesHeld.{IsAt}
 use Rattle.run_grows.specs.Given.SchedulesTransition.{past}
+use Rattle.run_grows.proofs.Given.General.{both_true as and_both}
 
 -- What such an event is.
 

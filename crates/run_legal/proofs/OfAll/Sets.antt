@@ -25,7 +25,7 @@ use Rattle.run_grows.specs.Given.SeizeDeclared.rows.reclaim_all.Reclaiming.TheVa
 use Rattle.run_grows.specs.Given.SeizeDeclared.rows.settle.Settle.{Settle}
 use Rattle.run_grows.specs.Given.SeizeDeclared.rows.settle.Settled.{Settled}
 use Rattle.run_grows.specs.Given.SeizeDeclared.rows.settle.Settled.TheVariants as settled
-use Rattle.run_grows.specs.Given.SeizeDeclared.states.TheConstants.{HEAD, IDLE, LAST_SLOT}
+use Rattle.run_grows.specs.Given.SeizeDeclared.states.TheConstants.{HEAD, IDLE}
 use Rattle.run_grows.proofs.Given.SeizeRuleRows.Leaving.{steps_back}
 use Rattle.run_grows.proofs.Given.SeizeRuleWorld.Rested.{Rested, calls_rested}
 use Rattle.run_grows.specs.Given.SeizeSetsReclaims.{is_on_slots}
@@ -49,6 +49,7 @@ use Rattle.run_grows.specs.Given.ModelsReclaims.{HasReclaimed}
 use Rattle.run_grows.specs.Given.ModelsTurns.{CameByTurns}
 use Rattle.run_grows.proofs.Given.ModelsReclaims.{has_reclaimed, quiet_reclaimed}
 use Rattle.run_grows.proofs.Given.ModelsTurns.{events_follow}
+use Rattle.run_grows.proofs.Needs.Flushes.Worlds.{slots as n}
 
 -- where nothing but what lies between rows happened, and rows alone, nothing happened
 pub none_of_rows : {T : Type 0} (i : ℕ) (events : List (Event T)) → AreItsRows i events → AllByRecursion IsBetween events → events ≡ []
@@ -58,9 +59,6 @@ none_of_rows i (Step j ∷ events) own between = absurd between.0
 none_of_rows i (_ ∷ events) own between = absurd own
 
 module _ {K V : Type 0} (size roots i : ℕ) (small : size < 2 ^ 64) (began : World (Node K V)) (before : List Change) (came_first : CameByTurns deferred_word size roots began before) where
-  abbrev pub n : ℕ
-  n = LAST_SLOT + 1
-
   -- it has done with slots
   abbrev pub Has : World (Node K V) → Type 0
   Has w = HasReclaimed deferred_word size roots began before w

@@ -23,7 +23,6 @@ use Rattle.run_grows.specs.Given.EffectsKnown.{Known}
 use Rattle.run_grows.specs.Given.EffectsDeclared.acting.Acting.TheVariants.{Row}
 use Rattle.run_grows.specs.Given.MomentsOnSlots.{HadRetired}
 use Rattle.run_grows.proofs.Given.MomentsAfter.{effects_after}
-use Rattle.run_grows.proofs.Given.SpotsUnreclaimed.{and_both}
 use Rattle.run_grows.specs.Given.ScenesReclaiming.{IsReclaiming, ReclaimingLeads}
 use Rattle.run_grows.proofs.Given.LoggedReclaiming.Rest.{reclaiming_found}
 use Rattle.run_grows.proofs.Given.PromisesWeights.{grants_add_up, operations_are_single}
@@ -38,6 +37,7 @@ use Rattle.run_legal.proofs.Slots.{each_join}
 use Rattle.run_grows.specs.Given.ScenesHeld.{Held}
 use Rattle.run_grows.specs.Given.ScenesScene.{Scene}
 use Rattle.run_grows.specs.Given.SchedulesTransition.{past}
+use Rattle.run_grows.proofs.Given.General.{both_true as and_both}
 
 both_reclaim : (done more : List Effect) → list_all is_reclaiming done ≡ true → list_all is_reclaiming more ≡ true → list_all is_reclaiming (done ++ more) ≡ true
 both_reclaim [] more first later = later
@@ -45,7 +45,7 @@ both_reclaim (f ∷ fs) more first later =
     let each = and_both (is_reclaiming f) (list_all is_reclaiming fs) first in
     ap (λ (q : Bool). q && list_all is_reclaiming (fs ++ more)) each.0 ∙ both_reclaim fs more each.1 later
 
-things_reclaim : (ys : List Thing) → list_all is_reclaiming (map Reclaimed ys) ≡ true
+pub things_reclaim : (ys : List Thing) → list_all is_reclaiming (map Reclaimed ys) ≡ true
 things_reclaim [] = refl
 things_reclaim (y ∷ ys) = things_reclaim ys
 

@@ -52,6 +52,7 @@ use Rattle.run_grows.specs.Given.ModelsNumbers.{things_of}
 use Rattle.run_grows.proofs.Given.ModelsRowSteps.{roles_after}
 use Rattle.run_grows.specs.Given.ScenesHeld.{Held}
 use Rattle.run_grows.specs.Given.ScenesScene.{Scene}
+use Rattle.run_grows.proofs.Needs.Steps.{IsNoOwn}
 
 -- It asks for no room.
 
@@ -122,12 +123,6 @@ gone_by known _ = []
 pub none_gone : (known : Known) (x : Changed) → TakesNone x → gone_by known x ≡ []
 none_gone known (changed.Took b) none = absurd none
 none_gone known _ none = refl
-
--- a block that nobody has made, and has not linked
-abbrev pub IsNoOwn : Role → Type 0
-IsNoOwn (role.OwnPair j) = ⊥
-IsNoOwn (role.OwnTable turn shape) = ⊥
-IsNoOwn _ = Unit {0}
 
 taken_reclaims : (r : Role) → IsNoOwn r → taken_by Row r ≡ map Reclaimed (things_of r)
 taken_reclaims role.Free own = refl

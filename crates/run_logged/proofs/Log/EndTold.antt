@@ -1,5 +1,5 @@
 -- What a step of the end of a map does: the block that it reclaims ends with the map, and nothing else is done.
-use Rattle.std.specs.Prelude.{◌≡◌, ◌≢◌, ◌<◌, ℕ, Bool, false, List, [], ◌∷◌, ◌++◌, Some, None, ◌⊎◌}
+use Rattle.std.specs.Prelude.{◌≡◌, ◌<◌, ℕ, Bool, false, List, [], ◌∷◌, ◌++◌, Some, None, ◌⊎◌}
 use Rattle.std.proofs.Common.{refl, ap, subst, sym, ◌∙◌, arith, inl, inr}
 use Rattle.std.proofs.lemmas.List.{append-nil, append_assoc}
 use Rattle.seize.specs.World.{times}
@@ -36,10 +36,7 @@ use Rattle.run_kept.proofs.Sheds.EndTells.{end_tells, nothing_done}
 use Rattle.run_shows.specs.Scenes.Ending.{EndingComesTo, EndingStepsFrom}
 use Rattle.run_shows.specs.Scenes.Held.{Held, IsAt}
 use Rattle.run_shows.specs.Scenes.Scene.{Scene, slot_of}
-
--- another block than the one of a list of one
-not_the_one : (x b : ℕ) → times x (b ∷ []) ≡ 0 → x ≢ b
-not_the_one x b none e = (let here = some_here x [] in let gone = ap (λ (y : ℕ). times x (y ∷ [])) e ∙ none in omega (arith, here, gone))
+use Rattle.run_shows.proofs.Given.FinishesEnds.Frames.{other_than as not_the_one}
 
 module _ (map : ℕ) where
   -- a pair, a table of the map, or its counter

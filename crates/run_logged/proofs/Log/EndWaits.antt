@@ -47,10 +47,7 @@ use Rattle.run_kept.proofs.Sheds.EndPast.{left_before, past_within, yet_carries,
 use Rattle.run_shows.specs.Scenes.Ending.{EndingComesTo, EndingStepsFrom}
 use Rattle.run_shows.specs.Scenes.Held.{Held, IsAt}
 use Rattle.run_shows.specs.Scenes.Scene.{Scene, slot_of}
-
-each_two : {X Y : Type 0} (g : X → Y) (a b : List X) → each_of g (a ++ b) ≡ each_of g a ++ each_of g b
-each_two g [] b = refl
-each_two {Y = Y} g (x ∷ a) b = ap (λ (l : List Y). g x ∷ l) (each_two g a b)
+use Rattle.run_shows.proofs.Given.General.{map_append as each_two}
 
 -- and of one table more
 one_waited : (map : ℕ) (ds : List Deferral) (t tables : ℕ) → waited_behind map ds t (suc tables) ≡ waited_behind map ds t tables ++ behind (table_of map (t + tables)) ds

@@ -35,9 +35,7 @@ use Rattle.run_logged.specs.Log.Roots.{AreTaken, FindsRoot, IsFirstFree, with_ro
 use Rattle.run_logged.proofs.Log.MakingAsks.{told_as, told_back}
 use Rattle.run_logged.proofs.Log.MakingTables.{HasAsked, IsFirstMaking, TableThen, begins_first, first_tables_then}
 use Rattle.run_shows.proofs.Scenes.Told.{as_step}
-
-abbrev pub bit : Bool → ℕ
-bit q = if q then 1 else 0
+use Rattle.run_executor.proofs.Given.MomentsWholeEnds.{one_if as bit}
 
 -- it has taken the first root that was free
 abbrev pub HasFound : {T : Type 0} → ℕ → (ℕ → Bool) → Mem T → NewMap → Type 0

@@ -161,7 +161,7 @@ module _ {K V : Type 0} (s : Scene K V) (i : ℕ) (b : Beginning K) where
             (subst (λ (x : Option (Work K V)). new_map_left (leads b1 here1).0 < making_left_of x) (sym was_under) less)
 
 -- the tables of a new map
-new_past : {K : Type 0} (hash : K → ℕ) (setting : Setting) (places : ℕ) (chart : Chart K) → IsNewChart hash setting places chart → chart.past ≡ (if places == 0 then 0 else 1)
+pub new_past : {K : Type 0} (hash : K → ℕ) (setting : Setting) (places : ℕ) (chart : Chart K) → IsNewChart hash setting places chart → chart.past ≡ (if places == 0 then 0 else 1)
 new_past {K} hash setting places chart (inl it) = ap (λ (c : Chart K). c.past) it.1 ∙ ap (λ (q : Bool). if q then 0 else 1) (sym (eq-eqb places 0 it.0))
 new_past {K} hash setting places chart (inr it) = ap (λ (c : Chart K). c.past) it.2 ∙ ap (λ (q : Bool). if q then 0 else 1) (sym (ne_eqb places 0 it.0))
 

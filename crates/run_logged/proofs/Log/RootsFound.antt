@@ -26,10 +26,11 @@ use Rattle.run_logged.specs.Log.Makings.{is_over, MakingCame, MakingRan}
 use Rattle.run_logged.specs.Log.Roots.{AreTaken, FindsRoot, MakingFinds}
 use Rattle.run_logged.specs.declared.logged.Logged.{Logged}
 use Rattle.run_logged.proofs.Log.MakingsRun.{making_of}
-use Rattle.run_logged.proofs.Log.MakingRoots.{bit, GoesOnWith, HasItsRoot, LeavesOthers, RootSoFar, RootThen, root_then}
+use Rattle.run_logged.proofs.Log.MakingRoots.{GoesOnWith, HasItsRoot, LeavesOthers, RootSoFar, RootThen, root_then}
 use Rattle.run_executor.specs.Executing.IsThere.{IsThere, work_of}
 use Rattle.run_executor.specs.Executing.Making.{MakesThere}
 use Rattle.run_shows.specs.Scenes.Scene.{Scene, slot_of}
+use Rattle.run_executor.proofs.Given.MomentsWholeEnds.{one_if as bit}
 
 module _ {K V S : Type 0} (same : K → K → Bool) (hash : K → ℕ) (mid new : Executor K V S) (s : Scene K V) (at : IsThere same hash mid s) (i : ℕ) (b : Beginning K) (here : s.makers i ≡ Some b) where
   abbrev m : Mem (Node K V)

@@ -11,10 +11,10 @@ use Rattle.run_shows.specs.declared.row.SlotUse.TheVariants as used
 use Rattle.run_shows.specs.declared.callers.TheConstants.{SLOTS}
 use Rattle.run_executor.specs.declared.worker.Work.{Work}
 use Rattle.run_executor.specs.declared.worker.Work.TheVariants as work
-use Rattle.run_shows.proofs.Scenes.NoCall.{none_of}
 use Rattle.run_executor.specs.Executing.IsThere.{HasRow, IsThere, IsUsedAs, call_in, ending_in, making_in, use_at, work_of}
 use Rattle.run_shows.specs.Scenes.Scene.{Scene}
 use Rattle.run_shows.proofs.Scenes.Rows.{never_rests}
+use Rattle.run_shows.proofs.Given.General.{none_mapped as none_of}
 
 none_mapped : {A B : Type 0} (f : A → B) (o : Option A) → o ≡ None → (b : B) → option_map f o ≡ Some b → ⊥
 none_mapped f None e b h = cc h

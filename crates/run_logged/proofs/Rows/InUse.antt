@@ -1,6 +1,6 @@
 -- Which slots are in use, by registrations and guards.
 use Rattle.std.specs.Prelude.{◌==◌, ◌||◌, not, map, if◌then◌else◌}
-use Rattle.std.proofs.Common.{◌≡◌, ℕ, ◌+◌, Bool, true, false, List, [], ◌∷◌, ◌++◌, refl, sym, ap, ◌∙◌, arith, eqb-true}
+use Rattle.std.proofs.Common.{◌≡◌, ℕ, ◌+◌, Bool, true, false, List, [], ◌∷◌, refl, sym, ap, ◌∙◌, arith, eqb-true}
 use Rattle.std.proofs.lemmas.Bool.{eq-eqb, ne_eqb}
 use Rattle.run_schedules.specs.declared.holders.NamedGuard.{NamedGuard}
 use Rattle.run_schedules.specs.declared.holders.NamedRegistration.{NamedRegistration}
@@ -10,6 +10,7 @@ use Rattle.run_schedules.specs.Schedules.Lists.{is_among}
 use Rattle.run_shows.specs.declared.row.SlotUse.{SlotUse}
 use Rattle.run_shows.specs.declared.row.SlotUse.TheVariants as used
 use Rattle.run_logged.specs.Rows.Rows.{used_as}
+use Rattle.run_waiting.proofs.Remains.Lists.{among_append as among_both}
 
 eqb_turned : (a b : ℕ) → (a == b) ≡ (b == a)
 eqb_turned a b = by (b == a) refl
@@ -17,14 +18,6 @@ eqb_turned a b = by (b == a) refl
     by : (q : Bool) → (b == a) ≡ q → (a == b) ≡ q
     by true k = eq-eqb a b (sym (eqb-true b a k))
     by false k = ne_eqb a b (λ is. (let c = eq-eqb b a (sym is) in cc (c, k)))
-
-among_both : (t : ℕ) (xs ys : List ℕ) → is_among t (xs ++ ys) ≡ (is_among t xs || is_among t ys)
-among_both t [] ys = refl
-among_both t (x ∷ xs) ys = by (t == x) (among_both t xs ys)
-  where
-    by : (b : Bool) → is_among t (xs ++ ys) ≡ (is_among t xs || is_among t ys) → (b || is_among t (xs ++ ys)) ≡ ((b || is_among t xs) || is_among t ys)
-    by true ih = refl
-    by false ih = ih
 
 among_registered : (t : ℕ) (registrations : List NamedRegistration) → is_among t (map (λ r. r.slot) registrations) ≡ has_registration t registrations
 among_registered t [] = refl

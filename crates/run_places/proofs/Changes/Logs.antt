@@ -1,5 +1,5 @@
 -- The moments of a run since an event: the last one is among them, and more come.
-use Rattle.std.specs.Prelude.{◌≡◌, ℕ, ◌==◌, nat_lt, ◌≤◌, suc, true, false, List, [], ◌∷◌, length, if◌then◌else◌}
+use Rattle.std.specs.Prelude.{◌≡◌, ℕ, ◌==◌, ◌≤◌, suc, true, List, [], ◌∷◌, length, if◌then◌else◌}
 use Rattle.std.proofs.Common.{refl, ap, subst, sym, arith, inl, inr}
 use Rattle.run_shows.specs.Given.SchedulesAfter.{moment, moments_from}
 use Rattle.run_shows.specs.Given.SchedulesEntry.{Entry}
@@ -7,14 +7,12 @@ use Rattle.run_shows.specs.Given.SchedulesLists.{OneOf}
 use Rattle.run_shows.specs.Given.SchedulesMoment.{Moment, start}
 use Rattle.run_shows.specs.Given.SchedulesTransition.{Past, further, past}
 use Rattle.run_places.specs.Changes.Histories.{IsPast}
+use Rattle.run_shows.proofs.Given.General.{less_false as not_before}
 
 pub each_of : {X : Type 0} (P Q : X → Type 0) (xs : List X) → ((x : X) → P x → Q x) → OneOf P xs → OneOf Q xs
 each_of P Q [] so one = one
 each_of P Q (x ∷ xs) so (inl here) = inl (so x here)
 each_of P Q (x ∷ xs) so (inr there) = inr (each_of P Q xs so there)
-
-not_before : (n begun : ℕ) → begun ≤ n → nat_lt n begun ≡ false
-not_before n begun l = grind (arith, l)
 
 module _ {K V : Type 0} where
   -- what comes next adds its moment

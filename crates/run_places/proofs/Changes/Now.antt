@@ -1,6 +1,6 @@
 -- What a map has now, the finite map of the moment has.
-use Rattle.std.specs.Prelude.{◌≡◌, ℕ, ◌<◌, Bool, true, false, ◌&&◌, length, Option, Some, None}
-use Rattle.std.proofs.Common.{refl, ap, sym, subst, ◌∙◌}
+use Rattle.std.specs.Prelude.{◌≡◌, ℕ, ◌<◌, Bool, true, ◌&&◌, length, Option, Some, None}
+use Rattle.std.proofs.Common.{ap, sym, subst, ◌∙◌}
 use Rattle.run_shows.specs.Given.SeizeWorld.{World}
 use Rattle.run_shows.specs.Given.TablesChunks.{is_incremental}
 use Rattle.run_shows.specs.Given.TablesDeclared.node.Node.{Node}
@@ -22,10 +22,7 @@ use Rattle.run_shows.proofs.Follows.Stored.{in_map_true}
 use Rattle.run_places.specs.Changes.Had.{Had, HadJust, HadThen}
 use Rattle.run_places.proofs.Changes.Found.{is_its, FoundIn, found}
 use Rattle.run_shows.specs.Scenes.Scene.{slot_of}
-
-pub both_true : (p q : Bool) → (p && q) ≡ true → (p ≡ true) × (q ≡ true)
-both_true true q e = (refl, e)
-both_true false q e = absurd (cc e)
+use Rattle.run_shows.proofs.Given.General.{both_true}
 
 module _ {K V : Type 0} (same : K → K → Bool) (map : ℕ) (number : ℕ → ℕ) (s : Standing K) (m : Moment K V) (known : Known) (w : World (Node K V)) (calls : ℕ → Option (UnderWay K V K))
     (lawful : AreLawful same s.hash) (each : Together V same s.hash same s.setting slot_of w s.chart s.blocks s.sights calls)

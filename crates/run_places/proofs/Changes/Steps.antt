@@ -27,7 +27,7 @@ use Rattle.run_shows.specs.Given.EffectsDeclared.acting.Acting.TheVariants as ac
 use Rattle.run_shows.specs.Follows.Shows.{Shows}
 use Rattle.run_shows.proofs.Follows.Called.{key_goes_on, room_goes_on, sweep_goes_on, counting_goes_on}
 use Rattle.run_shows.proofs.Follows.RowSteps.{row_step_shown}
-use Rattle.run_shows.proofs.Follows.Steps.{WentTo, went_to, made_so, is_sight, DidSo, LeadsThere, step_shown, one_of}
+use Rattle.run_shows.proofs.Follows.Steps.{WentTo, went_to, made_so, is_sight, DidSo, LeadsThere, step_shown}
 use Rattle.run_places.proofs.Hands.AskedOn.{asked_on}
 use Rattle.run_places.proofs.Hands.Asking.{which}
 use Rattle.run_places.proofs.Hands.RowSteps.{rows_hand_theirs}
@@ -47,6 +47,7 @@ use Rattle.run_shows.specs.Scenes.Held.{Held, IsAt}
 use Rattle.run_shows.specs.Scenes.Scene.{Scene, slot_of}
 use Rattle.run_shows.specs.Scenes.Stepping.{StepLeads, scene_after}
 use Rattle.run_shows.specs.Given.SchedulesTransition.{Past}
+use Rattle.run_shows.proofs.Given.General.{same_some as one_of}
 
 module _ {K V : Type 0} (same : K → K → Bool) (hash : ℕ → K → ℕ) (name : ℕ → List ℕ) (m : Moment K V) (known : Known) (s : Scene K V) (old new : Held K V) (at : IsAt same hash old s)
     (whole : ShowsWhole same name m known s) (shown : Shows same name m known s) (map i : ℕ) (u : UnderWay K V K) (here : s.calls map i ≡ Some u) (said : Progress (Node K V))

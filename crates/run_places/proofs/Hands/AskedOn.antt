@@ -13,13 +13,14 @@ use Rattle.run_shows.specs.Given.EffectsKnown.{Known}
 use Rattle.run_shows.specs.Given.EffectsDeclared.acting.Acting.TheVariants as acts
 use Rattle.run_shows.specs.Given.FinishesMaps.{Standing}
 use Rattle.run_shows.specs.Follows.Shows.{Shows}
-use Rattle.run_shows.proofs.Follows.Steps.{WentTo, went_to, LeadsThere, one_of}
+use Rattle.run_shows.proofs.Follows.Steps.{WentTo, went_to, LeadsThere}
 use Rattle.run_places.specs.Hands.Asked.{IsAsked, ShowsAsked}
 use Rattle.run_places.proofs.Hands.Asking.{asked_kept, own_asked, which}
 use Rattle.run_places.proofs.Hands.Replacing.{all_settle, calls_after, replaces_none}
 use Rattle.run_shows.specs.Scenes.Held.{Held, IsAt}
 use Rattle.run_shows.specs.Scenes.Scene.{Scene}
 use Rattle.run_shows.specs.Scenes.Stepping.{StepLeads, scene_after}
+use Rattle.run_shows.proofs.Given.General.{same_some as one_of}
 
 module _ {K V : Type 0} (same : K → K → Bool) (hash : ℕ → K → ℕ) (name : ℕ → List ℕ) (m : Moment K V) (known : Known) (s : Scene K V) (old new : Held K V) (at : IsAt same hash old s)
     (shown : Shows same name m known s) (map i : ℕ) (u : UnderWay K V K) (here : s.calls map i ≡ Some u) (told : Progress (Node K V)) (leads : StepLeads same hash i told s old new)

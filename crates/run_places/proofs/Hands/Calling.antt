@@ -19,7 +19,6 @@ use Rattle.run_shows.specs.Follows.Calling.{NoneNamed, come_to}
 use Rattle.run_shows.specs.Follows.Shows.{Shows}
 use Rattle.run_shows.proofs.Follows.Calling.{is_same_refl, is_same_is, apart_back, found_passes, found_kept, begins_with, come, come_of_same, come_with}
 use Rattle.run_shows.proofs.Follows.Calls.{changed, found}
-use Rattle.run_shows.proofs.Follows.Steps.{one_of}
 use Rattle.run_places.specs.Hands.Asked.{AreReplies, AsksThere, IsAskedOn, IsAskedAs, IsAsked, ShowsAsked}
 use Rattle.run_places.specs.Hands.Calling.{IsBegunFor, AsksJust, CallsBeginFor, CallsComeToSo}
 use Rattle.run_places.proofs.Hands.Asking.{which}
@@ -27,6 +26,7 @@ use Rattle.run_places.proofs.Hands.RowsOn.{rows_with}
 use Rattle.run_places.specs.Hands.Rows.{ReclaimsNone, HoldsOne, KeepsOne}
 use Rattle.run_places.proofs.Hands.HandsOn.{hands_with}
 use Rattle.run_shows.specs.Scenes.Scene.{Scene, slot_of}
+use Rattle.run_shows.proofs.Given.General.{same_some as one_of}
 
 module _ {K V : Type 0} (number : ℕ → ℕ) (stored : ℕ) (known : Known) where
   -- a call that begins was told nothing

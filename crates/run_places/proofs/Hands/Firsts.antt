@@ -37,10 +37,11 @@ use Rattle.run_shows.proofs.Given.SeizeMovesMoves.Tries.{first_pending}
 use Rattle.run_shows.proofs.Given.SeizeRulePoints.Deferred.{next_left}
 use Rattle.run_shows.proofs.Given.SeizeRulePoints.Known.{FitsAt, bare}
 use Rattle.run_shows.proofs.Given.SeizeRuleRows.Known.{FitsLeave, FitsDefer, FitsRow}
-use Rattle.run_shows.proofs.Given.SeizeMemoryWords.Named.{block_there, link, link-block}
+use Rattle.run_shows.proofs.Given.SeizeMemoryWords.Named.{block_there}
 use Rattle.run_shows.proofs.Given.SeizeMemoryWords.View.{view}
 use Rattle.run_shows.proofs.Given.SeizeRuleWorld.Kept.{row_may}
 use Rattle.run_shows.proofs.Given.SeizeAloneHistories.Reached.{Reached}
+use Rattle.run_shows.proofs.Given.SeizeRulePoints.Retire.{of_link as named}
 
 -- a name of no such word of this block
 abbrev pub IsApart : ℕ → At → Type 0
@@ -111,10 +112,6 @@ module _ {T : Type 0} (b : ℕ) where
   pub plan_apart : {R : Type 0} (m : Mem T) (plan : Plan T R) (m2 : Mem T) (end : R) → IsPlanApart plan → May Can Took value_at m plan → Steps Took value_at m plan m2 end → SameFirst m m2
   plan_apart m (Turn rest) m2 end q may s = ap (λ (k : Mem T). word_at k (name.Entry b FIRST)) s.0
   plan_apart m (Do op rest) m2 end q may s = ap (λ (k : Mem T). word_at k (name.Entry b FIRST)) s.1.1 ∙ op_apart m op s.0 q may.0
-
--- the word of a block names it
-named : (w d : ℕ) → w ≡ link d → w / 2048 ≡ d
-named w d e = ap (λ k. k / 2048) e ∙ link-block d
 
 module _ {T : Type 0} (defers : T → Option ℕ) {size : ℕ} (w : World T) (r : Reached defers size w) (i : ℕ) (b : ℕ) (not_pending : r.good.state.life b ≡ IsPending i → ⊥)
     (not_doomed : r.good.state.life b ≡ IsDoomed i → ⊥) where

@@ -177,7 +177,7 @@ module _ {T : Type 0} where
   settle_aside defers c at.Over other = tt
 
 -- whether it is about to write into a block which batch it is of
-is_batches : (p : Settling) → ((block : ℕ) × (p ≡ at.Batches block)) ⊎ ((block : ℕ) → p ≡ at.Batches block → ⊥)
+pub is_batches : (p : Settling) → ((block : ℕ) × (p ≡ at.Batches block)) ⊎ ((block : ℕ) → p ≡ at.Batches block → ⊥)
 is_batches (at.Batches block) = inl (block, refl)
 is_batches _ = inr (λ block e. cc e)
 

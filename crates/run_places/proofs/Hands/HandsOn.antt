@@ -15,10 +15,10 @@ use Rattle.run_shows.specs.Given.FinishesMaps.{Standing}
 use Rattle.run_shows.specs.Follows.Shows.{Shows}
 use Rattle.run_shows.proofs.Follows.Going.{ComesToBe, ShowsOn}
 use Rattle.run_shows.proofs.Follows.Onward.{IsOfMap}
-use Rattle.run_shows.proofs.Follows.Steps.{one_of}
 use Rattle.run_places.specs.Hands.Hands.{IsInUse, ShowsHands}
 use Rattle.run_shows.specs.Scenes.Held.{Held, IsAt}
 use Rattle.run_shows.specs.Scenes.Scene.{Scene}
+use Rattle.run_shows.proofs.Given.General.{same_some as one_of}
 
 pub used_as : (h h2 : Hand) → h2 ≡ h → IsInUse h → IsInUse h2
 used_as h h2 e used = subst IsInUse (sym e) used

@@ -43,7 +43,8 @@ use Rattle.run_places.proofs.Hands.Firsts.{plan_apart}
 use Rattle.run_places.proofs.Hands.Guarded.{step_keeps_one, begin_keeps_one, there_is}
 use Rattle.run_places.proofs.Hands.Settling.{KnownAt, GoesSo, goes_aside}
 use Rattle.run_places.proofs.Hands.Summed.{sums_aside}
-use Rattle.run_places.proofs.Hands.Taking.{IsAtTaking, IsToTake}
+use Rattle.run_places.proofs.Hands.Taking.{IsToTake}
+use Rattle.run_shows.proofs.Others.RowGives.{IsTakes as IsAtTaking}
 
 -- it stands where it adds up, or elsewhere
 adds_up : (p : Settling) → ((pushed : ℕ) × (p ≡ at.Sums pushed)) ⊎ ((pushed : ℕ) → p ≡ at.Sums pushed → ⊥)

@@ -34,11 +34,7 @@ use Rattle.run_shows.specs.Given.CallersTogether.{CameAbout, HandsOver, IsOneSte
 use Rattle.run_shows.proofs.Given.CallersTogether.Came.{came_reached, came_next}
 use Rattle.run_shows.specs.Follows.Steps.{TakesNone}
 use Rattle.run_shows.proofs.Follows.Operations.{LeavesBy}
-
--- the block that it reclaims next is to be taken away
-abbrev pub IsAtTaking : Settling → Type 0
-IsAtTaking (at.Takes next) = Unit {0}
-IsAtTaking _ = ⊥
+use Rattle.run_shows.proofs.Others.RowGives.{IsTakes as IsAtTaking}
 
 abbrev pub LeavesTaking : Leaving → Type 0
 LeavesTaking (leaving.Settles settle) = IsAtTaking settle.stands

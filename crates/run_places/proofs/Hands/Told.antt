@@ -31,7 +31,6 @@ use Rattle.run_shows.specs.Follows.Calls.{IsCalled}
 use Rattle.run_shows.specs.Follows.Shows.{Shows}
 use Rattle.run_shows.proofs.Follows.Calling.{is_same_refl, replied_same, told_with}
 use Rattle.run_shows.proofs.Follows.Calls.{changed, found}
-use Rattle.run_shows.proofs.Follows.Steps.{one_of}
 use Rattle.run_places.specs.Hands.Asked.{as_told, KnowsFirst, IsSameQuestion, IsQuestion, IsAskedOn, IsAskedAs, IsAsked, ShowsAsked}
 use Rattle.run_places.specs.Hands.Calling.{CallsTake}
 use Rattle.run_places.proofs.Hands.Asking.{which}
@@ -41,6 +40,7 @@ use Rattle.run_places.proofs.Hands.HandsOn.{hands_with}
 use Rattle.run_places.proofs.Hands.Takes.{asked_leaves, and_given, not_begun, not_first}
 use Rattle.run_shows.specs.Scenes.Held.{Held, IsAt}
 use Rattle.run_shows.specs.Scenes.Scene.{Scene, slot_of}
+use Rattle.run_shows.proofs.Given.General.{same_some as one_of}
 
 module _ {K V : Type 0} (same : K → K → Bool) (hash : ℕ → K → ℕ) (name : ℕ → List ℕ) (m : Moment K V) (known : Known) (s : Scene K V) (e : Held K V) (at_e : IsAt same hash e s)
     (shown : Shows same name m known s) (asked : ShowsAsked name shown.number m known s) (map i : ℕ) (standing : Standing K) (there : s.maps map ≡ Some standing)

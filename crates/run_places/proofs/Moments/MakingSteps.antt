@@ -31,7 +31,6 @@ use Rattle.run_shows.specs.Given.EffectsDeclared.role.Role.TheVariants as role
 use Rattle.run_shows.proofs.Follows.Alike.{AllStill, calm_still, put_here, put_elsewhere}
 use Rattle.run_shows.proofs.Follows.Onward.{IsOfMap}
 use Rattle.run_shows.proofs.Follows.Operations.{LeavesBy}
-use Rattle.run_shows.proofs.Follows.Steps.{one_of}
 use Rattle.run_places.specs.Hands.Hands.{IsInUse}
 use Rattle.run_places.specs.Hands.Rows.{ShowsRows}
 use Rattle.run_places.proofs.Hands.Others.{makings_go_aside}
@@ -47,11 +46,13 @@ use Rattle.run_places.proofs.Spots.Makings.{makings_leave_places}
 use Rattle.run_places.specs.Moments.Makings.{MakingsKeepWhole}
 use Rattle.run_places.specs.Moments.Whole.{ShowsWhole}
 use Rattle.run_places.proofs.Moments.Beside.{CameAsTable, StoodSo, StandsNew, IsBeside, hands_beside, asked_beside}
-use Rattle.run_places.proofs.Moments.Makings.{lasting_of, none_of_it, none_of_map, not_of_map, before_free, makings_keep_blocks}
+use Rattle.run_places.proofs.Moments.Makings.{none_of_it, none_of_map, not_of_map, before_free, makings_keep_blocks}
 use Rattle.run_places.proofs.Moments.OnSlots.{IsAlone, alone, still_alone, none_some, Keeps, same_roles}
 use Rattle.run_shows.specs.Scenes.Held.{Held, IsAt}
 use Rattle.run_shows.specs.Scenes.Making.{MakingLeads, MakingStepsFrom}
 use Rattle.run_shows.specs.Scenes.Scene.{Scene, slot_of}
+use Rattle.run_places.proofs.Spots.Unreclaimed.{of_map_lasts as lasting_of}
+use Rattle.run_shows.proofs.Given.General.{same_some as one_of}
 
 module _ {K V : Type 0} (same : K → K → Bool) (hash : ℕ → K → ℕ) (name : ℕ → List ℕ) (m : Moment K V) (known : Known) (s : Scene K V) (old new : Held K V) (at : IsAt same hash old s)
     (whole : ShowsWhole same name m known s) (i : ℕ) (b : Beginning K) (here : s.makers i ≡ Some b) (end : NewMap) (said : Advance Setting) (steps : MakingStepsFrom b.machine old new end said)

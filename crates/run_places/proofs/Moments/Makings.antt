@@ -48,20 +48,12 @@ use Rattle.run_shows.proofs.Others.Retired.{any_kept}
 use Rattle.run_places.specs.Spots.Unreclaimed.{is_unreclaimed, ShowsUnreclaimed}
 use Rattle.run_places.proofs.Spots.Calm.{put_back}
 use Rattle.run_places.proofs.Spots.Gone.{other_gone}
-use Rattle.run_places.proofs.Spots.Unreclaimed.{AsUnreclaimed, unreclaimed_same, linked_unreclaimed, and_both, table_is}
+use Rattle.run_places.proofs.Spots.Unreclaimed.{AsUnreclaimed, unreclaimed_same, linked_unreclaimed, table_is, of_map_lasts as lasting_of}
 use Rattle.run_places.specs.Moments.Makings.{MakingsKeepBlocks}
 use Rattle.run_shows.specs.Scenes.Held.{Held, IsAt}
 use Rattle.run_shows.specs.Scenes.Making.{MakingComesTo, MakingStepsFrom}
 use Rattle.run_shows.specs.Scenes.Scene.{Scene, slot_of}
-
--- what is of a map lasts
-pub lasting_of : (r : Role) → IsOfMap r → IsLasting r
-lasting_of role.Free is = is
-lasting_of (role.OwnPair j) is = is
-lasting_of (role.OwnTable turn shape) is = is
-lasting_of (role.Pair n) is = is
-lasting_of (role.Table t len) is = is
-lasting_of (role.Counter n) is = absurd is
+use Rattle.run_shows.proofs.Given.General.{both_true as and_both}
 
 -- of a map that has no table no block is one
 pub none_of_it : {K V : Type 0} (m : Moment K V) (known : Known) → ShowsUnreclaimed m known → (map : ℕ) → tables_of map m ≡ [] → (x len : ℕ) (t : TableId) → known.roles x ≡ role.Table t len → t.map ≡ map → ⊥

@@ -89,7 +89,7 @@ module _ (t : TableId) where
       by false rest = rest
 
 -- and a table at another stage is that table
-stage_same : (t : TableId) (stage : Stage) (u : TableThere) → (at_stage t stage u).table ≡ u.table
+pub stage_same : (t : TableId) (stage : Stage) (u : TableThere) → (at_stage t stage u).table ≡ u.table
 stage_same t stage u = by (same_table u.table t)
   where
     by : (q : Bool) → (if q then record u { stage = stage } else u).table ≡ u.table

@@ -36,7 +36,6 @@ use Rattle.run_shows.specs.declared.row.SlotRow.{SlotRow}
 use Rattle.run_shows.proofs.Follows.Alike.{AllStill, put_here, put_elsewhere}
 use Rattle.run_shows.proofs.Follows.Onward.{IsOfMap}
 use Rattle.run_shows.proofs.Follows.Operations.{LeavesBy, operated_leaves}
-use Rattle.run_shows.proofs.Follows.Steps.{one_of}
 use Rattle.run_shows.proofs.Follows.Told.{roomed_as_many}
 use Rattle.run_places.specs.Hands.Hands.{IsInUse}
 use Rattle.run_places.proofs.Hands.Others.{rows_begin_aside, rows_go_aside}
@@ -59,6 +58,7 @@ use Rattle.run_shows.specs.Scenes.Held.{Held, IsAt}
 use Rattle.run_shows.specs.Scenes.OnSlots.{HappensAt, RowBegins, RowSteps}
 use Rattle.run_shows.specs.Scenes.Rows.{request_of}
 use Rattle.run_shows.specs.Scenes.Scene.{IsOnSlot, Scene, slot_of}
+use Rattle.run_shows.proofs.Given.General.{same_some as one_of}
 
 -- a map that stands then stood so, with its tables in the same blocks
 pub stood_same : {K : Type 0} (o o2 : Option (Standing K)) → IsSameMap o o2 → (st : Standing K) → o2 ≡ Some st

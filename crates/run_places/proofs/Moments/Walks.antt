@@ -11,7 +11,6 @@ use Rattle.run_shows.specs.Given.EffectsKnown.{Known}
 use Rattle.run_shows.specs.Given.FinishesMachines.{machine_of}
 use Rattle.run_shows.specs.Given.FinishesMaps.{Standing, with_call}
 use Rattle.run_shows.specs.Follows.Calling.{NoneNamed}
-use Rattle.run_shows.proofs.Follows.Steps.{one_of}
 use Rattle.run_places.specs.Hands.Asked.{IsAsked, ShowsAsked}
 use Rattle.run_places.specs.Hands.Calling.{AsksJust}
 use Rattle.run_places.proofs.Hands.Asking.{which}
@@ -25,6 +24,7 @@ use Rattle.run_places.specs.Moments.Whole.{ShowsWhole}
 use Rattle.run_places.proofs.Moments.Calls.{calls_come_to_whole}
 use Rattle.run_shows.specs.Scenes.Replying.{unless_stopped}
 use Rattle.run_shows.specs.Scenes.Scene.{Scene}
+use Rattle.run_shows.proofs.Given.General.{same_some as one_of}
 
 -- a call goes on as another one, or is under way no more, and nothing else has changed
 module _ {K V : Type 0} (same : K → K → Bool) (name : ℕ → List ℕ) (m : Moment K V) (known : Known) (s : Scene K V) (whole : ShowsWhole same name m known s)

@@ -100,7 +100,7 @@ module _ {K V : Type 0} (of : ℕ) (number : ℕ → ℕ) where
   tables_out t (suc more) m k x is =
       all_out m.place Left (behind (table_of of t) m.deferred) (λ y e. cc e) k x (tables_out (suc t) more (with_effect None (Some of) (Taken (table_of of t)) m) k x is)
 
-abbrev one_if : Bool → ℕ
+abbrev pub one_if : Bool → ℕ
 one_if q = if q then 1 else 0
 
 -- where no place passes there is none
@@ -109,7 +109,7 @@ places_none test place zero none = refl
 places_none test place (suc n) none =
     (let here = ap (λ (q : Bool). one_if q) (none (suc n)) in let before = places_none test place n none in omega (arith, here, before))
 
-out_of : (of : ℕ) (p : Place) → (p ≡ InMap of → ⊥) → is_in_map of p ≡ false
+pub out_of : (of : ℕ) (p : Place) → (p ≡ InMap of → ⊥) → is_in_map of p ≡ false
 out_of of (InMap x) none = ne_eqb of x (λ e. none (ap InMap (sym e)))
 out_of of _ none = refl
 

@@ -1,5 +1,5 @@
 -- A step of a call that moves no pair and no table neither stores, nor copies, nor links: blocks of a map are those that they were.
-use Rattle.std.specs.Prelude.{◌&&◌, ◌≡◌, ℕ, ◌<◌, nat_lt, Bool, true, false, List, [], ◌∷◌, if◌then◌else◌}
+use Rattle.std.specs.Prelude.{◌&&◌, ◌≡◌, ℕ, ◌<◌, nat_lt, Bool, true, List, [], ◌∷◌}
 use Rattle.std.proofs.Common.{refl, sym, subst, ◌∙◌, inl, inr}
 use Rattle.std.proofs.lemmas.Bool.{cases_eq}
 use Rattle.run_shows.specs.Given.SeizeWordsDeclared.at.At.{At}
@@ -9,7 +9,7 @@ use Rattle.run_shows.specs.Given.TablesDeclared.node.Node.{Node}
 use Rattle.run_shows.specs.Given.TablesDeclared.setting.Setting.{Setting}
 use Rattle.run_shows.specs.Given.RunsDeclared.effect.Effect.{Effect}
 use Rattle.run_shows.specs.Given.RunsDeclared.effect.Effect.TheVariants.{Asked}
-use Rattle.run_shows.specs.Given.RunsDeclared.effect.Growth.TheVariants.{ABlock, ABucket}
+use Rattle.run_shows.specs.Given.RunsDeclared.effect.Growth.TheVariants.{ABlock}
 use Rattle.run_shows.specs.Given.SchedulesLists.{put}
 use Rattle.run_shows.specs.Given.EffectsDeclared.changed.Changed.{Changed}
 use Rattle.run_shows.specs.Given.EffectsDeclared.changed.Changed.TheVariants as changed
@@ -32,6 +32,7 @@ use Rattle.run_shows.proofs.Follows.Onward.{IsLasting, IsOfMap, KeepsRoles}
 use Rattle.run_shows.proofs.Follows.Operations.{LeavesBy}
 use Rattle.run_shows.proofs.Follows.Quiet.{written_still}
 use Rattle.run_shows.proofs.Follows.Told.{ArePairsOnce, IsQuiet, quiet_told}
+use Rattle.run_shows.proofs.Others.Leads.{roomed_calm}
 
 made_calm : (acting : Acting) (k : Kind) → AllCalm (Asked ABlock ∷ made_by acting k)
 made_calm acting kind.Pair = (refl, (refl, tt))
@@ -64,10 +65,6 @@ module _ {K V : Type 0} (same : K → K → Bool) (hash : K → ℕ) (setting : 
 
   abbrev Calm : Changed → Type 0
   Calm t = AllCalm (effects_of its known t)
-
-  roomed_calm : (q : Bool) → AllCalm (if q then [] else Asked ABucket ∷ [])
-  roomed_calm true = tt
-  roomed_calm false = (refl, tt)
 
   taken_calm : (r : Role) → (IsLasting r → ⊥) → AllCalm (taken_by its r)
   taken_calm role.Free none = tt

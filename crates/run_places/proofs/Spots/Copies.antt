@@ -13,12 +13,7 @@ use Rattle.run_shows.proofs.Given.RuleMoves.Writes.{put_in_here, put_in_one}
 use Rattle.run_places.specs.Spots.Spots.{ThePair, named_by, spot_in, LiesAt, IsCopiedTo}
 use Rattle.run_places.proofs.Spots.Names.{holds_is}
 use Rattle.run_places.proofs.Spots.Moves.{names_none, named_made}
-
-pub less_is : (a b : ℕ) → a < b → nat_lt a b ≡ true
-less_is a b l = grind (arith, l)
-
-not_less : (a b : ℕ) → b ≤ a → nat_lt a b ≡ false
-not_less a b l = grind (arith, l)
+use Rattle.run_shows.proofs.Given.General.{less_false as not_less, less_true as less_is}
 
 -- a copy leads forward, and one that comes late leaves the pair where it is
 pub later_is : (s t : Spot) → s.turn < t.turn → later s t ≡ t

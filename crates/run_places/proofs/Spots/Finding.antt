@@ -47,11 +47,12 @@ use Rattle.run_places.specs.Spots.Placed.{FindPlaces}
 use Rattle.run_places.specs.Spots.Spots.{ThePair, named_by, spot_in, LiesAt, ShowsSpots}
 use Rattle.run_places.specs.Spots.Unreclaimed.{is_unreclaimed, ShowsUnreclaimed}
 use Rattle.run_places.proofs.Spots.Born.{late_born}
-use Rattle.run_places.proofs.Spots.Copies.{less_is, copied_from_root}
+use Rattle.run_places.proofs.Spots.Copies.{copied_from_root}
 use Rattle.run_places.proofs.Spots.Done.{DidBy, DidMoved}
 use Rattle.run_places.proofs.Spots.Stills.{still_spot}
 use Rattle.run_places.proofs.Spots.Taken.{spot_same, no_pair_there}
-use Rattle.run_places.proofs.Spots.Unreclaimed.{any_either, or_right, and_both, table_is}
+use Rattle.run_places.proofs.Spots.Unreclaimed.{any_either, table_is}
+use Rattle.run_shows.proofs.Given.General.{both_true as and_both, or_second as or_right, less_true as less_is}
 
 -- such effects find nothing there
 pub calm_finds : {K V : Type 0} (map : ℕ) (m : Moment K V) (effects : List Effect) → AllCalm effects → FindPlaces map m effects

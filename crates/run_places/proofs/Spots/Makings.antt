@@ -34,7 +34,6 @@ use Rattle.run_shows.specs.Given.EffectsDeclared.role.Role.{Role}
 use Rattle.run_shows.specs.Given.EffectsDeclared.role.Role.TheVariants as role
 use Rattle.run_shows.proofs.Follows.Alike.{put_here, put_elsewhere}
 use Rattle.run_shows.proofs.Follows.Operations.{LeavesBy}
-use Rattle.run_shows.proofs.Follows.Steps.{one_of}
 use Rattle.run_shows.proofs.Follows.Writes.{nothing_free}
 use Rattle.run_shows.specs.Others.Makings.{making_after}
 use Rattle.run_shows.proofs.Others.MakingPlans.{TellsMaking}
@@ -50,6 +49,7 @@ use Rattle.run_places.proofs.Spots.Stays.{WerePairs, places_stay}
 use Rattle.run_shows.specs.Scenes.Held.{Held}
 use Rattle.run_shows.specs.Scenes.Making.{MakingComesTo}
 use Rattle.run_shows.specs.Scenes.Scene.{Scene}
+use Rattle.run_shows.proofs.Given.General.{same_some as one_of}
 
 -- a block becomes no pair
 pub put_pairs : (known : Known) (x : ℕ) (r : Role) → ((n : ℕ) → r ≡ role.Pair n → ⊥) → WerePairs known (with_role x r known)

@@ -43,7 +43,6 @@ use Rattle.run_shows.proofs.Follows.Nowhere.{names_stay, went_nowhere}
 use Rattle.run_shows.proofs.Follows.Onward.{IsOfMap}
 use Rattle.run_shows.proofs.Follows.Operations.{LeavesBy, Operated, operated, operated_leaves, seen_write, told_write}
 use Rattle.run_shows.proofs.Follows.Rows.{one_step_leaves}
-use Rattle.run_shows.proofs.Follows.Steps.{one_of}
 use Rattle.run_places.specs.Spots.Deferred.{FindsNumbers, CallsLeaveOutside}
 use Rattle.run_places.specs.Spots.Placed.{FindPlaces, CallsFindPlaces}
 use Rattle.run_places.specs.Spots.Spots.{ShowsSpots, ShowsPlaces}
@@ -66,6 +65,7 @@ use Rattle.run_shows.proofs.Scenes.May.{may_step}
 use Rattle.run_shows.specs.Scenes.Held.{Held, IsAt}
 use Rattle.run_shows.specs.Scenes.Scene.{Scene, slot_of}
 use Rattle.run_shows.specs.Scenes.Stepping.{StepLeads, StepsFrom, scene_after}
+use Rattle.run_shows.proofs.Given.General.{same_some as one_of}
 
 -- a pair that is in one map is in no other
 in_one_map : (a b : ℕ) (p : Place) → a ≢ b → is_in_map a p ≡ true → is_in_map b p ≡ false

@@ -15,7 +15,7 @@ use Rattle.run_shows.specs.Follows.Maps.{ShowsMap}
 use Rattle.run_shows.proofs.Follows.Stored.{in_map_true}
 use Rattle.run_places.specs.Spots.Spots.{ThePair, named_by, spot_in, LiesAt}
 use Rattle.run_places.proofs.Spots.Placed.{lies_named}
-use Rattle.run_places.proofs.Spots.Unreclaimed.{and_both}
+use Rattle.run_shows.proofs.Given.General.{or_second, both_true as and_both}
 
 any_none : {X : Type 0} (p : X → Bool) → ((x : X) → p x ≡ false) → (xs : List X) → list_any p xs ≡ false
 any_none p none [] = refl
@@ -30,10 +30,6 @@ spot_from s t e = let two = and_both (s.turn == t.turn) (s.place == t.place) e i
   where
     number_is : (a b : ℕ) → (a == b) ≡ true → a ≡ b
     number_is a b e = grind (arith, e)
-
-or_second : (a b : Bool) → b ≡ true → (a || b) ≡ true
-or_second true b e = refl
-or_second false b e = e
 
 -- one of so many numbers passes a test
 pub number_among : (test : ℕ → Bool) (first many n : ℕ) → first ≤ n → n < first + many → test n ≡ true → list_any test (numbers_from first many) ≡ true

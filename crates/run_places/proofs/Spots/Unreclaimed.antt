@@ -16,6 +16,7 @@ use Rattle.run_shows.specs.Given.EffectsDeclared.role.Role.TheVariants as role
 use Rattle.run_shows.proofs.Follows.Alike.{put_here, put_elsewhere}
 use Rattle.run_shows.proofs.Follows.Onward.{IsLasting, IsOfMap, KeepsRoles}
 use Rattle.run_places.specs.Spots.Unreclaimed.{is_unreclaimed, ShowsUnreclaimed}
+use Rattle.run_shows.proofs.Given.General.{both_true as and_both, or_second as or_right, or_first as or_left}
 
 -- blocks of maps are those that they were, and stay those
 abbrev pub WereOfMaps : Known → Known → Type 0
@@ -24,7 +25,7 @@ WereOfMaps known known2 = (b : ℕ) → IsOfMap (known2.roles b) → known2.role
 abbrev pub StayOfMaps : Known → Known → Type 0
 StayOfMaps known known2 = (b : ℕ) → IsOfMap (known.roles b) → known2.roles b ≡ known.roles b
 
-of_map_lasts : (r : Role) → IsOfMap r → IsLasting r
+pub of_map_lasts : (r : Role) → IsOfMap r → IsLasting r
 of_map_lasts (role.Pair n) of = tt
 of_map_lasts (role.Table t len) of = tt
 of_map_lasts role.Free of = absurd of
@@ -99,18 +100,6 @@ module _ {K V : Type 0} where
 or_end : (a b : Bool) → (a || b) ≡ true → (a ≡ true) ⊎ (b ≡ true)
 or_end true b e = inl refl
 or_end false b e = inr e
-
-pub or_right : (a b : Bool) → b ≡ true → (a || b) ≡ true
-or_right true b e = refl
-or_right false b e = e
-
-or_left : (a b : Bool) → a ≡ true → (a || b) ≡ true
-or_left true b e = refl
-or_left false b e = absurd (cc e)
-
-pub and_both : (a b : Bool) → (a && b) ≡ true → (a ≡ true) × (b ≡ true)
-and_both true b e = (refl, e)
-and_both false b e = absurd (cc e)
 
 any_before : {X : Type 0} (p : X → Bool) (xs : List X) (x : X) → list_any p xs ≡ true → list_any p (xs ++ x ∷ []) ≡ true
 any_before p [] x e = absurd (cc e)

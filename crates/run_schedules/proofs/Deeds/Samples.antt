@@ -3,7 +3,7 @@ mod Maps
 mod Slots
 mod Swept
 use Rattle.std.specs.Prelude.{nat_eq}
-use Rattle.std.proofs.Common.{◌≡◌, ℕ, true, false, List, [], ◌∷◌, ◌⊎◌, inl, inr, refl, Some, None}
+use Rattle.std.proofs.Common.{◌≡◌, ℕ, false, List, [], ◌∷◌, inl, inr, refl}
 use Rattle.map_tables.specs.declared.resize_mode.ResizeMode.TheVariants.{Incremental}
 use Rattle.run_schedules.specs.declared.call.Response.{Response}
 use Rattle.run_schedules.specs.declared.call.Response.TheVariants as answer
@@ -19,26 +19,17 @@ use Rattle.run_schedules.specs.declared.outcome.Outcome.TheVariants.{Done, Goes,
 use Rattle.run_schedules.specs.Schedules.Sequential.{Meaning, Answers, Leaves, Puts, Takes, Shift, ComesIn}
 use Rattle.run_schedules.specs.Deeds.Deeds.{Deed, Begins, Steps, Leaves as LeavesSlot, Opens, Shuts, MapComes, Entry}
 use Rattle.run_schedules.specs.Deeds.History.{IsLinearizable, IsProtected, answers_of}
-
--- neither of two is so
-pub either : {A B : Type 0} → (A → ⊥) → (B → ⊥) → A ⊎ B → ⊥
-either f g (inl a) = f a
-either f g (inr b) = g b
+use Rattle.run_schedules.proofs.Schedules.Samples.Words.{owes_one as owes_none}
+use Rattle.seize_words.proofs.General.{either, true_not_false as yes_no}
 
 pub never : ⊥ → ⊥
 never h = h
-
-pub yes_no : true ≡ false → ⊥
-yes_no h = cc
 
 pub one_none : ◌≡◌ {A = ℕ} 1 0 → ⊥
 one_none h = cc
 
 comes_in : (n : ℕ) → ◌≡◌ {A = List Shift} (ComesIn n ∷ []) [] → ⊥
 comes_in n h = cc
-
-owes_none : (a : Response ℕ) → Some a ≡ None → ⊥
-owes_none a h = cc
 
 absent_found : (n : ℕ) → ◌≡◌ {A = Meaning ℕ} (Answers answer.Absent Leaves) (Answers (answer.Found n) Leaves) → ⊥
 absent_found n h = cc

@@ -1,6 +1,6 @@
 -- Where a call begins, is told a reply, or has come to an outcome, nothing else has changed.
 use Rattle.std.specs.Prelude.{◌≡◌, ◌≢◌, ℕ, ◌+◌, ◌==◌, Bool, true, false, cond, not, ◌&&◌, List, [], ◌∷◌, length, filter, find, map, Option, Some, if◌then◌else◌, ◌⊎◌}
-use Rattle.std.proofs.Common.{refl, ap, sym, subst, ◌∙◌, arith, inl, inr}
+use Rattle.std.proofs.Common.{refl, ap, sym, subst, ◌∙◌, inl, inr}
 use Rattle.std.proofs.lemmas.Bool.{eq-eqb, cases_eq}
 use Rattle.seize.specs.World.{with_at}
 use Rattle.run_effects.specs.Given.RunsSame.{is_same}
@@ -29,19 +29,13 @@ use Rattle.run_shows.proofs.Follows.Called.{some_is, called_as, key_called, swee
 use Rattle.run_shows.proofs.Follows.Calls.{IsOfSame, CalledOn, changed, of_same, found, was_there}
 use Rattle.run_shows.proofs.Follows.Onward.{tables_same, pairs_same, blocks_same, map_on}
 use Rattle.run_shows.specs.Scenes.Scene.{Scene, slot_of}
+use Rattle.seize_words.proofs.General.{both_true as both, equal_so as number_is}
 
 -- names
 
 pub is_same_refl : (l : List ℕ) → is_same l l ≡ true
 is_same_refl [] = refl
 is_same_refl (a ∷ l) = ap (λ q. q && is_same l l) (eq-eqb a a refl) ∙ is_same_refl l
-
-both : (p q : Bool) → (p && q) ≡ true → (p ≡ true) × (q ≡ true)
-both true q e = (refl, e)
-both false q e = absurd (cc e)
-
-number_is : (a b : ℕ) → (a == b) ≡ true → a ≡ b
-number_is a b e = grind (arith, e)
 
 pub is_same_is : (a b : List ℕ) → is_same a b ≡ true → a ≡ b
 is_same_is [] [] e = refl

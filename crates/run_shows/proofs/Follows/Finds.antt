@@ -21,18 +21,12 @@ use Rattle.run_effects.specs.Effects.Known.{Known}
 use Rattle.run_shows.specs.Follows.Finds.{MayStandAt, MayBeRoot, FindsMap}
 use Rattle.run_shows.specs.Follows.Maps.{table_of, shape_at, tables_to, ShowsMap}
 use Rattle.run_shows.proofs.Follows.Alike.{is_still, AllStill}
+use Rattle.seize_words.proofs.General.{or_second as or_last, or_first}
 
 -- one that passes is among more
 or_more : (a b c : Bool) → (b ≡ true → c ≡ true) → (a || b) ≡ true → (a || c) ≡ true
 or_more true b c more e = refl
 or_more false b c more e = more e
-
-or_last : (a b : Bool) → b ≡ true → (a || b) ≡ true
-or_last true b e = refl
-or_last false b e = e
-
-or_first : (a b : Bool) → a ≡ true → (a || b) ≡ true
-or_first a b e = ap (λ z. z || b) e
 
 module _ {X : Type 0} (p : X → Bool) where
   any_first : (xs ys : List X) → list_any p xs ≡ true → list_any p (xs ++ ys) ≡ true

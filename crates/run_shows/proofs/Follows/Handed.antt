@@ -10,7 +10,7 @@ use Rattle.run_effects.specs.Given.RunsDeclared.effect.Thing.TheVariants.{APair,
 use Rattle.run_effects.specs.Given.SchedulesEntry.{acting}
 use Rattle.run_effects.specs.Given.SchedulesEffects.{at_stage, stored_by, with_effect, with_effects}
 use Rattle.run_effects.specs.Given.SchedulesLists.{put}
-use Rattle.run_effects.specs.Given.SchedulesMoment.{Place, Unborn, InMap, Out, Handed, Behind, Left, GivenBack, IsLinked, IsRetired, Stage, MapThere, TableThere, UnderWay, Moment}
+use Rattle.run_effects.specs.Given.SchedulesMoment.{Place, InMap, Handed, Behind, IsLinked, IsRetired, Stage, MapThere, TableThere, UnderWay, Moment}
 use Rattle.run_effects.specs.Given.SchedulesThings.{same_table}
 use Rattle.run_effects.specs.Given.SchedulesViews.{is_in_map, is_in_a_map, map_at}
 use Rattle.run_effects.specs.Given.RuleChart.{Chart}
@@ -23,16 +23,7 @@ use Rattle.run_shows.specs.Follows.Steps.{HandTheirs}
 use Rattle.run_shows.proofs.Follows.Alike.{AlikePairs, IsAlike, alike_same, calm_still, still_all, put_here, put_elsewhere}
 use Rattle.run_shows.proofs.Follows.Onward.{StaysBlocks, tables_same, pairs_same, pairs_on, map_on}
 use Rattle.run_shows.proofs.Follows.Rows.{HandsOn, IsStill, Puts, Retires}
-
--- what is in no map is in none of a number
-pub not_in : (a : ℕ) (p : Place) → is_in_a_map p ≡ false → is_in_map a p ≡ false
-not_in a (InMap b) e = absurd (cc e)
-not_in a Unborn e = refl
-not_in a Out e = refl
-not_in a Handed e = refl
-not_in a Behind e = refl
-not_in a Left e = refl
-not_in a GivenBack e = refl
+use Rattle.run_shows.proofs.Others.Outside.{not_in}
 
 -- what is handed over stores no pair
 hands_stored : {K V : Type 0} (o : Option (UnderWay K V)) (n : ℕ) (t : TableId) (x : Thing) (stored : List (K × V)) → (stored_by o (Deferred n t) stored ≡ stored) × (stored_by o (Retired x) stored ≡ stored)

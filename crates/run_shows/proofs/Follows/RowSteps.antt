@@ -31,11 +31,12 @@ use Rattle.run_shows.proofs.Follows.Handed.{hands_shown, hands_same, hands_alike
 use Rattle.run_shows.proofs.Follows.Onward.{tables_same, pairs_same, blocks_same, blocks_part, map_on}
 use Rattle.run_shows.proofs.Follows.Operations.{StaysThere, LeavesBy, Operated, operated_leaves}
 use Rattle.run_shows.proofs.Follows.Rows.{HandsOn, IsStill, KeepsBlock, RowLeaves, one_step_leaves, row_written}
-use Rattle.run_shows.proofs.Follows.Steps.{one_of, same_stood, same_gone, WentTo, went_to, made_so, calls_then, LeadsThere, DidSo, OfNoRow}
+use Rattle.run_shows.proofs.Follows.Steps.{same_stood, same_gone, WentTo, went_to, made_so, calls_then, LeadsThere, DidSo, OfNoRow}
 use Rattle.run_shows.proofs.Follows.Told.{roomed_as_many}
 use Rattle.run_shows.specs.Scenes.Held.{Held, IsAt}
 use Rattle.run_shows.specs.Scenes.Scene.{Scene, slot_of}
 use Rattle.run_shows.specs.Scenes.Stepping.{StepLeads, scene_after}
+use Rattle.seize_words.proofs.General.{same_some as one_of}
 
 module _ {K V : Type 0} (caller map : ℕ) (m : Moment K V) (known : Known) (w w2 : World (Node K V)) (shown : ShowsBlocks m known w) (leaves : RowLeaves w w2) where
   abbrev its : Acting

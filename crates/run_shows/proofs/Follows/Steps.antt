@@ -65,9 +65,7 @@ use Rattle.run_shows.proofs.Scenes.May.{may_step}
 use Rattle.run_shows.specs.Scenes.Held.{Held, IsAt}
 use Rattle.run_shows.specs.Scenes.Scene.{Scene, slot_of}
 use Rattle.run_shows.specs.Scenes.Stepping.{StepLeads, StepsFrom, scene_after}
-
-pub one_of : {X : Type 0} (x y : X) → ◌≡◌ {A = Option X} (Some x) (Some y) → x ≡ y
-one_of x y e = cc e
+use Rattle.seize_words.proofs.General.{same_some as one_of}
 
 -- a map of which fewer blocks may be looked at stands on as it was
 pub same_stood : {K : Type 0} (o o2 : Option (Standing K)) (st : Standing K) → o ≡ Some st → IsSameMap o o2 → (after : Standing K) × (o2 ≡ Some after) × StoodOn st after

@@ -10,7 +10,7 @@ use Rattle.run_effects.specs.Given.TablesDeclared.node.Node.TheVariants as node
 use Rattle.run_effects.specs.Given.TablesDeclared.setting.Setting.{Setting}
 use Rattle.run_effects.specs.Given.RunsDeclared.effect.Effect.{Effect}
 use Rattle.run_effects.specs.Given.RunsDeclared.effect.Effect.TheVariants.{Asked}
-use Rattle.run_effects.specs.Given.RunsDeclared.effect.Growth.TheVariants.{ABlock, ABucket}
+use Rattle.run_effects.specs.Given.RunsDeclared.effect.Growth.TheVariants.{ABucket}
 use Rattle.run_effects.specs.Given.SchedulesLists.{put}
 use Rattle.run_effects.specs.ReportingMemory.Changed.{kind_of}
 use Rattle.run_effects.specs.declared.changed.Changed.{Changed}
@@ -21,7 +21,7 @@ use Rattle.run_effects.specs.Tells.Tells.{KeepsNames}
 use Rattle.run_effects.specs.Given.RuleChart.{Chart}
 use Rattle.run_effects.specs.Given.RuleWords.{Blocks}
 use Rattle.run_effects.specs.Given.RuleInWorld.{IsMapIn, Went}
-use Rattle.run_effects.specs.Effects.Effects.{made_role, made_by, taken_by, effects_of, known_after}
+use Rattle.run_effects.specs.Effects.Effects.{made_role, taken_by, effects_of, known_after}
 use Rattle.run_effects.specs.Effects.Known.{Known, with_role}
 use Rattle.run_effects.specs.declared.acting.Acting.{Acting}
 use Rattle.run_effects.specs.declared.acting.Acting.TheVariants.{Call}
@@ -34,6 +34,7 @@ use Rattle.run_shows.proofs.Follows.Kept.{role_kept, not_own}
 use Rattle.run_shows.proofs.Follows.Onward.{IsLasting, IsOfMap, KeepsRoles}
 use Rattle.run_shows.proofs.Follows.Operations.{StaysThere, LeavesBy}
 use Rattle.run_shows.proofs.Follows.Quiet.{written_still}
+use Rattle.run_shows.proofs.Others.MadeBlocks.{not_pair as made_no_pair, still_made as made_still}
 
 -- no two blocks are one pair
 abbrev pub ArePairsOnce : (ℕ → Role) → Type 0
@@ -46,20 +47,10 @@ once_put roles x r none once b d n is is2 = once b d n (sym (put_elsewhere x r r
     apart : (y : ℕ) → put x r roles y ≡ role.Pair n → y ≢ x
     apart y at e = none n (sym (put_here x r roles y e) ∙ at)
 
-made_no_pair : (acting : Acting) (k : Kind) (n : ℕ) → made_role acting k ≡ role.Pair n → ⊥
-made_no_pair acting kind.Pair n e = cc e
-made_no_pair acting (kind.Table len limit turn) n e = cc e
-made_no_pair acting kind.Shards n e = cc e
-
 made_not_of : (acting : Acting) (k : Kind) → IsOfMap (made_role acting k) → ⊥
 made_not_of acting kind.Pair of = of
 made_not_of acting (kind.Table len limit turn) of = of
 made_not_of acting kind.Shards of = of
-
-made_still : (acting : Acting) (k : Kind) → AllStill (Asked ABlock ∷ made_by acting k)
-made_still acting kind.Pair = (refl, (refl, tt))
-made_still acting (kind.Table len limit turn) = (refl, (refl, tt))
-made_still acting kind.Shards = (refl, tt)
 
 -- room for slots makes no block another one
 pub roomed_as_many : (acting : Acting) (known : Known) (bucket : ℕ) (had : Bool)

@@ -15,7 +15,6 @@ use Rattle.many_maps.specs.Machines.{machine_of}
 use Rattle.run_effects.specs.Effects.Effects.{known_after}
 use Rattle.run_effects.specs.declared.acting.Acting.TheVariants as acts
 use Rattle.run_effects.specs.declared.role.Role.TheVariants.{Counter}
-use Rattle.run_shows.proofs.Follows.Steps.{one_of}
 use Rattle.run_shows.proofs.Follows.Operations.{Operated, operated}
 use Rattle.run_shows.specs.Others.Counters.{NotesCounters, BeginningsNoteCounters, CallsNoteCounters, RowsNoteCounters, EndingsNoteCounters}
 use Rattle.run_shows.specs.Others.Endings.{ending_after}
@@ -26,6 +25,7 @@ use Rattle.run_shows.specs.Scenes.Ending.{EndingComesTo, EndingStepsFrom}
 use Rattle.run_shows.specs.Scenes.Held.{IsAt}
 use Rattle.run_shows.specs.Scenes.Scene.{Scene, slot_of}
 use Rattle.run_shows.specs.Scenes.Stepping.{scene_after}
+use Rattle.seize_words.proofs.General.{same_some as one_of}
 
 pub beginnings_note_counters : (K V : Type 0) → BeginningsNoteCounters K V
 beginnings_note_counters K V known s notes i b none j d is made = elim (cases_eq j i) as (λ _. known.roles d.machine.setting.counter ≡ Counter d.map) [

@@ -41,14 +41,14 @@ use Rattle.run_shows.specs.Follows.Shows.{Shows}
 use Rattle.run_shows.specs.Follows.Steps.{TakesNone}
 use Rattle.run_shows.proofs.Follows.Alike.{AllStill, AllCalm}
 use Rattle.run_shows.proofs.Follows.Operations.{StaysThere, LeavesBy, operated, operated_leaves}
-use Rattle.run_shows.proofs.Follows.Quiet.{same_name}
+use Rattle.run_shows.proofs.Follows.Quiet.{same_name, DoneStill as DoesNothing}
 use Rattle.run_shows.proofs.Follows.Told.{roomed_as_many}
 use Rattle.run_shows.proofs.Follows.Writes.{nothing_free}
 use Rattle.run_shows.specs.Others.After.{ShowsAfter}
 use Rattle.run_shows.specs.Others.Endings.{ending_after, TellsNext, EndingsAreShown}
 use Rattle.run_shows.specs.Others.Gone.{EndsWith}
 use Rattle.run_shows.proofs.Others.EndWords.{NamesPair, root_leads, root_or_none, root_waits, frees_no_root}
-use Rattle.run_shows.proofs.Others.Leads.{same_parts, roomed_still, either_still, DoesNothing, word_says, calls_then, quiet, nothing, gone_quiet, either_calm, roomed_calm}
+use Rattle.run_shows.proofs.Others.Leads.{same_parts, roomed_still, either_still, word_says, calls_then, quiet, nothing, gone_quiet, either_calm, roomed_calm}
 use Rattle.run_shows.proofs.Others.Scenes.{pair_gone, table_gone}
 use Rattle.run_shows.proofs.Others.Stays.{StaysBlock, same_there, same_maps}
 use Rattle.run_shows.proofs.Scenes.May.{may_end}

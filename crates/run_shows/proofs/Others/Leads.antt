@@ -28,6 +28,7 @@ use Rattle.run_shows.proofs.Others.Quiet.{calls_none, stored_none, all_quiet, ca
 use Rattle.run_shows.proofs.Others.Scenes.{all_stay, one_put, still_gone}
 use Rattle.run_shows.proofs.Others.Stays.{StaysBlock}
 use Rattle.run_shows.specs.Scenes.Scene.{Scene}
+use Rattle.run_shows.proofs.Follows.Quiet.{DoneStill as DoesNothing}
 
 -- tables that are the same have one map and one turn
 pub same_parts : (t u : TableId) → same_table t u ≡ true → (t.map ≡ u.map) × (t.turn ≡ u.turn)
@@ -50,10 +51,6 @@ either_calm false = tt
 pub either_still : (q : Bool) → AllStill (if q then [] else [])
 either_still true = tt
 either_still false = tt
-
--- what does nothing, and copies nothing, by which as much is known
-abbrev pub DoesNothing : Known → List Effect → Known → Type 0
-DoesNothing known effects after = AllCalm effects × (after ≡ known)
 
 -- a word of a block says nothing, if it is none of a table, or goes on naming what it named
 pub word_says : (its : Acting) (known : Known) (field b : ℕ) (r : Role) (q : Bool) (was is : Role) → ((t : TableId) (len : ℕ) → r ≡ role.Table t len → q ≡ true)

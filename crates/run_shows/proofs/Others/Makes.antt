@@ -60,11 +60,10 @@ use Rattle.run_shows.specs.Follows.Shows.{Shows}
 use Rattle.run_shows.proofs.Follows.Alike.{AllStill, AreSame, IsAlike, put_here, put_elsewhere}
 use Rattle.run_shows.proofs.Follows.Onward.{IsLasting}
 use Rattle.run_shows.proofs.Follows.Operations.{LeavesBy, operated, operated_leaves}
-use Rattle.run_shows.proofs.Follows.Steps.{one_of}
 use Rattle.run_shows.proofs.Follows.Writes.{Says, root_says, nothing_free, own_table}
 use Rattle.run_shows.specs.Others.After.{ShowsAfter}
 use Rattle.run_shows.specs.Others.Makings.{IsNew, WasNew, NotesCounter, making_after, MakingsAreShown}
-use Rattle.run_shows.proofs.Others.Leads.{DoesNothing, word_says, calls_then, nothing, made, gone_quiet}
+use Rattle.run_shows.proofs.Others.Leads.{word_says, calls_then, nothing, made, gone_quiet}
 use Rattle.run_shows.proofs.Others.MadeBlocks.{not_pair, still_made, made_has, lasting_there}
 use Rattle.run_shows.proofs.Others.MakingPlans.{KeepsValues, TellsMaking, DoneBy, making_tells, making_keeps, has_root, making_done}
 use Rattle.run_shows.proofs.Others.NewMap.{no_tables_shown, one_table_shown, new_shown}
@@ -76,6 +75,8 @@ use Rattle.run_shows.proofs.Scenes.May.{may_make}
 use Rattle.run_shows.specs.Scenes.Held.{Held, IsAt}
 use Rattle.run_shows.specs.Scenes.Making.{MakingComesTo, MakingStepsFrom}
 use Rattle.run_shows.specs.Scenes.Scene.{Scene, slot_of}
+use Rattle.run_shows.proofs.Follows.Quiet.{DoneStill as DoesNothing}
+use Rattle.seize_words.proofs.General.{same_some as one_of}
 
 module _ {K V : Type 0} (same : K → K → Bool) (hash : ℕ → K → ℕ) (name : ℕ → List ℕ) (m : Moment K V) (known : Known) (s : Scene K V) (old new : Held K V) (at : IsAt same hash old s)
     (shown : Shows same name m known s) (i : ℕ) (b : Beginning K) (here : s.makers i ≡ Some b) (end : NewMap) (said : Advance Setting) (steps : MakingStepsFrom b.machine old new end said)

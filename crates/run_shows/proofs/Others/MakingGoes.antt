@@ -30,7 +30,6 @@ use Rattle.run_shows.specs.Follows.Blocks.{HasRole}
 use Rattle.run_shows.specs.Follows.Shows.{Shows}
 use Rattle.run_shows.proofs.Follows.Alike.{AllStill, AreSame, calm_still, put_here}
 use Rattle.run_shows.proofs.Follows.Operations.{LeavesBy, Operated, operated}
-use Rattle.run_shows.proofs.Follows.Steps.{one_of}
 use Rattle.run_shows.specs.Others.Counters.{NotesCounters, MakingsNoteCounters}
 use Rattle.run_shows.specs.Others.Makings.{IsNew, NotesCounter, making_after, NewMapsStay}
 use Rattle.run_shows.proofs.Others.Leads.{word_says}
@@ -43,6 +42,7 @@ use Rattle.run_shows.proofs.Scenes.May.{may_make}
 use Rattle.run_shows.specs.Scenes.Held.{Held, IsAt}
 use Rattle.run_shows.specs.Scenes.Making.{MakingComesTo, MakingStepsFrom}
 use Rattle.run_shows.specs.Scenes.Scene.{Scene, slot_of}
+use Rattle.seize_words.proofs.General.{same_some as one_of}
 
 -- a map is as new where no pair and no table has moved
 new_stays : {K V : Type 0} (map : ℕ) (setting : Setting) (m v : Moment K V) → AreSame m v → IsNew map setting m → IsNew map setting v

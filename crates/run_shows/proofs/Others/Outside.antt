@@ -15,16 +15,12 @@ use Rattle.run_shows.specs.Follows.Maps.{table_of, shape_at, tables_to, ShowsMap
 use Rattle.run_shows.proofs.Follows.Alike.{AlikePairs, put_here, put_elsewhere}
 use Rattle.run_shows.proofs.Follows.Onward.{blocks_same, pairs_same, pairs_on}
 use Rattle.run_shows.specs.Others.Gone.{WaitOutside}
+use Rattle.run_shows.proofs.Follows.Stored.{in_map_true as in_map_of}
 
 -- what is in no map is not in this one
-not_in : (n : ℕ) (p : Place) → is_in_a_map p ≡ false → is_in_map n p ≡ false
+pub not_in : (n : ℕ) (p : Place) → is_in_a_map p ≡ false → is_in_map n p ≡ false
 not_in n (InMap k) e = absurd (cc e)
 not_in n _ e = refl
-
--- what is in this one has that place
-pub in_map_of : (n : ℕ) (p : Place) → is_in_map n p ≡ true → p ≡ InMap n
-in_map_of n (InMap k) e = let is : n ≡ k = grind (arith, e) in ap InMap (sym is)
-in_map_of n _ e = absurd (cc e)
 
 module _ {K V : Type 0} (n : ℕ) (m v : Moment K V) where
   -- a pair is where it was, or in this map neither before nor after

@@ -12,18 +12,8 @@ use Rattle.many_maps.specs.Maps.{Standing}
 use Rattle.run_effects.specs.Effects.Known.{Known}
 use Rattle.run_shows.specs.Follows.Maps.{table_of, shape_at, tables_to, ShowsMap}
 use Rattle.run_shows.proofs.Others.Leads.{same_parts}
-
-both : (p q : Bool) → (p && q) ≡ true → (p ≡ true) × (q ≡ true)
-both true q e = (refl, e)
-both false q e = absurd (cc e)
-
-one_of_two : (p q : Bool) → (p || q) ≡ true → (p ≡ true) ⊎ (q ≡ true)
-one_of_two true q e = inl refl
-one_of_two false q e = inr e
-
-or_last : (p q : Bool) → q ≡ true → (p || q) ≡ true
-or_last true q e = refl
-or_last false q e = e
+use Rattle.seize_acts.proofs.Acts.Begun.{or_either as one_of_two}
+use Rattle.seize_words.proofs.General.{both_true as both, or_second as or_last}
 
 module _ {X : Type 0} (p : X → Bool) where
   any_first : (x : X) (xs : List X) → p x ≡ true → list_any p (x ∷ xs) ≡ true

@@ -54,7 +54,7 @@ module _ {T : Type 0} where
   IsNoTakePlan (Do op rest) = IsNoTake op
 
 -- the stage at which a settling takes one
-abbrev IsTakes : Settling → Type 0
+abbrev pub IsTakes : Settling → Type 0
 IsTakes (settling.Takes next) = Unit {0}
 IsTakes _ = ⊥
 

@@ -24,12 +24,13 @@ use Rattle.run_shows.specs.Follows.Maps.{table_of, ShowsMap}
 use Rattle.run_shows.specs.Follows.Shows.{Shows}
 use Rattle.run_shows.proofs.Follows.Alike.{AreSame, IsAlike, alike_same, put_elsewhere}
 use Rattle.run_shows.proofs.Follows.Onward.{IsLasting, tables_same, pairs_same, blocks_same, blocks_part, map_on}
-use Rattle.run_shows.proofs.Follows.Steps.{one_of}
 use Rattle.run_shows.specs.Others.After.{ShowsAfter}
 use Rattle.run_shows.specs.Others.Gone.{WaitOutside}
-use Rattle.run_shows.proofs.Others.Outside.{in_map_of, pairs_outside, put_outside, all_outside, table_staged}
+use Rattle.run_shows.proofs.Others.Outside.{pairs_outside, put_outside, all_outside, table_staged}
 use Rattle.run_shows.proofs.Others.Stays.{StaysBlock, blocks_stay, blocks_but}
 use Rattle.run_shows.specs.Scenes.Scene.{Scene}
+use Rattle.run_shows.proofs.Follows.Stored.{in_map_true as in_map_of}
+use Rattle.seize_words.proofs.General.{same_some as one_of}
 
 -- a block is there no more that no map has which stands
 module _ {K V : Type 0} (same : K → K → Bool) (n : ℕ) (number : ℕ → ℕ) (st : Standing K) (v : Moment K V) (known after : Known) (w2 : World (Node K V))

@@ -32,7 +32,6 @@ use Rattle.run_finds.specs.Given.FollowsCalling.{come_to}
 use Rattle.run_finds.specs.Given.FollowsShows.{Shows}
 use Rattle.run_finds.proofs.Given.FollowsCalled.{called_as, some_is, sweep_called}
 use Rattle.run_finds.proofs.Given.FollowsCalling.{is_same_refl, come, begins_with, come_with}
-use Rattle.run_finds.proofs.Given.FollowsSteps.{one_of}
 use Rattle.run_finds.proofs.Given.HandsAsking.{which}
 use Rattle.run_finds.specs.Given.ChangesHad.{HadThen}
 use Rattle.run_finds.specs.Given.ChangesHistories.{IsWithin}
@@ -60,6 +59,7 @@ use Rattle.run_finds.specs.Given.ScenesScene.{Scene, slot_of}
 use Rattle.run_finds.specs.Given.SchedulesTransition.{Past, further}
 use Rattle.std.specs.List.{AllByRecursion}
 use Rattle.run_finds.proofs.Given.FollowsContents.{Lasts}
+use Rattle.run_finds.proofs.Given.General.{same_some as one_of}
 
 -- an event that is over adds its moment
 module _ {K V : Type 0} (same : K → K → Bool) (log : Past K V) (next : Moment K V) (c : CallThere K V) (before : c.begun ≤ log.entries) where

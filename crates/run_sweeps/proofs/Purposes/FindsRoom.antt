@@ -49,6 +49,7 @@ use Rattle.run_finds.specs.Given.ScenesHeld.{Held, IsAt}
 use Rattle.run_finds.specs.Given.ScenesScene.{Scene, slot_of}
 use Rattle.run_finds.specs.Given.ScenesStepping.{StepLeads, StepsFrom}
 use Rattle.run_finds.specs.Given.SchedulesTransition.{Past}
+use Rattle.run_finds.proofs.Given.General.{at_most_true as passes}
 
 module _ {X : Type 0} where
   one_left : (P : X → Type 0) (xs ys : List X) → OneOf P xs → OneOf P (xs ++ ys)
@@ -69,9 +70,6 @@ module _ {X : Type 0} where
       by : (z : Bool) → OneOf P (filter test xs) → OneOf P (cond z (x ∷ filter test xs) (filter test xs))
       by true one = inr one
       by false one = one
-
-passes : (a b : ℕ) → a ≤ b → nat_le a b ≡ true
-passes a b l = grind (arith, l)
 
 -- a table with this turn is among those of its map
 one_table : {K : Type 0} (of : ℕ) (c : Chart K) (stage : ℕ → Stage) (P : TableThere → Type 0) (past t : ℕ) → t < past

@@ -45,7 +45,6 @@ use Rattle.run_finds.proofs.Given.CallersSights.Seen.{map_seen}
 use Rattle.run_finds.proofs.Given.CallersTogether.Few.{claim_few}
 use Rattle.run_finds.proofs.Given.CallersTogether.Fits.{map_in_slot}
 use Rattle.run_finds.specs.Given.FinishesMaps.{Standing, IsSameMap}
-use Rattle.run_finds.proofs.Given.FollowsSteps.{one_of}
 use Rattle.run_sweeps.specs.Purposes.Keys.{KeysAt, AreKeyed}
 use Rattle.run_sweeps.specs.Purposes.Purposes.{KeysOf}
 use Rattle.run_finds.specs.Given.NamedMachines.{IsBefore}
@@ -53,6 +52,7 @@ use Rattle.run_sweeps.proofs.Purposes.KeysOn.{IsLow, StandsLow, keys_at_on}
 use Rattle.run_sweeps.proofs.Purposes.KeysSteps.{Leads, copies_lead, walk_leads}
 use Rattle.run_sweeps.proofs.Purposes.Lists.{all_on, all_both}
 use Rattle.run_sweeps.proofs.Purposes.Onward.{not_walking, not_retaining}
+use Rattle.run_finds.proofs.Given.General.{same_some as one_of}
 
 -- a map stands on with its setting, by one move at most, of this caller
 pub record StandsMoved {K : Type 0} (same : K → K → Bool) (caller : ℕ) (before st : Standing K) : Type 0 where

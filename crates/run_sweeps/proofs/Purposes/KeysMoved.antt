@@ -32,7 +32,7 @@ use Rattle.run_finds.proofs.Given.CallersTogether.At.{at_same}
 use Rattle.run_finds.specs.Given.EffectsKnown.{Known}
 use Rattle.run_finds.specs.Given.FinishesMaps.{Standing}
 use Rattle.run_finds.specs.Given.FollowsShows.{Shows}
-use Rattle.run_finds.proofs.Given.FollowsSteps.{WentTo, DidSo, one_of}
+use Rattle.run_finds.proofs.Given.FollowsSteps.{WentTo, DidSo}
 use Rattle.run_finds.specs.Given.MomentsWhole.{ShowsWhole}
 use Rattle.run_finds.specs.Given.EffectsDeclared.changed.Changed.TheVariants.{Nothing}
 use Rattle.run_finds.proofs.Given.ChangesSteps.{to}
@@ -47,6 +47,7 @@ use Rattle.run_finds.proofs.Given.ScenesTold.{as_step}
 use Rattle.run_finds.specs.Given.ScenesHeld.{Held, IsAt}
 use Rattle.run_finds.specs.Given.ScenesScene.{Scene, slot_of}
 use Rattle.run_finds.specs.Given.ScenesStepping.{StepLeads, StepsFrom}
+use Rattle.run_finds.proofs.Given.General.{same_some as one_of}
 
 module _ {K V : Type 0} (same : K → K → Bool) (hash : ℕ → K → ℕ) (name : ℕ → List ℕ) (m : Moment K V) (known : Known) (s : Scene K V) (old new : Held K V) (at : IsAt same hash old s)
     (whole : ShowsWhole same name m known s) (shown : Shows same name m known s) (of i : ℕ) (u : UnderWay K V K) (here : s.calls of i ≡ Some u) (said : Progress (Node K V))

@@ -9,6 +9,7 @@ use Rattle.run_finds.specs.Given.SchedulesLists.{OneOf, is_among}
 use Rattle.run_finds.specs.Given.SchedulesSweeps.{is_yes}
 use Rattle.run_finds.specs.Given.SchedulesViews.{reply_to}
 use Rattle.run_finds.specs.Given.LateCovers.{times}
+use Rattle.run_finds.proofs.Given.General.{both_true as parts, equal_itself as is_self, cons_same as cons_alike}
 
 module _ {X : Type 0} (P Q : X → Type 0) where
   pub all_on : ((n : X) → P n → Q n) → (xs : List X) → AllByRecursion P xs → AllByRecursion Q xs
@@ -48,9 +49,6 @@ each_among P (x ∷ xs) so = (
     more : (p : ℕ) → 0 < times p xs → 0 < times p (x ∷ xs)
     more p l = omega (arith, l)
 
-cons_alike : (a b : ℕ) (xs ys : List ℕ) → a ≡ b → xs ≡ ys → a ∷ xs ≡ b ∷ ys
-cons_alike a b xs ys e f = cc (e, f)
-
 -- what has the same numbers is the same list of numbers
 pub maps_alike : (f g : ℕ → ℕ) (xs : List ℕ) → AllByRecursion (λ n. f n ≡ g n) xs → map f xs ≡ map g xs
 maps_alike f g [] all = refl
@@ -58,9 +56,6 @@ maps_alike f g (x ∷ xs) all = cons_alike (f x) (g x) (map f xs) (map g xs) all
 
 is_other : (a b : ℕ) → a ≢ b → (a == b) ≡ false
 is_other a b ne = grind (arith, ne)
-
-is_self : (a : ℕ) → (a == a) ≡ true
-is_self a = grind arith
 
 none_step : (number : ℕ → ℕ) (p x : ℕ) (xs : List ℕ) → (number x ≡ number p → x ≡ p) → times p (x ∷ xs) ≡ 0 → (times p xs ≡ 0 → is_among (number p) (map number xs) ≡ false)
     → is_among (number p) (map number (x ∷ xs)) ≡ false
@@ -86,10 +81,6 @@ all_pass test passes (x ∷ xs) = both_pass (test x) (list_all test xs) (passes 
     both_pass false b e f = e
 
 module _ {X : Type 0} (test : X → Bool) (P : X → Type 0) where
-  parts : (a b : Bool) → (a && b) ≡ true → (a ≡ true) × (b ≡ true)
-  parts true b e = (refl, e)
-  parts false b e = absurd (cc e)
-
   -- one of them has it, and passes, as all do
   pub one_passes : (xs : List X) → list_all test xs ≡ true → OneOf P xs → (x : X) × P x × (test x ≡ true)
   one_passes [] all one = absurd one

@@ -110,7 +110,7 @@ first_needs p = by (nat_le (max (reserves.needed p.additional 0) 8) (2 ^ 48)) re
     by false few = tt
 
 -- the turn of one behind another
-next_of : (before turn : ℕ) → next_turn before ≡ Ok turn → turn ≡ suc before
+pub next_of : (before turn : ℕ) → next_turn before ≡ Ok turn → turn ≡ suc before
 next_of before turn e = by (nat_lt before (2 ^ 63)) e
   where
     by : (q : Bool) → ◌≡◌ {A = Result ℕ Fault} (if q then Ok (before + 1) else Err Capacity) (Ok turn) → turn ≡ suc before

@@ -13,7 +13,6 @@ use Rattle.run_finds.specs.Given.EffectsKnown.{Known}
 use Rattle.run_finds.specs.Given.FinishesMaps.{Standing}
 use Rattle.run_finds.specs.Given.OthersAfter.{ShowsAfter}
 use Rattle.run_finds.proofs.Given.MomentsBeside.{IsBeside, StoodSo, StandsNew}
-use Rattle.run_finds.proofs.Given.FollowsSteps.{one_of}
 use Rattle.run_finds.specs.Given.ChangesHad.{HadThen}
 use Rattle.run_finds.specs.Given.ChangesHistories.{since, IsWithin}
 use Rattle.run_finds.proofs.Given.ChangesHad.{had_on, had_one}
@@ -31,6 +30,7 @@ use Rattle.run_finds.specs.Given.ScenesScene.{Scene, slot_of}
 use Rattle.run_finds.specs.Given.SchedulesTransition.{Past}
 use Rattle.run_finds.proofs.Given.FollowsContents.{lasts_same}
 use Rattle.run_sweeps.proofs.Purposes.Stored.{numbers_last}
+use Rattle.run_finds.proofs.Given.General.{same_some as one_of}
 
 module _ {K V : Type 0} (same : K → K → Bool) (hash : ℕ → K → ℕ) (name : ℕ → List ℕ) (log : Past K V) (m m2 : Moment K V) (known known2 : Known) (s s2 : Scene K V) (old new : Held K V)
     (at : IsAt same hash old s) (at2 : IsAt same hash new s2) (purposes : ShowsPurposes same name log m known s) (after : ShowsAfter same name m known s purposes.shown m2 known2 s2)

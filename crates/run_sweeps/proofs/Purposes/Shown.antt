@@ -13,10 +13,10 @@ use Rattle.run_finds.specs.Given.SchedulesEffects.{due_for, call_by, with_effect
 use Rattle.run_finds.specs.Given.SchedulesMoment.{Stands, Going, Asking, Told, IsReady, UnderWay as CallThere, Moment}
 use Rattle.run_finds.specs.Given.SchedulesViews.{call_of}
 use Rattle.run_finds.proofs.Given.FollowsCalls.{changed_same, changed, found}
-use Rattle.run_finds.proofs.Given.FollowsSteps.{one_of}
 use Rattle.run_finds.proofs.Given.HandsReplacing.{calls_after}
 use Rattle.run_finds.proofs.Given.ChangesBegun.{effects_begun}
 use Rattle.run_sweeps.specs.Purposes.Kept.{TellsNone}
+use Rattle.run_finds.proofs.Given.General.{same_some as one_of}
 
 module _ {K V : Type 0} where
   due_shown : (its : Call K V) (c : CallThere K V) (old : Option ℕ) (new : ℕ) → (due_for its c old new).shown ≡ c.shown

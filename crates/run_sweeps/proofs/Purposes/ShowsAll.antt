@@ -39,7 +39,6 @@ use Rattle.run_finds.specs.Given.ChangesHad.{Had, HadJust, HadThen}
 use Rattle.run_finds.specs.Given.ChangesHistories.{since}
 use Rattle.run_finds.proofs.Given.ChangesFound.{FoundIn, found}
 use Rattle.run_finds.proofs.Given.ChangesLogs.{now_there}
-use Rattle.run_finds.proofs.Given.ChangesNow.{both_true}
 use Rattle.run_finds.specs.Given.MomentsWhole.{ShowsWhole}
 use Rattle.run_sweeps.specs.Purposes.Keys.{HasClass, HadAlways, of_class, KeysCame, KeysAt}
 use Rattle.run_sweeps.specs.Purposes.Purposes.{IsFor, TellsDone, HasSwept, ShowsPurposes}
@@ -54,6 +53,7 @@ use Rattle.run_finds.specs.Given.ScenesHeld.{Held, IsAt}
 use Rattle.run_finds.specs.Given.ScenesScene.{Scene, slot_of}
 use Rattle.run_finds.specs.Given.ScenesStepping.{StepLeads, StepsFrom}
 use Rattle.run_finds.specs.Given.SchedulesTransition.{Past}
+use Rattle.run_finds.proofs.Given.General.{both_true}
 
 -- the pair of a number has such a key
 key_some : {K V : Type 0} (same : K → K → Bool) (k : K) (o : Option (K × V)) → is_key same o k ≡ true → (p : K × V) × (o ≡ Some p) × (same p.0 k ≡ true)

@@ -30,7 +30,7 @@ use Rattle.run_finds.specs.Given.EffectsKnown.{Known}
 use Rattle.run_finds.specs.Given.EffectsDeclared.acting.Acting.TheVariants as acts
 use Rattle.run_finds.specs.Given.FollowsShows.{Shows}
 use Rattle.run_finds.proofs.Given.FollowsCalled.{key_goes_on, room_goes_on, sweep_goes_on, counting_goes_on}
-use Rattle.run_finds.proofs.Given.FollowsSteps.{WentTo, DidSo, LeadsThere, one_of}
+use Rattle.run_finds.proofs.Given.FollowsSteps.{WentTo, DidSo, LeadsThere}
 use Rattle.run_finds.specs.Given.MomentsWhole.{ShowsWhole}
 use Rattle.run_finds.proofs.Given.MomentsOnSlots.{stood_same}
 use Rattle.run_finds.specs.Given.ChangesHistories.{since, IsWithin}
@@ -65,6 +65,7 @@ use Rattle.run_finds.specs.Given.ScenesHeld.{Held, IsAt}
 use Rattle.run_finds.specs.Given.ScenesScene.{Scene, slot_of}
 use Rattle.run_finds.specs.Given.ScenesStepping.{StepLeads, StepsFrom}
 use Rattle.run_finds.specs.Given.SchedulesTransition.{Past}
+use Rattle.run_finds.proofs.Given.General.{same_some as one_of}
 
 module _ {K V : Type 0} (same : K → K → Bool) (hash : ℕ → K → ℕ) (name : ℕ → List ℕ) (log : Past K V) (m : Moment K V) (known : Known) (s : Scene K V) (old new : Held K V)
     (at : IsAt same hash old s) (whole : ShowsWhole same name m known s) (purposes : ShowsPurposes same name log m known s) (of i : ℕ) (u : UnderWay K V K) (here : s.calls of i ≡ Some u)

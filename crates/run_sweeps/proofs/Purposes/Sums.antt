@@ -20,6 +20,7 @@ use Rattle.run_finds.specs.Given.SchedulesMoment.{Moment}
 use Rattle.run_finds.specs.Given.PointsFactsTables.{CountsShards}
 use Rattle.run_finds.proofs.Given.ChangesLogs.{each_of}
 use Rattle.run_sweeps.specs.Purposes.Purposes.{HasAdded}
+use Rattle.run_finds.proofs.Given.General.{same_some as same_word, less_not as past}
 
 module _ {K V : Type 0} (of : ℕ) (moments : List (Moment K V)) (mem : Mem (Node K V)) (c : Sum) (now : Moment K V)
     (last : (P : Moment K V → Type 0) → P now → OneOf P moments)
@@ -30,14 +31,8 @@ module _ {K V : Type 0} (of : ℕ) (moments : List (Moment K V)) (mem : Mem (Nod
   After (c2, progress.Done count) = Counts (suc c.setting.mask) of moments count
   After (c2, _) = ⊥
 
-  same_word : (a b : ℕ) → Some a ≡ Some b → a ≡ b
-  same_word a b e = cc e
-
   both : (a b x y : ℕ) → a ≡ b → x ≡ y → sums.Adds a x ≡ sums.Adds b y
   both a b x y e f = cc (e, f)
-
-  past : (a b : ℕ) → nat_lt a b ≡ false → b ≤ a
-  past a b e = grind (arith, e)
 
   module _ (shard total sum : ℕ) (few : shard ≤ c.setting.mask) (up : AddsUp of moments shard sum) (is : total ≡ sum % 2 ^ 64) (word : ℕ) (word_is : word ≡ now.shards of shard) where
     more : AddsUp of moments (suc shard) (sum + word)

@@ -37,7 +37,7 @@ use Rattle.run_finds.specs.Given.EffectsKnown.{Known}
 use Rattle.run_finds.specs.Given.EffectsDeclared.acting.Acting.TheVariants as acts
 use Rattle.run_finds.specs.Given.FinishesMachines.{machine_of}
 use Rattle.run_finds.specs.Given.FinishesMaps.{Standing, IsSameMap}
-use Rattle.run_finds.proofs.Given.FollowsSteps.{WentTo, one_of}
+use Rattle.run_finds.proofs.Given.FollowsSteps.{WentTo}
 use Rattle.run_finds.proofs.Given.FollowsStored.{in_map_true}
 use Rattle.run_finds.proofs.Given.HandsReplacing.{calls_after}
 use Rattle.run_finds.specs.Given.ChangesHistories.{since}
@@ -55,6 +55,7 @@ use Rattle.run_finds.specs.Given.ScenesHeld.{Held, IsAt}
 use Rattle.run_finds.specs.Given.ScenesScene.{Scene}
 use Rattle.run_finds.specs.Given.ScenesStepping.{StepLeads, StepsFrom}
 use Rattle.run_finds.specs.Given.SchedulesTransition.{Past, Transition, call_left, worked_by}
+use Rattle.run_finds.proofs.Given.General.{both_true as both, same_some as one_of}
 
 -- what is so of the call is so of the event
 module _ {K V : Type 0} (same : K → K → Bool) (terms : Terms) (log : Past K V) (t : Transition K V) (own : List ℕ) (v : Moment K V) (d : CallThere K V) (caller : t.caller ≡ Some own)
@@ -169,10 +170,6 @@ module _ {K V : Type 0} (same : K → K → Bool) (hash : ℕ → K → ℕ) (na
 
       within : PairsWithin of ended.st number2 (since log v then_call) o.began
       within = own_within same hash name log m known s old new at whole purposes of i u here said leads changes o o_is ended.st ended.there c then_call c_is then_is
-
-      both : (a b : Bool) → (a && b) ≡ true → (a ≡ true) × (b ≡ true)
-      both true b e = (refl, e)
-      both false b e = absurd (cc e)
 
       -- a pair that was in the map at all moments was so in its history
       pub always : (n : ℕ) → stays of (log.since then_call.begun) v n ≡ true → (p : ℕ) × (p < ended.st.chart.stored) × (n ≡ number2 p) × WasAlways ended.st.chart ended.entered p

@@ -36,7 +36,6 @@ use Rattle.run_finds.specs.Given.FollowsCalling.{told}
 use Rattle.run_finds.specs.Given.FollowsShows.{Shows}
 use Rattle.run_finds.proofs.Given.FollowsCalling.{is_same_refl, replied_same, told_with}
 use Rattle.run_finds.proofs.Given.FollowsCalls.{found}
-use Rattle.run_finds.proofs.Given.FollowsSteps.{one_of}
 use Rattle.run_finds.specs.Given.HandsAsked.{as_told}
 use Rattle.run_finds.proofs.Given.HandsAsking.{which}
 use Rattle.run_finds.proofs.Given.HandsCalling.{caller_is}
@@ -54,6 +53,7 @@ use Rattle.run_finds.specs.Given.ScenesHeld.{Held, IsAt}
 use Rattle.run_finds.specs.Given.ScenesReplying.{scene_with}
 use Rattle.run_finds.specs.Given.ScenesScene.{Scene, slot_of}
 use Rattle.run_finds.specs.Given.SchedulesTransition.{Past}
+use Rattle.run_finds.proofs.Given.General.{same_some as one_of}
 
 -- a pair that is not among them is none of them
 apart_step : (p x : ℕ) (xs : List ℕ) → times p (x ∷ xs) ≡ 0 → (x ≢ p) × (times p xs ≡ 0)

@@ -44,7 +44,6 @@ use Rattle.run_finds.specs.Given.FollowsShows.{Shows}
 use Rattle.run_finds.proofs.Given.FollowsCalled.{key_goes_on, sweep_goes_on}
 use Rattle.run_finds.proofs.Given.FollowsCalling.{is_same_refl, come, come_of_same, come_with}
 use Rattle.run_finds.proofs.Given.FollowsCalls.{found}
-use Rattle.run_finds.proofs.Given.FollowsSteps.{one_of}
 use Rattle.run_finds.proofs.Given.HandsCalling.{caller_is}
 use Rattle.run_finds.specs.Given.HistoriesAnswers.{NamesPair}
 use Rattle.run_finds.specs.Given.ChangesHistories.{since}
@@ -68,6 +67,7 @@ use Rattle.run_finds.specs.Given.ScenesHeld.{Held, IsAt}
 use Rattle.run_finds.specs.Given.ScenesScene.{Scene, slot_of}
 use Rattle.run_finds.specs.Given.ScenesStepping.{StepLeads, StepsFrom}
 use Rattle.run_finds.specs.Given.SchedulesTransition.{Past}
+use Rattle.run_finds.proofs.Given.General.{cons_same as cons_both, same_some as one_of}
 
 module _ {K : Type 0} (hash : K → ℕ) (c : Chart K) (blocks : Blocks) (done done2 : List ℕ) (entered entered2 word : ℕ) where
   -- one that shows a pair has read its word at a place of its table, and has done one pair more
@@ -161,9 +161,6 @@ module _ {K V : Type 0} (same : K → K → Bool) (hash : ℕ → K → ℕ) (na
         let b4 = before_then same hash name log m known s old new at whole purposes of i u here (progress.Pair word) leads of st there in
         maps_kept (purposes.shown.number of) (numbers2 of) b4.0.chart.stored
         ((on same hash name log m known s old new at whole purposes of i u here (progress.Pair word) leads).numbers of b4.0 b4.1) c d still o.done before.stored
-
-    cons_both : (a x : ℕ) (xs ys : List ℕ) → a ≡ x → xs ≡ ys → a ∷ xs ≡ x ∷ ys
-    cons_both a x xs ys e f = cc (e, f)
 
     tells : (its : Call K V) → IsFor (OverAll o) its → TellsDone its (purposes.shown.number of) o.done c → TellsDone its (numbers2 of) done2 (come (ShowsOne q) steps d)
     tells (call.On one) is has = tt

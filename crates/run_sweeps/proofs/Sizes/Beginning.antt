@@ -15,13 +15,13 @@ use Rattle.run_finds.specs.Given.SchedulesMoment.{MapThere, Place, Unborn, Under
 use Rattle.run_finds.specs.Given.SchedulesViews.{is_in_map, number_of, places_below}
 use Rattle.run_finds.specs.Waiting.{once_if}
 use Rattle.run_finds.specs.Within.{AllIsInOrder, HasItsMap}
-use Rattle.run_finds.proofs.Grown.{number_is}
 use Rattle.run_finds.proofs.Lists.{all_so, one_of_them}
 use Rattle.run_finds.proofs.Tables.{all_append}
 use Rattle.run_sweeps.specs.Sizes.Sizes.{sum_below}
 use Rattle.run_sweeps.proofs.Sizes.Balance.{minus_of, none_either, plus_of, said, there}
-use Rattle.run_sweeps.proofs.Sizes.Places.{is_in_it}
 use Rattle.run_sweeps.proofs.Sizes.Sums.{below_same, places_same, sums_same}
+use Rattle.run_finds.proofs.Given.FollowsStored.{in_map_true as is_in_it}
+use Rattle.run_finds.proofs.Given.General.{equal_so as number_is}
 
 zeros_below : (n : ℕ) → sum_below n (λ s. 0) ≡ 0
 zeros_below zero = refl

@@ -29,7 +29,7 @@ use Rattle.run_finds.specs.Given.SchedulesTerms.{Terms, shards_of}
 use Rattle.run_finds.specs.Given.SchedulesViews.{call_of, size_of}
 use Rattle.run_finds.proofs.Given.FollowsAlike.{put_here, put_elsewhere}
 use Rattle.run_finds.specs.Within.{HasItsMap}
-use Rattle.run_finds.proofs.Grown.{found_of, number_is}
+use Rattle.run_finds.proofs.Grown.{found_of}
 use Rattle.run_finds.proofs.Lists.{all_so, one_of_them}
 use Rattle.run_sweeps.specs.Sizes.Sizes.{LensTellSize, StaysCounted, gained_on, lost_on, sum_below}
 use Rattle.run_sweeps.proofs.Sizes.Balance.{minus_of}
@@ -40,6 +40,7 @@ use Rattle.run_sweeps.proofs.Sizes.Events.{IsSo, counted_before, event_moves, or
 use Rattle.run_sweeps.proofs.Sizes.Sizes.{all_so_far, minus_is_lost}
 use Rattle.run_sweeps.proofs.Sizes.Sums.{below_put, below_same}
 use Rattle.run_sweeps.proofs.Sizes.Words.{all_shard, begun_shards}
+use Rattle.run_finds.proofs.Given.General.{equal_so as number_is}
 
 -- words that differ at one place at most add up by as much as these two
 below_one : (n s : ℕ) (f g : ℕ → ℕ) → s < n → ((j : ℕ) → j ≢ s → f j ≡ g j) → sum_below n f + g s ≡ sum_below n g + f s

@@ -16,13 +16,13 @@ use Rattle.run_finds.specs.Given.SchedulesTerms.{Terms}
 use Rattle.run_finds.specs.Given.SchedulesViews.{is_in_a_map, is_waiting}
 use Rattle.run_finds.specs.Waiting.{is_back, is_unborn, once_if}
 use Rattle.run_finds.specs.Within.{AllIsInOrder}
-use Rattle.run_finds.proofs.Grown.{number_is}
 use Rattle.run_sweeps.specs.Sizes.Once.{RunsHaveEachOnce}
 use Rattle.run_sweeps.proofs.Sizes.Sizes.{all_so_far}
+use Rattle.run_finds.proofs.Given.General.{equal_so as number_is}
 
 -- lists
 
-times_both : (n : ℕ) (xs ys : List ℕ) → times n (xs ++ ys) ≡ times n xs + times n ys
+pub times_both : (n : ℕ) (xs ys : List ℕ) → times n (xs ++ ys) ≡ times n xs + times n ys
 times_both n [] ys = omega arith
 times_both n (x ∷ xs) ys = let rest = times_both n xs ys in omega (arith, rest)
 

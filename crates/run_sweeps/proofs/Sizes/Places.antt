@@ -10,26 +10,18 @@ use Rattle.run_finds.specs.Given.RunsDeclared.effect.Thing.TheVariants.{APair, A
 use Rattle.run_finds.specs.Given.SchedulesEffects.{all_at, in_map, place_by, with_effect}
 use Rattle.run_finds.specs.Given.SchedulesEntry.{ByCall, acting}
 use Rattle.run_finds.specs.Given.SchedulesLists.{is_among, is_in, put}
-use Rattle.run_finds.specs.Given.SchedulesMoment.{Place, Unborn, InMap, Out, Handed, Behind, Left, GivenBack, UnderWay, Moment}
+use Rattle.run_finds.specs.Given.SchedulesMoment.{Place, InMap, Out, Handed, Behind, Left, GivenBack, UnderWay, Moment}
 use Rattle.run_finds.specs.Given.SchedulesThings.{same_thing}
 use Rattle.run_finds.specs.Given.SchedulesViews.{behind, call_of, is_in_map, places_below, size_of}
 use Rattle.run_finds.proofs.Given.FollowsAlike.{put_here, put_elsewhere}
 use Rattle.run_finds.specs.Waiting.{FindsPlaced, OwesPair, PairsArePlaced, is_behind_one, is_let_go, is_out, is_unborn, once_if, owed_by}
 use Rattle.run_finds.specs.Within.{AllIsInOrder}
 use Rattle.run_finds.proofs.Counted.{was_behind}
-use Rattle.run_finds.proofs.Grown.{number_is}
 use Rattle.run_finds.proofs.Owed.{owed_at_least, owed_there}
 use Rattle.run_finds.proofs.Somewhere.{is_storing, leads, none_stored}
 use Rattle.run_sweeps.proofs.Sizes.Sums.{places_put, places_same}
-
-pub is_in_it : (k : ℕ) (p : Place) → is_in_map k p ≡ true → p ≡ InMap k
-is_in_it k (InMap map) e = ap InMap (sym (number_is k map e))
-is_in_it k Unborn e = absurd (cc e)
-is_in_it k Out e = absurd (cc e)
-is_in_it k Handed e = absurd (cc e)
-is_in_it k Behind e = absurd (cc e)
-is_in_it k Left e = absurd (cc e)
-is_in_it k GivenBack e = absurd (cc e)
+use Rattle.run_finds.proofs.Given.FollowsStored.{in_map_true as is_in_it}
+use Rattle.run_finds.proofs.Given.General.{equal_so as number_is}
 
 pub it_is_in : (k : ℕ) (p : Place) → p ≡ InMap k → is_in_map k p ≡ true
 it_is_in k p e = ap (is_in_map k) e ∙ eq-eqb k k refl

@@ -23,11 +23,11 @@ use Rattle.run_finds.specs.Given.SchedulesTerms.{Terms}
 use Rattle.run_finds.specs.Given.SchedulesViews.{call_of, number_of, size_of}
 use Rattle.run_finds.proofs.Given.ChangesLogs.{events_are, moments_grow}
 use Rattle.run_finds.proofs.Endings.{entry}
-use Rattle.run_finds.proofs.Grown.{number_is}
 use Rattle.run_finds.proofs.Lists.{all_so, none_of_them}
 use Rattle.run_sweeps.specs.Sizes.Sizes.{StaysCounted, WholeLensTellSize}
 use Rattle.run_sweeps.proofs.Sizes.Lens.{lens_tell_size}
 use Rattle.run_sweeps.proofs.Sizes.Sums.{sums_same}
+use Rattle.run_finds.proofs.Given.General.{equal_so as number_is}
 
 module _ {K V : Type 0} where
   -- of a call that has begun just now there is one moment

@@ -9,10 +9,7 @@ use Rattle.run_finds.specs.Given.RunsLifeCycle.{times}
 use Rattle.run_finds.specs.Given.SchedulesMoment.{Stage, TableThere}
 use Rattle.run_finds.specs.Given.RuleChart.{Chart}
 use Rattle.run_finds.specs.Given.FollowsMaps.{tables_to, table_of, shape_at}
-
-times_append : (n : ℕ) (xs ys : List ℕ) → times n (xs ++ ys) ≡ times n xs + times n ys
-times_append n [] ys = omega arith
-times_append n (x ∷ xs) ys = let rest = times_append n xs ys in omega (arith, rest)
+use Rattle.run_sweeps.proofs.Sizes.Once.{times_both as times_append}
 
 module _ (name : ℕ → ℕ → ℕ) where
   -- what so many places of a table name

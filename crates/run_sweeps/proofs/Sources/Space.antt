@@ -47,7 +47,6 @@ use Rattle.run_finds.specs.Within.{many_of, HasItsMap, LiesNext, AllIsInOrder}
 use Rattle.run_finds.proofs.Behind.{each_is_put, put_has_left}
 use Rattle.run_finds.proofs.Grown.{found_of}
 use Rattle.run_finds.proofs.Lists.{all_both}
-use Rattle.run_finds.proofs.Quiet.{neither}
 use Rattle.run_finds.proofs.Waits.Due.{row_due}
 use Rattle.run_sweeps.specs.Sources.Sources.{HasSource, ShowsSources}
 use Rattle.run_sweeps.specs.Sources.Steps.{CallsFindSpace}
@@ -56,6 +55,7 @@ use Rattle.run_sweeps.proofs.Sources.Room.{CameFrom, has_room}
 use Rattle.run_finds.specs.Given.ScenesHeld.{Held, IsAt}
 use Rattle.run_finds.specs.Given.ScenesScene.{Scene}
 use Rattle.run_finds.specs.Given.ScenesStepping.{StepLeads}
+use Rattle.run_finds.proofs.Given.General.{both_false as neither}
 
 at_most_one : (q : Bool) → once_if q ≤ 1
 at_most_one true = omega arith

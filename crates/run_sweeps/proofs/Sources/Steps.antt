@@ -1,7 +1,7 @@
 -- A step of a call, whichever it is: where pairs were copied from is so after it.
-use Rattle.std.specs.Prelude.{◌≡◌, ◌≢◌, ℕ, ◌+◌, ◌<◌, ◌≤◌, Bool, true, false, List, length, Option, Some, None}
+use Rattle.std.specs.Prelude.{◌≡◌, ◌≢◌, ℕ, ◌+◌, ◌<◌, ◌≤◌, Bool, true, List, length, Option, Some, None}
 use Rattle.std.proofs.Common.{refl, ap, sym, subst, ◌∙◌, arith, inl, inr}
-use Rattle.std.proofs.lemmas.Bool.{cases_eq, ne_eqb}
+use Rattle.std.proofs.lemmas.Bool.{cases_eq}
 use Rattle.run_finds.specs.Given.SeizeWordsDeclared.at.At.{At}
 use Rattle.run_finds.specs.Given.SeizeWordsMem.{Mem}
 use Rattle.run_finds.specs.Given.SeizeWorld.{World, IsInside, with_at}
@@ -13,8 +13,7 @@ use Rattle.run_finds.specs.Given.RunsDeclared.effect.Effect.{Effect}
 use Rattle.run_finds.specs.Given.RunsDeclared.effect.Spot.{Spot}
 use Rattle.run_finds.specs.Given.RunsDeclared.effect.TableId.{TableId}
 use Rattle.run_finds.specs.Given.SchedulesEffects.{with_effects}
-use Rattle.run_finds.specs.Given.SchedulesMoment.{Place, Unborn, InMap, Out, Handed, Behind, Left, GivenBack, Moment}
-use Rattle.run_finds.specs.Given.SchedulesViews.{is_in_map}
+use Rattle.run_finds.specs.Given.SchedulesMoment.{Moment}
 use Rattle.run_finds.specs.Given.EffectsDeclared.changed.Changed.{Changed}
 use Rattle.run_finds.specs.Given.EffectsDeclared.changed.Changed.TheVariants as changed
 use Rattle.run_finds.specs.Given.TellsSeen.{Seen, Unseen, Wrote, seen_of}
@@ -38,7 +37,7 @@ use Rattle.run_finds.specs.Given.FinishesMaps.{Standing, IsSameMap}
 use Rattle.run_finds.specs.Given.FollowsShows.{Shows}
 use Rattle.run_finds.proofs.Given.FollowsOperations.{LeavesBy, Operated, operated_leaves, seen_write, told_write}
 use Rattle.run_finds.proofs.Given.FollowsRows.{one_step_leaves}
-use Rattle.run_finds.proofs.Given.FollowsSteps.{WentTo, went_to, made_so, DidSo, LeadsThere, one_of}
+use Rattle.run_finds.proofs.Given.FollowsSteps.{WentTo, went_to, made_so, DidSo, LeadsThere}
 use Rattle.run_finds.specs.Given.SpotsSpots.{LiesAt}
 use Rattle.run_finds.proofs.Given.SpotsDone.{DidMoved, did_moved}
 use Rattle.run_finds.proofs.Given.SpotsEffects.{AllAside, aside_all, calm_aside}
@@ -57,16 +56,8 @@ use Rattle.run_sweeps.proofs.Sources.Stays.{sources_stay}
 use Rattle.run_finds.specs.Given.ScenesHeld.{Held, IsAt}
 use Rattle.run_finds.specs.Given.ScenesScene.{Scene, slot_of}
 use Rattle.run_finds.specs.Given.ScenesStepping.{StepLeads, scene_after}
-
--- a pair that is not in this map
-not_in_it : (map : ℕ) (p : Place) → (p ≡ InMap map → ⊥) → is_in_map map p ≡ false
-not_in_it map (InMap x) ne = ne_eqb map x (λ e. ne (ap InMap (sym e)))
-not_in_it map Unborn ne = refl
-not_in_it map Out ne = refl
-not_in_it map Handed ne = refl
-not_in_it map Behind ne = refl
-not_in_it map Left ne = refl
-not_in_it map GivenBack ne = refl
+use Rattle.run_finds.proofs.Given.General.{same_some as one_of}
+use Rattle.run_finds.proofs.Given.MomentsWholeEnds.{out_of as not_in_it}
 
 -- of a map of which fewer blocks may be looked at
 pub same_standing : {K : Type 0} (o o2 : Option (Standing K)) → IsSameMap o o2 → (st : Standing K) → o2 ≡ Some st → (before : Standing K) × (o ≡ Some before) × (st.chart ≡ before.chart) × (before.setting ≡ st.setting)

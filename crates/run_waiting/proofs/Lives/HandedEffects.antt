@@ -20,9 +20,10 @@ use Rattle.run_debts.specs.Given.FollowsFinds.{FindsMap}
 use Rattle.run_debts.proofs.Given.FollowsAlike.{put_here, put_elsewhere}
 use Rattle.run_debts.proofs.Given.SpotsElsewhere.{stored_grows}
 use Rattle.run_debts.proofs.Given.SpotsHanding.{HandsNothing, AllHandNothing}
-use Rattle.run_debts.proofs.Given.SpotsUnreclaimed.{and_both, any_either, or_right, same_itself, table_is}
+use Rattle.run_debts.proofs.Given.SpotsUnreclaimed.{any_either, same_itself, table_is}
 use Rattle.run_debts.specs.Due.{told_retired}
 use Rattle.run_waiting.specs.Lives.Handed.{is_deferred}
+use Rattle.run_debts.proofs.Given.General.{both_true as and_both, or_second as or_right}
 
 -- the effect hands something over: it retires a pair or a table, or what waits behind a table as it reclaims that
 abbrev pub IsHanding : Effect → Type 0

@@ -47,10 +47,11 @@ use Rattle.run_waiting.proofs.Lives.Listed.{Listing}
 use Rattle.run_debts.proofs.Given.CallersTogether.Slots.{between_rows}
 use Rattle.run_debts.proofs.Given.ScenesBetween.{deed_between}
 use Rattle.run_waiting.proofs.Lives.RetiredEnds.{handed_before}
-use Rattle.run_waiting.proofs.Lives.WaitingEnds.{calm_deferred, none_of}
+use Rattle.run_waiting.proofs.Lives.WaitingEnds.{calm_deferred}
 use Rattle.run_debts.specs.Given.ScenesEnding.{EndingComesTo, EndingStepsFrom}
 use Rattle.run_debts.specs.Given.ScenesHeld.{Held, IsAt}
 use Rattle.run_debts.specs.Given.ScenesScene.{Scene, slot_of}
+use Rattle.run_debts.proofs.Given.General.{none_less as none_of}
 
 -- effects that move no pair and no table hand nothing over
 calm_hands : (f : Effect) → is_calm f ≡ true → IsHanding f → ⊥

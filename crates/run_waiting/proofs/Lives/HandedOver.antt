@@ -27,9 +27,9 @@ use Rattle.run_waiting.specs.Lives.Waiting.{waits_behind, unless_it}
 use Rattle.run_waiting.proofs.Lives.LeftOver.{over}
 use Rattle.run_waiting.proofs.Lives.Listed.{Listing, happens_listed, runs_listed, start_listed, left_has_none, own_has_none}
 use Rattle.run_waiting.proofs.Lives.Logs.{waits_not}
-use Rattle.run_waiting.proofs.Lives.RetiredEnds.{handed_lives}
 use Rattle.run_waiting.proofs.Lives.Users.{users_aside}
 use Rattle.run_waiting.proofs.Lives.Worlds.{log_back, happens_kept}
+use Rattle.run_debts.proofs.Given.FinishesBeside.Makings.Outs.{handed_lives}
 
 module _ {T : Type 0} (defers : T → Option ℕ) (size i : ℕ) (w v : World T) (b : ℕ) (its : IsHandedOver w b) where
   -- the beginning of a row

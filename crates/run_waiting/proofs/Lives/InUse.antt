@@ -37,10 +37,10 @@ use Rattle.run_debts.specs.Given.RuleInWorld.{AllUsers}
 use Rattle.run_debts.proofs.Given.RuleWorld.Hands.{at_cases}
 use Rattle.run_debts.specs.Given.FollowsBlocks.{WasLinked}
 use Rattle.run_waiting.specs.Lives.Waiting.{IsPutting}
-use Rattle.run_waiting.proofs.Lives.RetiredEnds.{handed_lives}
 use Rattle.run_waiting.proofs.Lives.Listed.{carrier}
 use Rattle.run_waiting.proofs.Lives.LyingRows.{HasPut}
 use Rattle.run_waiting.proofs.Lives.Putting.{not_over}
+use Rattle.run_debts.proofs.Given.FinishesBeside.Makings.Outs.{handed_lives}
 
 -- the list that a word begins is one list
 one_list : {T : Type 0} (m : Mem T) (word : ℕ) (l k : List ℕ) → ListFrom m word l → ListFrom m word k → l ≡ k

@@ -37,10 +37,10 @@ use Rattle.run_debts.proofs.Given.MomentsOnSlots.{none_some}
 use Rattle.run_waiting.specs.Lives.Behind.{IsLeft}
 use Rattle.run_waiting.specs.Lives.LeftTables.{IsToTake, ShowsLeft, EndingsKeepLeft}
 use Rattle.run_waiting.proofs.Lives.Users.{left_lives}
-use Rattle.run_waiting.proofs.Lives.WaitingEnds.{none_of}
 use Rattle.run_debts.specs.Given.ScenesEnding.{EndingComesTo, EndingStepsFrom, ending_goes}
 use Rattle.run_debts.specs.Given.ScenesHeld.{Held, IsAt}
 use Rattle.run_debts.specs.Given.ScenesScene.{Scene, slot_of}
+use Rattle.run_debts.proofs.Given.General.{none_less as none_of}
 
 module _ {K V : Type 0} (same : K → K → Bool) (hash : ℕ → K → ℕ) (name : ℕ → List ℕ) (m : Moment K V) (known : Known) (s : Scene K V) (old new : Held K V) (at : IsAt same hash old s)
     (whole : ShowsWhole same name m known s) (shows : ShowsLeft known s) (i : ℕ) (f : Finishing K V) (here : s.enders i ≡ Some f) (end : EndMap) (said : Settled (Node K V))

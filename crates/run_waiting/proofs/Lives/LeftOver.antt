@@ -19,6 +19,7 @@ use Rattle.run_waiting.specs.Lives.Waiting.{waits_behind}
 use Rattle.run_waiting.proofs.Lives.Lives.{WaitsIn, OnWay, OnList, TakenOver, elsewhere, other_block}
 use Rattle.run_waiting.proofs.Lives.Logs.{unless_other}
 use Rattle.run_waiting.proofs.Lives.Worlds.{Kept, happens_kept, log_back}
+use Rattle.run_debts.proofs.Given.FinishesEnds.CountedBlocks.{some_here as one_is}
 
 -- what is left over by its life is so in the world
 left_hand : (i : ℕ) (h : Hand) (l : Life) → l ≡ IsLeftOver i → HandFits h l → IsLeft h
@@ -73,9 +74,6 @@ module _ {T : Type 0} (defers : T → Option ℕ) (size i : ℕ) (w w2 : World T
   -- events that put nothing behind a block, and leave none over
   same_log : (v v2 : World T) (b t : ℕ) → (waits_behind b v.log ≡ waits_behind b v2.log) → waits_behind b v.log ≡ Some t → waits_behind b v2.log ≡ Some t
   same_log v v2 b t back waits = sym back ∙ waits
-
-  one_is : (c : ℕ) (xs : List ℕ) → 0 < times c (c ∷ xs)
-  one_is c xs = let one : times c (c ∷ xs) ≡ 1 + times c xs = ap (λ (q : Bool). (if q then 1 else 0) + times c xs) (eq-eqb c c refl) in omega (arith, one)
 
   pub deed_waits : (deed : Deed) → Runs defers size (events_of i deed) w w2 → ((x : ℕ) → 0 < times x (left_by deed) → w2.hand x ≡ LeftTo i)
       → (b t : ℕ) → waits_behind b w.log ≡ Some t → (0 < times t (taken_by deed) → ⊥)

@@ -2,26 +2,25 @@
 -- retired if no row is under way; and nothing waits behind what is left over.
 use Rattle.std.specs.Prelude.{◌⊎◌, zero, suc, Option, Some, None, if◌then◌else◌}
 use Rattle.std.proofs.Common.{◌≡◌, ◌<◌, ℕ, ◌+◌, Bool, true, false, cond, eqb, List, [], ◌∷◌, length, refl, arith, ap, sym, subst, ◌∙◌, inl, inr, eqb-true}
-use Rattle.std.proofs.lemmas.Bool.{cases_eq, eq-eqb, ne_eqb}
+use Rattle.std.proofs.lemmas.Bool.{eq-eqb, ne_eqb}
 use Rattle.run_debts.specs.Given.SeizeFurther.{IsWordOf}
-use Rattle.run_debts.specs.Given.SeizeLaw.{Effect, Entered, Left, Retired, Taken, is_retired}
+use Rattle.run_debts.specs.Given.SeizeLaw.{is_retired}
 use Rattle.run_debts.specs.Given.SeizeSequence.{taken_in}
 use Rattle.run_debts.specs.Given.SeizeDeclared.rows.settle.Settle.{Settle}
 use Rattle.run_debts.specs.Given.SeizeDeclared.states.TheConstants.{LAST_SLOT}
-use Rattle.run_debts.specs.Given.SeizeWorld.{World, Row, Rests, Hand, NoBlock, Making, InUse, Parting, Cutting, Handed, LeftTo, MayCut, Use, Request, Register', Enter', Leave', LeaveOwned, Refresh, Unregister', Retire, Flush, Defer', Begins, Event, Begin, Step, Makes, Drops, Links, Parts, Unlinks, Rewrites, Operates, Ends, LeavesOver, Relinks, Clears, Chooses, Happens, Runs, Steps', at_start, times, handed_by}
+use Rattle.run_debts.specs.Given.SeizeWorld.{World, Row, Rests, Hand, NoBlock, Making, InUse, Parting, Cutting, Handed, LeftTo, MayCut, Use, Request, Register', Enter', Leave', LeaveOwned, Refresh, Unregister', Retire, Flush, Defer', Begins, Event, Begin, Step, Makes, Drops, Links, Parts, Unlinks, Rewrites, Operates, Ends, LeavesOver, Relinks, Clears, Chooses, Happens, Runs, Steps', at_start, times}
 use Rattle.run_debts.specs.Given.SeizeWaitingHeld.{count}
 use Rattle.run_debts.proofs.Given.SeizeMovesMoves.Takes.{first_doomed}
 use Rattle.run_debts.proofs.Given.SeizeMovesSets.Unmoved.{Unmoved}
-use Rattle.run_debts.proofs.Given.SeizeMovesState.Ghost.{Entry, Life, IsFree, IsOwned, IsLinked, IsUnlinked, IsDeferring, IsDeferred, IsPending, IsIn, IsDoomed, State, can_carry, is_deferred, is_given, is_pending, lies_with}
+use Rattle.run_debts.proofs.Given.SeizeMovesState.Ghost.{Entry, Life, IsFree, IsOwned, IsDeferring, IsDeferred, IsPending, IsIn, IsDoomed, State, can_carry, is_deferred, is_given, is_pending, lies_with}
 use Rattle.run_debts.proofs.Given.SeizeMovesState.Moves
 use Rattle.run_debts.proofs.Given.SeizeRulePoints.Aside.{HandFits, is_handed}
 use Rattle.run_debts.proofs.Given.SeizeRulePoints.Passed.{passed_rest}
 use Rattle.run_debts.proofs.Given.SeizeRulePoints.Told.{Part, part, Told, Stays, Holds, HoldsNone, Gives, Begins as BeginsTry, Appends, Fills, Skips, Passes, Finds, Marks, GivesUp, Closes, Pushes, Misses, Sums, SumsLast, Drains, DrainsNone, Takes, TakesLast, Joins, Counts, CountsLast}
-use Rattle.run_debts.proofs.Given.SeizeRuleRows.Effects.{IsOneStep}
+use Rattle.run_debts.proofs.Given.SeizeRuleRows.Effects.{taken_hand as taken_nobody}
 use Rattle.run_debts.proofs.Given.SeizeRuleRows.Known.{FitsRow}
 use Rattle.run_debts.proofs.Given.SeizeRuleRows.Told.{list_off, RowTold, SettleGoes, SettleEnds, LeaveSwaps, LeaveGoes, LeaveSettled, LeaveEnds, RegisterLooks, RegisterRefused, RegisterTakes, RegisterEnters, EntersSlot, FreesSlot, DeferGoes, DeferPushes, DeferEnds, BeginTold}
 use Rattle.run_debts.proofs.Given.SeizeMemoryWords.Named.{link}
-use Rattle.run_debts.proofs.Given.SeizeMemoryWords.Shows.{lives}
 use Rattle.run_debts.proofs.Given.SeizeMemoryWords.View.{view}
 use Rattle.run_debts.proofs.Given.SeizeRuleWorld.Begins.{begins_next}
 use Rattle.run_debts.proofs.Given.SeizeRuleWorld.Events.{leaves_over_good}
@@ -32,9 +31,10 @@ use Rattle.run_debts.proofs.Given.SeizeAloneSpared.Rows.{RowStepped, row_stepped
 use Rattle.run_waiting.specs.Lives.Behind.{IsLeft}
 use Rattle.run_waiting.specs.Lives.Waiting.{IsPutting, waits_behind}
 use Rattle.run_waiting.proofs.Lives.Lives.{WaitsIn, OnWay, OnList, TakenOver}
-use Rattle.run_waiting.proofs.Lives.Logs.{unless_other, one_apart, waits_on}
+use Rattle.run_waiting.proofs.Lives.Logs.{unless_other, waits_on}
 use Rattle.run_waiting.proofs.Lives.Putting.{not_over}
 use Rattle.run_waiting.proofs.Lives.Worlds.{Kept, IsAside, log_back, happens_kept, start_kept, has_it}
+use Rattle.run_debts.proofs.Given.SeizeAloneHistories.Waiting.{carries_lives}
 
 -- A move of a settling row leaves the list of a block as it was, or empties it.
 module _ (n i : ℕ) (m : State) (t : ℕ) where
@@ -119,20 +119,6 @@ module _ (n i : ℕ) (m : State) (t : ℕ) where
         by false is old = inl old
     row_lists (DeferEnds s c r r2 over u) = unmoved_on u
 
--- what one step of a row takes is nobody's
-taken_nobody : (x : ℕ) (effects : List Effect) (hand : ℕ → Hand) → IsOneStep effects → (times x (taken_in effects) ≡ 0 → ⊥) → handed_by effects hand x ≡ NoBlock
-taken_nobody x [] hand one some = absurd (some refl)
-taken_nobody x (Entered s ∷ []) hand one some = absurd (some refl)
-taken_nobody x (Left s ∷ []) hand one some = absurd (some refl)
-taken_nobody x (Retired c ∷ []) hand one some = absurd (some refl)
-taken_nobody x (Taken c ∷ []) hand one some = by (cases_eq x c)
-  where
-    by : (x ≡ c) ⊎ (x ≡ c → ⊥) → handed_by (Taken c ∷ []) hand x ≡ NoBlock
-    by (inl e) = ap (λ (q : Bool). if q then NoBlock else hand x) (eq-eqb x c e)
-    by (inr ne) = absurd (some (one_apart x c ne))
-taken_nobody x (_ ∷ []) hand one some = absurd one
-taken_nobody x (e ∷ f ∷ effects) hand one some = absurd one
-
 -- what is free, or left over, carries nothing
 no_carrier : (h : Hand) (l : Life) → h ≡ NoBlock → HandFits h l → can_carry l ≡ true → ⊥
 no_carrier h l is fits carries = (let free : l ≡ IsFree = subst (λ (k : Hand). HandFits k l) is fits in let none = ap can_carry free in cc (none, carries))
@@ -153,15 +139,6 @@ listed_with t (IsDeferred u) some = by (eqb t u) some
     by true more = refl
     by false more = absurd (omega (arith, more))
 listed_with t _ some = absurd (omega (arith, some))
-
--- what may have a list lives
-pub carries_lives : (l : Life) → can_carry l ≡ true → lives l ≡ true
-carries_lives IsLinked e = refl
-carries_lives (IsUnlinked i) e = refl
-carries_lives (IsPending i) e = refl
-carries_lives (IsIn x) e = refl
-carries_lives (IsDoomed i) e = refl
-carries_lives _ e = absurd (cc e)
 
 -- the world is good, and all that is on lists waits by the log
 pub record Listing {T : Type 0} (defers : T → Option ℕ) (size : ℕ) (w : World T) : Type 0 where

@@ -19,9 +19,10 @@ use Rattle.run_debts.specs.Given.EffectsDeclared.acting.Acting.TheVariants.{Row}
 use Rattle.run_debts.specs.Given.EffectsDeclared.role.Role.{Role}
 use Rattle.run_debts.specs.Given.EffectsDeclared.role.Role.TheVariants as role
 use Rattle.run_debts.proofs.Given.OthersRowPlans.{TellsRow}
-use Rattle.run_debts.proofs.Given.SpotsUnreclaimed.{table_is, same_itself, or_right}
+use Rattle.run_debts.proofs.Given.SpotsUnreclaimed.{table_is, same_itself}
 use Rattle.run_waiting.specs.Lives.Behind.{EachWaits, WaitsOnce}
 use Rattle.run_waiting.proofs.Lives.Each.{each_on, each_both, each_kept, found}
+use Rattle.run_debts.proofs.Given.General.{or_second as or_right}
 
 -- it waits behind one table alone
 abbrev One : List Deferral → ℕ → TableId → Type 0

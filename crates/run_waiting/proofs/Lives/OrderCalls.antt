@@ -34,10 +34,9 @@ use Rattle.run_debts.specs.Given.FinishesMachines.{machine_of}
 use Rattle.run_debts.proofs.Given.FollowsOnward.{IsLasting, KeepsRoles}
 use Rattle.run_debts.proofs.Given.FollowsSteps.{WentTo, went_to, DidSo, OfNoRow, step_shown}
 use Rattle.run_debts.proofs.Given.HandsSteps.{calls_store_theirs}
-use Rattle.run_debts.proofs.Given.SpotsUnreclaimed.{table_is, same_itself}
+use Rattle.run_debts.proofs.Given.SpotsUnreclaimed.{table_is, same_itself, of_map_lasts as lasting_of}
 use Rattle.run_debts.specs.Given.MomentsWhole.{ShowsWhole}
 use Rattle.run_debts.proofs.Given.MomentsCalls.{calls_keep_whole}
-use Rattle.run_debts.proofs.Given.MomentsMakings.{lasting_of}
 use Rattle.run_debts.specs.Due.{ToPut, due_in_row, told_retired, RowTells, TellsNone, TellsRetired, TellsDeferred, OwnAreMade}
 use Rattle.run_debts.specs.Entries.{ShowsEntries}
 use Rattle.run_debts.specs.Hand.{IsPairRole, ShowsOwed}

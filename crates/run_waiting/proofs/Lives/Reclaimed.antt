@@ -54,7 +54,7 @@ use Rattle.run_debts.specs.Given.ScenesRows.{request_of}
 use Rattle.run_debts.proofs.Given.ScenesNoCall.{no_call}
 use Rattle.run_debts.specs.Given.ScenesScene.{HasCall, IsOnSlot, Scene, slot_of}
 
-given_lives : (l : Life) → is_given l ≡ true → lives l ≡ true
+pub given_lives : (l : Life) → is_given l ≡ true → lives l ≡ true
 given_lives (IsIn x) given = refl
 given_lives (IsDoomed i) given = refl
 given_lives _ given = absurd (cc given)

@@ -6,9 +6,7 @@ use Rattle.run_debts.specs.Given.SeizeDeclared.rows.settle.Settled.{Settled}
 use Rattle.run_debts.specs.Given.SeizeDeclared.rows.settle.Settled.TheVariants as settled
 use Rattle.run_debts.specs.Given.SeizeDeclared.states.TheConstants.{LAST_SLOT}
 use Rattle.run_debts.specs.Given.SeizeWorld.{World, Row, Hand, LeftTo, Handed, times}
-use Rattle.run_debts.proofs.Given.SeizeMovesState.Ghost.{Life, IsDeferring, IsDeferred, IsPending, IsIn, IsDoomed}
-use Rattle.run_debts.proofs.Given.SeizeRulePoints.Aside.{HandFits, is_handed}
-use Rattle.run_debts.proofs.Given.SeizeMemoryWords.Shows.{lives}
+use Rattle.run_debts.proofs.Given.SeizeRulePoints.Aside.{HandFits}
 use Rattle.run_debts.proofs.Given.SeizeMemoryWords.There.{value_there}
 use Rattle.run_debts.proofs.Given.SeizeAloneHistories.Reached.{Reached, runs_reached}
 use Rattle.run_debts.specs.Given.TablesNodes.{deferred_word}
@@ -44,15 +42,7 @@ use Rattle.run_debts.proofs.Given.ScenesBetween.{deed_between}
 use Rattle.run_debts.specs.Given.ScenesEnding.{EndingComesTo, EndingStepsFrom}
 use Rattle.run_debts.specs.Given.ScenesHeld.{Held, IsAt}
 use Rattle.run_debts.specs.Given.ScenesScene.{HasCall, Scene, slot_of}
-
--- what the collector has is there
-pub handed_lives : (l : Life) → is_handed l ≡ true → lives l ≡ true
-handed_lives (IsDeferring i s t) handed = refl
-handed_lives (IsDeferred t) handed = refl
-handed_lives (IsPending i) handed = refl
-handed_lives (IsIn x) handed = refl
-handed_lives (IsDoomed i) handed = refl
-handed_lives _ handed = absurd (cc handed)
+use Rattle.run_debts.proofs.Given.FinishesBeside.Makings.Outs.{handed_lives}
 
 calm_ends : (t : TableId) (f : Effect) → is_calm f ≡ true → EndsIt t f → ⊥
 calm_ends t (Reclaimed (ATable u)) calm ends = absurd (cc calm)

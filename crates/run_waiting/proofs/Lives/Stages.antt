@@ -28,7 +28,8 @@ use Rattle.run_debts.specs.Given.EffectsDeclared.role.Role.{Role}
 use Rattle.run_debts.specs.Given.EffectsDeclared.role.Role.TheVariants as role
 use Rattle.run_debts.proofs.Given.FollowsAlike.{put_here, put_elsewhere}
 use Rattle.run_debts.proofs.Given.FollowsTold.{roomed_as_many}
-use Rattle.run_debts.proofs.Given.SpotsUnreclaimed.{table_is, and_both, or_right}
+use Rattle.run_debts.proofs.Given.SpotsUnreclaimed.{table_is}
+use Rattle.run_debts.proofs.Given.General.{both_true as and_both, or_second as or_right}
 
 -- what passes one test passes another one once it has changed
 any_map : {X : Type 0} (p q : X → Bool) (f : X → X) → ((x : X) → p x ≡ true → q (f x) ≡ true) → (xs : List X) → list_any p xs ≡ true → list_any q (map f xs) ≡ true

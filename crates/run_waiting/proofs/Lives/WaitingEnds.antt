@@ -50,6 +50,7 @@ use Rattle.run_waiting.proofs.Lives.Worlds.{Kept, runs_kept, start_kept, has_it}
 use Rattle.run_debts.specs.Given.ScenesEnding.{EndingComesTo, EndingStepsFrom}
 use Rattle.run_debts.specs.Given.ScenesHeld.{Held, IsAt}
 use Rattle.run_debts.specs.Given.ScenesScene.{Scene, slot_of}
+use Rattle.run_debts.proofs.Given.General.{none_less as none_of}
 
 -- effects that move no pair and no table take nothing off the list
 calm_one : (f : Effect) (ds : List Deferral) → is_calm f ≡ true → deferred_by f ds ≡ ds
@@ -72,10 +73,6 @@ left_not (Parting i) none left = left
 left_not (Cutting i) none left = left
 left_not Handed none left = left
 left_not (LeftTo i) none left = none
-
-pub none_of : (k : ℕ) → (0 < k → ⊥) → k ≡ 0
-none_of zero none = refl
-none_of (suc k) none = absurd (none (omega arith))
 
 module _ {K V : Type 0} (same : K → K → Bool) (hash : ℕ → K → ℕ) (name : ℕ → List ℕ) (m : Moment K V) (known : Known) (s : Scene K V) (old new : Held K V) (at : IsAt same hash old s)
     (whole : ShowsWhole same name m known s) (once : WaitsOnce m.deferred) (waiting : ShowsWaiting m known s.world) (i : ℕ) (f : Finishing K V) (here : s.enders i ≡ Some f) (end : EndMap)

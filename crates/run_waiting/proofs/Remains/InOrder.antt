@@ -9,6 +9,7 @@ use Rattle.run_debts.specs.Given.EffectsDeclared.role.Role.{Role}
 use Rattle.run_debts.specs.Given.EffectsDeclared.role.Role.TheVariants as role
 use Rattle.run_debts.specs.Given.SeizeReclaimsRoots.{all_lists}
 use Rattle.run_waiting.specs.Remains.Remains.{AscendFrom, left_at}
+use Rattle.run_debts.proofs.Given.General.{map_append as each_two}
 
 -- what is told of the roots below this one, where roots ascend
 abbrev upto : ℕ → List Remains → List ℕ
@@ -80,10 +81,6 @@ upto_all n (x ∷ rs) below =
     by : (p q : Bool) → q ≡ true → (p || q) ≡ true
     by true q e = refl
     by false q e = e
-
-each_two : {X Y : Type 0} (g : X → Y) (a b : List X) → map g (a ++ b) ≡ map g a ++ map g b
-each_two g [] b = refl
-each_two {Y = Y} g (x ∷ a) b = ap (λ (l : List Y). g x ∷ l) (each_two g a b)
 
 module _ (roles : ℕ → Role) (lists : ℕ → List ℕ) (rs : List Remains) (up : AscendFrom 0 rs) where
   so_far : (n : ℕ) → ((r : ℕ) → r < n → map roles (lists r) ≡ map role.Pair (left_at r rs)) → map roles (all_lists lists n) ≡ map role.Pair (upto n rs)

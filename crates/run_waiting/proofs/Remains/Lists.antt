@@ -9,6 +9,7 @@ use Rattle.run_debts.specs.Given.SchedulesMoment.{Remains}
 use Rattle.run_debts.specs.Given.EffectsDeclared.role.Role.{Role}
 use Rattle.run_debts.specs.Given.EffectsDeclared.role.Role.TheVariants as role
 use Rattle.run_waiting.specs.Remains.Remains.{AscendFrom, has_some, left_at}
+use Rattle.run_debts.proofs.Given.General.{both_false as neither}
 
 pub among_append : (r : ℕ) (xs ys : List ℕ) → is_among r (xs ++ ys) ≡ (is_among r xs || is_among r ys)
 among_append r [] ys = refl
@@ -45,10 +46,6 @@ not_among r xs none = by (is_among r xs) refl
 pub either : (a b : Bool) → (a || b) ≡ true → (a ≡ false → b ≡ true)
 either true b e none = absurd (cc none)
 either false b e none = e
-
-pub neither : (a b : Bool) → (a || b) ≡ false → (a ≡ false) × (b ≡ false)
-neither true b e = absurd (cc e)
-neither false b e = (refl, e)
 
 module _ {X : Type 0} (p : X → Bool) (g : X → ℕ) where
   -- what is found is there

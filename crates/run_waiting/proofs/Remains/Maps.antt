@@ -19,16 +19,9 @@ use Rattle.run_debts.specs.Given.ReclaimsLeft.{IsSomebodys}
 use Rattle.run_debts.proofs.Given.ReclaimsLeft.Stays.{nothing_is_left}
 use Rattle.run_waiting.specs.Remains.Remains.{AscendFrom, ShowsRemains, has_some, left_at, left_roots, map_roots}
 use Rattle.run_waiting.specs.Remains.Steps.{MapsComeRemain, MapsGoRemain, ReclaimedRemain}
-use Rattle.run_waiting.proofs.Remains.Lists.{among_append, among_remains, ascends, either, left_new, left_none, left_other, neither, none_times, not_among, some_noted, some_times, taken_out, times_remains}
+use Rattle.run_waiting.proofs.Remains.Lists.{among_append, among_remains, ascends, either, left_new, left_none, left_other, none_times, not_among, some_noted, some_times, taken_out, times_remains}
 use Rattle.run_debts.specs.Given.ScenesScene.{Scene}
-
-or_true : (a b : Bool) → b ≡ true → (a || b) ≡ true
-or_true true b e = refl
-or_true false b e = e
-
-or_first : (a b : Bool) → a ≡ true → (a || b) ≡ true
-or_first true b e = refl
-or_first false b e = absurd (cc e)
+use Rattle.run_debts.proofs.Given.General.{or_second as or_true, or_first, both_false as neither}
 
 module _ {K V : Type 0} (m : Moment K V) where
   -- how often a root is used, and where one is

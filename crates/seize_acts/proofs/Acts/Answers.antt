@@ -10,13 +10,11 @@ use Rattle.seize_words.specs.OneMemory.Mem.{Mem, Gives, Took, after, value_at, w
 use Rattle.seize_words.specs.OneMemory.Place.{capacity}
 use Rattle.seize_words.specs.OneMemory.Plan.{Plan, Then, Turn, Do, Now, Seeing, Sure, Ends, Steps}
 use Rattle.seize_acts.specs.Acts.Answers.{Grant, then_on, given, found, stored, compared, exchanged, taken, is_free, answer, ends, stepped}
+use Rattle.seize_words.proofs.General.{same_some}
 
 pub some : {X Y : Type 0} (o : Option X) (f : X → Option Y) (y : Y) → then_on o f ≡ Some y → (x : X) × (o ≡ Some x) × (f x ≡ Some y)
 some None f y e = absurd (cc e)
 some (Some x) f y e = (x, refl, e)
-
-pub same_some : {X : Type 0} (x y : X) → Some x ≡ Some y → x ≡ y
-same_some x y e = cc e
 
 pub given_is : {X : Type 0} (y : Bool) (x z : X) → given y x ≡ Some z → (y ≡ true) × (z ≡ x)
 given_is true x z e = (refl, sym (same_some x z e))

@@ -8,11 +8,8 @@ use Rattle.seize.specs.declared.states.TheConstants.{NEXT}
 use Rattle.seize.specs.Law.{holds}
 use Rattle.seize.specs.World.{World, Row, Rests, Use, Vacant, Outside, Inside, Changing, Hand, NoBlock, Making, InUse, Parting, Cutting, Handed, LeftTo, Request, Register', Enter', Leave', LeaveOwned, Refresh, Unregister', Retire, Flush, Defer', Begins, IsOwn, IsInside, IsNotLeft, IsTaken, HasListWord, MayCut}
 use Rattle.seize_acts.specs.Acts.Acts as act
-use Rattle.seize_acts.proofs.Acts.Answers.{same_some, given_is}
-
-pub and_both : (a b : Bool) → (a && b) ≡ true → (a ≡ true) × (b ≡ true)
-and_both true b e = (refl, e)
-and_both false b e = absurd (cc e)
+use Rattle.seize_acts.proofs.Acts.Answers.{given_is}
+use Rattle.seize_words.proofs.General.{both_true as and_both, same_some}
 
 pub or_either : (a b : Bool) → (a || b) ≡ true → (a ≡ true) ⊎ (b ≡ true)
 or_either true b e = inl refl

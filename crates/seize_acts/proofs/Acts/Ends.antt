@@ -36,10 +36,11 @@ use Rattle.seize_model.proofs.Alone.Histories.Reached.{runs_reached}
 use Rattle.seize_acts.specs.Acts.Answers.{Grant, then_on, exchanged, compared, taken, found, stored, answer, ends, stepped}
 use Rattle.seize_acts.specs.Acts.Acts.{Step, became, row_steps, turns, turned, rests}
 use Rattle.seize_acts.specs.Acts.Ends.{RestsWithin, LoneRowsEnd}
-use Rattle.seize_acts.proofs.Acts.Answers.{some, same_some, answer_gives}
+use Rattle.seize_acts.proofs.Acts.Answers.{some, answer_gives}
 use Rattle.seize_acts.proofs.Acts.Begun.{rests_is}
 use Rattle.seize_acts.proofs.Acts.Fine.{all_fine, row_stepped}
 use Rattle.seize_acts.proofs.Acts.Steps.{sees_end, row_turns}
+use Rattle.seize_words.proofs.General.{same_some}
 
 -- a step that may be taken can be, with a choice of the memory
 

@@ -17,8 +17,9 @@ use Rattle.seize.specs.World as world
 use Rattle.seize_acts.specs.Acts.Answers.{Grant, then_on, answer, stepped}
 use Rattle.seize_acts.specs.Acts.Acts.{Act, Change, AllDid, AllMayChange, MayChange}
 use Rattle.seize_acts.specs.Acts.Acts as act
-use Rattle.seize_acts.proofs.Acts.Answers.{some, same_some, given_is, answer_gives, was_stepped}
-use Rattle.seize_acts.proofs.Acts.Begun.{and_both, or_either, rests_is, making_is, cutting_is, left_is, in_use_is, cut_is, begun_is, own_is, link_is, has_word, same_list_is}
+use Rattle.seize_acts.proofs.Acts.Answers.{some, given_is, answer_gives, was_stepped}
+use Rattle.seize_acts.proofs.Acts.Begun.{or_either, rests_is, making_is, cutting_is, left_is, in_use_is, cut_is, begun_is, own_is, link_is, has_word, same_list_is}
+use Rattle.seize_words.proofs.General.{both_true as and_both, same_some}
 
 module _ {T : Type 0} (defers : T → Option ℕ) (size : ℕ) where
   pub row_stepped : (i : ℕ) (row : Row) (g : Grant) (w n : World T) → act.row_steps defers i row g w ≡ Some n → Steps' defers i row w n

@@ -19,7 +19,7 @@ use Rattle.seize_model.proofs.Alone.Histories.Reached.{Reached, happens_reached,
 use Rattle.seize_acts.specs.Acts.Answers.{Grant, then_on, stepped}
 use Rattle.seize_acts.specs.Acts.Acts.{Act, Begin, Step, Operate, Choose, AllDid, Did, became, begun, row_answered, steps, rests}
 use Rattle.seize_acts.specs.Acts.Refused.{IsRegistration, IsRegistering, IsHadMeanwhile, Refuses, IsRefused, Sometime, EachWasHad, FoundNoRoom, UsedUpIfAllAreHad, NoMemoryIfNoRoom, OnlyTwoFaults}
-use Rattle.seize_acts.proofs.Acts.Answers.{some, same_some, was_stepped}
+use Rattle.seize_acts.proofs.Acts.Answers.{some, was_stepped}
 use Rattle.seize_acts.proofs.Acts.Begun.{rests_is, begun_is}
 use Rattle.seize_acts.proofs.Acts.Fine.{all_fine}
 use Rattle.seize_acts.proofs.Acts.Refused.Heads.{TakenOrSame}
@@ -27,6 +27,7 @@ use Rattle.seize_acts.proofs.Acts.Refused.Points.{ends_known}
 use Rattle.seize_acts.proofs.Acts.Refused.Faults.{NoRoom, row_fault}
 use Rattle.seize_acts.proofs.Acts.Refused.Rows.{KnownRow, at_begin_known, still, row_on, KnownIn, Looking, begun_at, begins_no_look, steps_known, asked_to}
 use Rattle.seize_acts.proofs.Acts.Refused.Others.{steps_leave, user_same, slots_heads}
+use Rattle.seize_words.proofs.General.{same_some}
 pub mod Faults
 pub mod Heads
 pub mod Others

@@ -5,7 +5,7 @@ use Rattle.seize_words.specs.declared.at.At.TheVariants as name
 use Rattle.seize_words.specs.OneMemory.Mem.{word_at}
 use Rattle.seize.specs.declared.states.TheConstants.{HEAD, LAST_SLOT}
 use Rattle.seize.specs.World.{World, SlotsTaken, at_start}
-use Rattle.seize_model.proofs.Given.SeizeMovesState.Ghost.{Head, Never, Free, Idle, Active, is_never}
+use Rattle.seize_model.proofs.Given.SeizeMovesState.Ghost.{Head, is_never}
 use Rattle.seize_model.proofs.Given.SeizeMovesState.Rule.{Prefix}
 use Rattle.seize_model.proofs.Given.SeizeMemoryWords.View.{view}
 use Rattle.seize_model.proofs.Given.SeizeMemoryWords.Named.{has, word_found}
@@ -16,6 +16,7 @@ use Rattle.seize_model.proofs.Given.SeizeRuleWorld.Start.{start_good, words_good
 use Rattle.seize_model.proofs.Given.SeizeRuleWorld.Kept.{runs_good}
 use Rattle.seize_acts.specs.Acts.Laws.{SlotsAreFirst}
 use Rattle.seize_acts.proofs.Acts.Fine.{all_fine}
+use Rattle.seize_model.proofs.Sets.Turns.Heads.{never_zero as head_none}
 
 -- the number of slots ever taken
 record Taken (n : ℕ) (head : ℕ → Head) : Type 0 where
@@ -35,13 +36,6 @@ taken (suc n) head prefix outside = by (is_never (head n)) refl (λ never. taken
         was : (t : ℕ) → t ≤ n → (y : Bool) → is_never (head t) ≡ y → y ≡ false
         was t l true e = absurd (cc (prefix t n l e, ever))
         was t l false e = refl
-
--- a slot never taken has the head 0, and any other head is not 0
-pub head_none : (links : ℕ → ℕ) (word : ℕ) (h : Head) → HeadIs links word h → is_never h ≡ true → word ≡ 0
-head_none links word Never is never = is
-head_none links word Free is never = absurd (cc never)
-head_none links word Idle is never = absurd (cc never)
-head_none links word (Active es) is never = absurd (cc never)
 
 module _ {T : Type 0} {size : ℕ} (defers : T → Option ℕ) (w : World T) (good : Good defers (LAST_SLOT + 1) size w) where
   at_head : (t : ℕ) → HeadIs (view defers w.memory).links ((view defers w.memory).heads t) (good.state.head t)

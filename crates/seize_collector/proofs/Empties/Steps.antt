@@ -1,5 +1,5 @@
 -- A step of the machine of the one who has the memory to himself: whether it makes an operation, that it may be taken, and what he knows after it.
-use Rattle.std.specs.Prelude.{◌==◌, Option, Some, None, IsSome, if◌then◌else◌, nat_lt}
+use Rattle.std.specs.Prelude.{◌==◌, Option, Some, None, if◌then◌else◌, nat_lt}
 use Rattle.std.proofs.Common.{◌≡◌, ℕ, ◌<◌, Bool, true, false, refl, sym, subst, ap, ◌∙◌, arith}
 use Rattle.seize_words.specs.OneMemory.Op.{Op, Out, Load, Store, Swap, Add, Or, Exchange, Make, Take, Rewrite, Room, Found, Stored, Exchanged, Made, Taken, Roomed}
 use Rattle.seize_words.specs.OneMemory.Plan.{Plan, Then, Turn, Do, Now, Seeing, Sure, May, Steps, then_as, plan_as}
@@ -33,6 +33,7 @@ use Rattle.seize_collector.specs.declared.alone.Alone.TheVariants.{Registers, Re
 use Rattle.seize_collector.specs.Empties.Emptying.{IsUnderWay, left_of, settling_over, leaving_over, passes_at}
 use Rattle.seize_collector.specs.Empties.Made.{HasAlone, Can, Has, shown_of}
 use Rattle.seize_collector.specs.declared.sole.Sole.{Sole}
+use Rattle.seize_words.proofs.General.{some_there as is_told}
 
 module _ {T A B : Type 0} (f : A → B) where
   do_as : (plan : Plan T A) → IsDo plan → IsDo (plan_as f plan)
@@ -292,8 +293,3 @@ module _ {T : Type 0} (defers : T → Option ℕ) (left_over : T → Bool) where
           (let before = ap left_of under.2 in let after = ap left_of is in let falls = turned.4 in omega (arith, before, after, falls)),
           ap (λ (x : M). x.blocks) k.0,
         )
-
--- a value is looked at that was told
-pub is_told : {T : Type 0} (o : Option T) → IsSome o → (x : T) × (o ≡ Some x)
-is_told (Some x) is = (x, refl)
-is_told None is = absurd (cc is)

@@ -9,7 +9,6 @@ use Rattle.seize.specs.declared.rows.register.Registering.TheVariants as registe
 use Rattle.seize.specs.World.{World, Begin, Register', with_row}
 use Rattle.seize.specs.World as world
 use Rattle.seize_rule.proofs.Rows.Others.{with_here, with_other}
-use Rattle.seize_acts.proofs.Acts.Answers.{same_some}
 use Rattle.seize_seats.specs.Seats.State.{State, view_of}
 use Rattle.seize_seats.specs.Seats.Lendings.{Shown}
 use Rattle.seize_acts.specs.Quiet.Slots.{IsQuiet, StageAt}
@@ -24,6 +23,7 @@ use Rattle.seize_collector.specs.Renews.Promises.{first_of, IdleRenew, LookedIsS
 use Rattle.seize_collector.specs.declared.alone.Alone.{Alone}
 use Rattle.seize_collector.specs.declared.alone.Alone.TheVariants.{Reclaims}
 use Rattle.seize_collector.proofs.Renews.Roots.{came_quiet}
+use Rattle.seize_words.proofs.General.{same_some}
 
 module _ {T : Type 0} (defers : T → Option ℕ) (left_over : T → Bool) where
   pub idle_renew : IdleRenew defers left_over

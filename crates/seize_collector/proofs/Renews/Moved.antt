@@ -4,7 +4,6 @@ use Rattle.std.proofs.Common.{◌≡◌, ℕ, Bool, List, ◌⊎◌, inl, inr, s
 use Rattle.std.proofs.lemmas.Bool.{cases_eq}
 use Rattle.seize_words.specs.OneMemory.Mem.{Mem}
 use Rattle.seize.specs.World.{World}
-use Rattle.seize_acts.proofs.Acts.Answers.{same_some}
 use Rattle.seize_seats.specs.Seats.State.{State, view_of, Goes}
 use Rattle.seize_views.specs.Views.Rows.{IsFound, RootsNameLinked, Came}
 use Rattle.seize_views.specs.declared.view.Fixed.{Fixed}
@@ -12,6 +11,7 @@ use Rattle.seize_views.proofs.Views.Lists.{there, elsewhere}
 use Rattle.seize_collector.specs.Renews.Rule.{Stands, HoldsAlone, KeepsNone}
 use Rattle.seize_collector.specs.declared.alone.Alone.{Alone}
 use Rattle.seize_collector.proofs.Renews.Roots.{RootsStay, roots_still, found_still}
+use Rattle.seize_words.proofs.General.{same_some}
 
 module _ {T : Type 0} (defers : T → Option ℕ) (left_over : T → Bool) (fixed : Fixed) (s : State T (Alone T) (World T)) (id : ℕ) (v u : Alone T)
     (h : HoldsAlone defers left_over fixed s) (at_id : view_of s id ≡ Some v) (m2 : Mem T) (n : World T) (came : Came defers fixed n) (memory : n.memory ≡ m2)

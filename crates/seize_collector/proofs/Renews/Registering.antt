@@ -22,7 +22,6 @@ use Rattle.seize_model.proofs.Ends.Batches.Rows.{registers_memory}
 use Rattle.seize_rule.proofs.Rows.Others.{with_here, with_other}
 use Rattle.seize_rule.proofs.Given.SeizeMemoryWords.Room.{first_there, slots_grow, slot_there}
 use Rattle.seize_rule.proofs.World.Kept.{row_may}
-use Rattle.seize_acts.proofs.Acts.Answers.{same_some}
 use Rattle.seize_seats.specs.Seats.State.{State, view_of, Goes}
 use Rattle.seize_acts.specs.Quiet.Slots.{IsQuiet, Stage}
 use Rattle.seize_acts.proofs.Quiet.Ends.Counted.{slots_end}
@@ -38,6 +37,7 @@ use Rattle.seize_collector.specs.declared.alone.Alone.{Alone}
 use Rattle.seize_collector.specs.declared.alone.Alone.TheVariants.{Registers, Reclaims}
 use Rattle.seize_collector.proofs.Renews.Moved.{moved}
 use Rattle.seize_collector.proofs.Renews.Roots.{came_quiet, step_stays}
+use Rattle.seize_words.proofs.General.{same_some}
 
 -- where there are no slots, none has a word
 no_word : (slots : List (List ℕ)) → length slots ≡ 0 → slot_word slots 0 HEAD ≡ None

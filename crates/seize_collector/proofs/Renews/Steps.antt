@@ -9,7 +9,6 @@ use Rattle.seize.specs.declared.rows.settle.Settled.{Settled}
 use Rattle.seize.specs.declared.rows.settle.Settled.TheVariants as settled
 use Rattle.seize.specs.ReclaimAll.{reclaim_all_plan}
 use Rattle.seize.specs.World.{World}
-use Rattle.seize_acts.proofs.Acts.Answers.{same_some}
 use Rattle.seize_seats.specs.Seats.State.{State, view_of, Goes}
 use Rattle.seize_acts.specs.Quiet.Slots.{Led, SlotsTold}
 use Rattle.seize_acts.specs.Quiet.Promises.{IsOnSlots, DoneWithin}
@@ -26,6 +25,7 @@ use Rattle.seize_collector.specs.declared.alone.Alone.TheVariants.{Reclaims}
 use Rattle.seize_collector.proofs.Renews.Looks.{may_end, reclaim_looked}
 use Rattle.seize_collector.proofs.Renews.Moved.{moved}
 use Rattle.seize_collector.proofs.Renews.Roots.{came_quiet, rows_stay, RootsStay}
+use Rattle.seize_words.proofs.General.{same_some}
 
 -- what one that works on slots tells
 goes_on : {T : Type 0} (w w2 : World T) (o : Settled T) → SlotsTold w w2 o → HasGone o

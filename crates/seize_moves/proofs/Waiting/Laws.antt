@@ -1,16 +1,16 @@
 -- What the laws promise, clause by clause: the one file of lemmas that crates above the collector cite.
 use Rattle.std.proofs.Common.{ℕ, suc, [], ◌∷◌, refl}
 use Rattle.seize.specs.WaitingSets.{Enters, Leaves, Refreshes, Retires, Flushes, Defers, Ends, ReclaimsAll, size}
-use Rattle.seize_moves.specs.Waiting.Laws.{TidyAtStart, OpenIsHeld, ChangesKeep, AllChangesKeep, ChangesFollow, DeferredIsHeld, OthersAreLeftAlone, HandedWaits, ActiveSlotsWait, RoundsTakeAway, NothingIsLeft, EndsLeave}
+use Rattle.seize_moves.specs.Waiting.Laws.{TidyAtStart, OpenIsHeld, ChangesKeep, ChangesFollow, OthersAreLeftAlone, ActiveSlotsWait, RoundsTakeAway, NothingIsLeft, EndsLeave}
 use Rattle.seize_moves.specs.Waiting.Lists.{ListsAddUp, UncountedIsNotThere, AgreeOnLists, SlotsCome, SlotsGo, KeptAreBehindOthers, EachIsListed}
 use Rattle.seize_moves.proofs.Waiting.Behind.{behind_others, each_listed}
 use Rattle.seize_moves.proofs.Waiting.Counts.{count-append, not_one, map_same}
 use Rattle.seize_moves.proofs.Waiting.Emptied.{size_falls, all_reclaimed_empty}
 use Rattle.seize_moves.proofs.Waiting.Ended.{ends_leave as ends}
 use Rattle.seize_moves.proofs.Waiting.Flushes.{retired_all_frame, left_others, counted_frame, flushed_frame}
-use Rattle.seize_moves.proofs.Waiting.Handed.{deferred_held, handed_waits as waits}
+use Rattle.seize_moves.proofs.Waiting.Handed.{handed_waits, deferred_held as deferred_is_held}
 use Rattle.seize_moves.proofs.Waiting.Held.{open_all_counts}
-use Rattle.seize_moves.proofs.Waiting.Kept.{changed_keeps, all_changed_keep, all_changed-append}
+use Rattle.seize_moves.proofs.Waiting.Kept.{changed_keeps, all_changed-append, all_changed_keep as all_changes_keep}
 use Rattle.seize_moves.proofs.Waiting.Quiet.{retires_quietly}
 use Rattle.seize_moves.proofs.Waiting.Tidy.{tidy_start, slot_counted, without_counted}
 
@@ -33,20 +33,11 @@ others_are_left_alone batch_size ReclaimsAll t w alone = absurd alone
 pub changes_keep : (batch_size : ℕ) → ChangesKeep batch_size
 changes_keep = changed_keeps
 
-pub all_changes_keep : (batch_size : ℕ) → AllChangesKeep batch_size
-all_changes_keep = all_changed_keep
-
 pub changes_follow : (batch_size : ℕ) → ChangesFollow batch_size
 changes_follow = all_changed-append
 
-pub deferred_is_held : (batch_size : ℕ) → DeferredIsHeld batch_size
-deferred_is_held = deferred_held
-
 pub active_slots_wait : (batch_size : ℕ) → ActiveSlotsWait batch_size
 active_slots_wait = retires_quietly
-
-pub handed_waits : (batch_size : ℕ) → HandedWaits batch_size
-handed_waits = waits
 
 pub rounds_take_away : (batch_size : ℕ) → RoundsTakeAway batch_size
 rounds_take_away = size_falls

@@ -29,9 +29,7 @@ use Rattle.seize_rule.proofs.Points.Stepped.{Stepped, Went, went_written}
 use Rattle.seize_rule.proofs.Points.Known.{CommonOf, HoldingOf, open_blocks, MayHold, Rest, Counts, Fits, bare}
 use Rattle.seize_rule.proofs.Points.Onwards.{onward_fits, onward_slot}
 use Rattle.seize_rule.proofs.Points.Retire.{of_link, open_stage}
-
-here : {X : Type 0} (g : ℕ → X) (k : ℕ) (u : X) → put g k u k ≡ u
-here g k u = grind arith
+use Rattle.seize_moves.proofs.Memory.Words.Apart.{put_here as here}
 
 -- the link of a batch's first block, once b is in it
 pub head_link : (b : ℕ) (l : List ℕ) → first_or (link b) l ≡ link (head_or b l)

@@ -35,9 +35,7 @@ use Rattle.seize_rule.proofs.Points.Stepped.{Stepped, HasWords, Went, went_writt
 use Rattle.seize_rule.proofs.Points.Writes.{keeps_then}
 use Rattle.seize_rule.proofs.Points.Onwards.{may_hold_on, onward_fits, onward_slot}
 use Rattle.seize_rule.proofs.Points.Lists.{loose_lives}
-
-live_shut : (g : Stage) → is_shut g ≡ true → IsLive g ≡ true
-live_shut g h = grind arith
+use Rattle.seize_rule.proofs.Points.May.{shut_live as live_shut}
 
 -- the batch of a loose entry has a first block, which the entry's block names
 first_of_batch : (n i : ℕ) (f : View) (m : State) (x : Extra) (e : Ghosts.Entry) (es : List Ghosts.Entry) → Inv n m → Shows n f m x → m.loose i ≡ e ∷ es

@@ -28,18 +28,14 @@ use Rattle.seize_rule.proofs.Points.Stepped.{Stepped, HasWords, quiet, Went, wen
 use Rattle.seize_rule.proofs.Points.Known.{AllTaken, HoldingOf, open_blocks, Marks, Marked, Closes, Fits, bare, Shuts}
 use Rattle.seize_rule.proofs.Points.Retire.{of_link, open_stage, open_chain, some_last}
 -- what a head's word says
-use Rattle.seize_rule.proofs.Points.Try.{here, taken_more, length-more, tries_on}
+use Rattle.seize_rule.proofs.Points.Try.{taken_more, tries_on}
 use Rattle.std.proofs.lemmas.List.{append_assoc}
 use Rattle.seize_moves.specs.Waiting.Held.{count}
 use Rattle.seize_moves.proofs.Memory.Written.Close.{closed_written}
 use Rattle.seize_rule.proofs.Points.Scan.{behind_fits, behind_part}
-
-count_in : (us vs : List ℕ) (d : ℕ) → 0 < count d (us ++ d ∷ vs)
-count_in [] vs d = grind arith
-count_in (u ∷ us) vs d = one (count_in us vs d)
-  where
-    one : 0 < count d (us ++ d ∷ vs) → 0 < count d (u ∷ us ++ d ∷ vs)
-    one h = omega arith
+use Rattle.seize_moves.proofs.Memory.Words.Apart.{put_here as here}
+use Rattle.seize_rule.proofs.Points.May.{count_mid as count_in}
+use Rattle.seize_words.proofs.General.{length_and_one as length-more}
 
 length-both : (us vs : List ℕ) → length us ≤ length (us ++ vs)
 length-both [] vs = omega arith

@@ -68,14 +68,14 @@ module _ (n i : ℕ) (f : View) (m : State) (x : Extra) (inv : Inv n m) (v : Sho
       one : (p : Spot) (l : Life) → p ≡ InHands i e.batch → SpotLife p l → l ≡ IsIn e.batch
       one p l h k = grind arith
 
-shut_live : (g : Stage) → is_shut g ≡ true → IsLive g ≡ true
+pub shut_live : (g : Stage) → is_shut g ≡ true → IsLive g ≡ true
 shut_live g h = grind arith
 
 count_last_of : (l : List ℕ) → (l ≡ [] → ⊥) → 0 < count (last_of l) l
 count_last_of [] h = absurd (h refl)
 count_last_of (c ∷ l) h = count_last c l
 
-count_mid : (us vs : List ℕ) (d : ℕ) → 0 < count d (us ++ d ∷ vs)
+pub count_mid : (us vs : List ℕ) (d : ℕ) → 0 < count d (us ++ d ∷ vs)
 count_mid [] vs d = grind arith
 count_mid (u ∷ us) vs d = one (count_mid us vs d)
   where

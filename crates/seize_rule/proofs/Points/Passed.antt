@@ -1,12 +1,13 @@
 -- A scan that finds a slot never taken is over: no slot behind it was ever taken, and all of them are passed in one move.
 use Rattle.std.proofs.Common.{◌≡◌, ℕ, ◌+◌, ◌<◌, ◌≤◌, Bool, true, false, cond, eqb, List, [], refl, arith, eqb-true}
 use Rattle.seize_moves.proofs.Moves.State.Ghost.{put, Debt, Stage, Open, State, is_active, was_put}
-use Rattle.seize_moves.proofs.Moves.State.Rule.{Inv, Moved, AtStage, Tally, same_row, row_of, same_slot, slot_of, not_longer}
+use Rattle.seize_moves.proofs.Moves.State.Rule.{Inv, Moved, AtStage, Tally, same_row, row_of, same_slot, slot_of}
 use Rattle.seize_moves.proofs.Moves.State.Moves.{passed_all}
 use Rattle.seize_moves.proofs.Moves.Moves.Tries.{passed_loose, passed_scanned, passed_guarded, passed_total, passed_put}
 use Rattle.seize_moves.proofs.Moves.State.Grown.{other_marked}
 use Rattle.seize_moves.proofs.Memory.Words.View.{View}
 use Rattle.seize_moves.proofs.Memory.Words.Shows.{Extra, Shows, Written, keeps_like}
+use Rattle.seize_words.proofs.General.{at_most_itself as not_longer}
 
 abbrev pub passed_rest : ℕ → State → ℕ → State
 passed_rest n m x = record m { debt = put m.debt x (passed_all n (m.debt x)); seen = put m.seen x n }

@@ -31,7 +31,8 @@ use Rattle.seize_rule.proofs.Points.Known.{TakenBelow, MayHold, Tries, Scans, Fi
 use Rattle.seize_rule.proofs.Points.Onwards.{onward_fits, onward_slot}
 use Rattle.seize_rule.proofs.Points.Retire.{open_stage, open_chain}
 -- what a head's word says
-use Rattle.seize_rule.proofs.Points.Try.{here, never_word, taken_word, inactive_word, active_word, below_more, tries_on, common_on, holding_on}
+use Rattle.seize_rule.proofs.Points.Try.{never_word, taken_word, inactive_word, active_word, below_more, tries_on, common_on, holding_on}
+use Rattle.seize_moves.proofs.Memory.Words.Apart.{put_here as here}
 
 module _ (n i : ℕ) (f : View) (m : State) (x : Extra) (c : Settle) (last : n ≡ LAST_SLOT + 1) where
   -- the slot behind, or the batch is closed

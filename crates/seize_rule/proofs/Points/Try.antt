@@ -6,9 +6,8 @@ use Rattle.seize_moves.proofs.Moves.State.Ghost.{put, Head, Never, Free, Idle, A
 use Rattle.seize_moves.proofs.Memory.Words.Chains.{first_or}
 use Rattle.seize_moves.proofs.Memory.Words.Shows.{Extra, HeadIs}
 use Rattle.seize_rule.proofs.Points.Known.{AllTaken, TakenBelow, Common, HoldingOf, open_blocks, Tries, bare}
-
-pub here : {X : Type 0} (g : ℕ → X) (k : ℕ) (u : X) → put g k u k ≡ u
-here g k u = grind arith
+use Rattle.seize_moves.proofs.Memory.Words.Apart.{put_here as here}
+use Rattle.seize_words.proofs.General.{length_and_one as length-more}
 
 -- what a head's word says
 
@@ -48,13 +47,6 @@ below_more head k b h t l = one (eqb t k) (eqb-true t k) (eqb-false t k)
 pub taken_more : (head : ℕ → Head) (ts : List ℕ) (t : ℕ) → AllTaken head ts → is_never (head t) ≡ false → AllTaken head (ts ++ t ∷ [])
 taken_more head [] t a h = (h, tt)
 taken_more head (u ∷ ts) t a h = (a.0, taken_more head ts t a.1 h)
-
-pub length-more : (ts : List ℕ) (t : ℕ) → length (ts ++ t ∷ []) ≡ length ts + 1
-length-more [] t = refl
-length-more (u ∷ ts) t = one (length-more ts t)
-  where
-    one : length (ts ++ t ∷ []) ≡ length ts + 1 → length (u ∷ ts ++ t ∷ []) ≡ length (u ∷ ts) + 1
-    one h = omega arith
 
 -- A try goes on in a state in which more slots are scanned. The batch's blocks, and all that the row has in its hands, are as before.
 module _ (n i : ℕ) (m m2 : State) (x : Extra) (c : Settle) (slot marks slot2 marks2 : ℕ) (us vs ts ts2 : List ℕ) (r : Tries n i m x (bare c) slot marks us vs ts)

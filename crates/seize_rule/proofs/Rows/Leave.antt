@@ -41,7 +41,7 @@ use Rattle.seize_moves.proofs.Moves.Sets.Unmoved.{unmoved_kept, unmoved_same, fr
 use Rattle.seize_rule.proofs.Rows.Told.{IsSettled, LeaveGoes, LeaveSettled, LeaveEnds}
 use Rattle.seize_rule.proofs.World.Good.{Good, Next, next_after}
 
-over_is : (p : Settling) → is_over p ≡ true → p ≡ settling.Over
+pub over_is : (p : Settling) → is_over p ≡ true → p ≡ settling.Over
 over_is p e = grind arith
 
 counted_settled : (c : Leave) → IsSettled (counted_down c).stands

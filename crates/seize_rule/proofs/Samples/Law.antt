@@ -82,7 +82,7 @@ taken_unretired : IsSound (Taken 7 ∷ Left 0 ∷ out) → ⊥
 taken_unretired h = let a = h.0 in cc
 
 -- wrong: it is retired while it can be reached
-retired_in_reach : IsSound (Retired 7 ∷ Linked 7 3 ∷ []) → ⊥
+pub retired_in_reach : IsSound (Retired 7 ∷ Linked 7 3 ∷ []) → ⊥
 retired_in_reach h = let a = h.0 in cc
 
 -- wrong: it is retired twice

@@ -1,6 +1,7 @@
 -- The law of reclamation on logs worked by hand, newest first: what it accepts, and what it refuses.
 use Rattle.std.proofs.Common.{◌≡◌, ℕ, false, List, [], ◌∷◌, inl, inr, refl, arith}
 use Rattle.seize.specs.Law.{Effect, Entered, Left, Linked, Unlinked, Deferred, Retired, Taken, Dropped, Ended, LeftOver, IsSound, holds}
+use Rattle.seize_rule.proofs.Samples.Law.{retired_in_reach as refused_retired_while_linked}
 
 -- a block is retired while two slots are active, and reclaimed once both have left
 abbrev reclaimed_after_both_left : List Effect
@@ -19,10 +20,6 @@ refused_while_one_is_active p = absurd (grind (arith, p.2 1))
 -- a slot that was entered after the block was unlinked can't reach it
 accepted_beside_a_later_section : IsSound (Taken 7 ∷ Entered 0 ∷ Retired 7 ∷ Unlinked 7 ∷ Linked 7 3 ∷ [])
 accepted_beside_a_later_section = (refl, refl, (λ s. grind arith), (refl, refl, tt))
-
--- a block that can be reached is not retired
-refused_retired_while_linked : IsSound (Retired 7 ∷ Linked 7 3 ∷ []) → ⊥
-refused_retired_while_linked p = absurd (grind (arith, p.0))
 
 -- nor twice
 refused_retired_twice : IsSound (Retired 7 ∷ Retired 7 ∷ Unlinked 7 ∷ Linked 7 3 ∷ []) → ⊥

@@ -57,7 +57,7 @@ taken_head (Outside j) h k now t f = let p = f.0 in grind (arith, p)
 taken_head (Inside j) h k now t f = let p = f.0 in grind (arith, p)
 taken_head Changing h k now t f = absurd t
 
-inside_taken : (u : Use) → IsInside u → IsTaken u
+pub inside_taken : (u : Use) → IsInside u → IsTaken u
 inside_taken Vacant t = absurd t
 inside_taken (Outside j) t = absurd t
 inside_taken (Inside j) t = tt

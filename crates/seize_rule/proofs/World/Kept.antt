@@ -1,12 +1,10 @@
 -- The world stays good whatever happens, and each row may take its next step.
 use Rattle.std.specs.Prelude.{Option}
-use Rattle.std.proofs.Common.{◌≡◌, ℕ, ◌+◌, Bool, true, false, List, [], ◌∷◌, length, refl, arith, subst, sym, ap}
+use Rattle.std.proofs.Common.{◌≡◌, ℕ, ◌+◌, Bool, true, false, List, [], ◌∷◌, length, refl, subst, sym, ap}
 use Rattle.seize_words.specs.OneMemory.Mem.{Mem, Took, value_at}
 use Rattle.seize_words.specs.OneMemory.Plan.{Steps}
 use Rattle.seize.specs.declared.states.TheConstants.{LAST_SLOT}
 use Rattle.seize.specs.declared.rows.settle.Settle.{Settle}
-use Rattle.seize.specs.declared.rows.settle.Settling.{Settling}
-use Rattle.seize.specs.declared.rows.settle.Settling.TheVariants as at
 use Rattle.seize.specs.declared.rows.settle.Settled.{Settled}
 use Rattle.seize.specs.Settle.{settle_plan}
 use Rattle.seize.specs.Law.{Effect, IsSound}
@@ -25,7 +23,7 @@ use Rattle.seize_rule.proofs.Points.Aside.{HandFits}
 use Rattle.seize_rule.proofs.Rows.Settled.{settles_next, settles_over_next}
 use Rattle.seize_rule.proofs.World.Begins.{begins_next}
 use Rattle.seize_rule.proofs.Rows.Slots.{enters_next, enters_may, frees_next, frees_may}
-use Rattle.seize_rule.proofs.Rows.Leave.{leaves_next, leaves_may}
+use Rattle.seize_rule.proofs.Rows.Leave.{leaves_next, leaves_may, over_is}
 use Rattle.seize_rule.proofs.Rows.Deferring.{defers_next, defers_may}
 use Rattle.seize_rule.proofs.Rows.Register.{registers_next, registers_may}
 use Rattle.seize_rule.proofs.World.Events.{makes_good, drops_good, link_good, end_good, part_good, unlink_good, rewrites_good, operates_good, chooses_good, leaves_over_good, relinks_good, clears_good}
@@ -39,9 +37,6 @@ IsStill (Begin i request) = ⊥
 IsStill (Step i) = ⊥
 IsStill (LeavesOver i b (c ∷ further)) = ⊥
 IsStill _ = Unit {0}
-
-over_is : (p : Settling) → is_over p ≡ true → p ≡ at.Over
-over_is p e = grind arith
 
 module _ {T : Type 0} (defers : T → Option ℕ) (n size : ℕ) (last : n ≡ LAST_SLOT + 1) (w w2 : World T) (good : Good defers n size w) (sized : AllSized size w.row) where
   settle_all : (i : ℕ) (c : Settle) → w.row i ≡ Settles c

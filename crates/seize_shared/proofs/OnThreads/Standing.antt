@@ -2,13 +2,13 @@
 use Rattle.std.specs.Prelude.{Some, None, ◌==◌, if◌then◌else◌}
 use Rattle.std.proofs.Common.{◌≡◌, ℕ, Bool, true, false, refl, ap, sym, ◌∙◌}
 use Rattle.std.proofs.lemmas.Bool.{eqb-false}
-use Rattle.seize_views.proofs.Given.SeizeActsAnswers.{same_some}
 use Rattle.seize_shared.specs.OnThreads.Standing.{standing}
 use Rattle.seize_views.specs.Views.Promises.{IsLooking}
 use Rattle.seize_views.specs.declared.view.SlotView.{SlotView}
 use Rattle.seize_views.specs.declared.view.SlotView.TheVariants.{Rests, Registers, Outside, Owes, Enters, Inside, Settles, Leaves, Left, Frees, Brings, Bears, Watches, Under, Busy}
 use Rattle.seize_views.specs.declared.view.Has.{Has}
 use Rattle.seize_views.specs.declared.view.Has.TheVariants.{Nothing, Made, Seen, Both, Cut}
+use Rattle.seize_words.proofs.General.{same_some}
 
 abbrev Standing : Type 0
 Standing = ℕ × Bool × ℕ

@@ -8,6 +8,7 @@ use Rattle.seize_words.specs.declared.at.At.TheVariants.{Root}
 use Rattle.seize_seats.specs.Seats.State.{State, Goes, Allows, Learns, Meets}
 use Rattle.seize_seats.specs.Seats.State as State
 use Rattle.seize_tests.specs.BlocksTests.Grown.{HasGrown, grows, no_less, greater}
+use Rattle.seize_tests.proofs.BlocksTests.Roots.{set_first}
 
 -- nothing is kept
 abbrev pub NoneKept : ℕ → ℕ → Unit {0} → ℕ → Type 0
@@ -55,10 +56,6 @@ loads id v s has at = (ap is_some has.there, λ out m took. told out m took)
     told (Made r) m took = absurd took.0
     told (Taken r) m took = absurd took.0
     told (Roomed r) m took = absurd took.0
-
-set_first : (l : List ℕ) (x w : ℕ) → slice_get l 0 ≡ Some x → slice_get (slice_set l 0 w) 0 ≡ Some w
-set_first [] x w e = absurd (cc e)
-set_first (y ∷ l) x w e = refl
 
 pub raises : (id v old new : ℕ) → old ≤ new → Allows HasGrown NoneKept id v (Exchange (Root 0) old new) (grows v (Exchange (Root 0) old new))
 raises id v old new le s has at = (ap is_some has.there, λ out m took. told out m took)

@@ -15,7 +15,7 @@ NoneKept u o w b = ⊥
 abbrev pub Any : Unit {0} → Type 0
 Any w = Unit {0}
 
-set_first : (l : List ℕ) (x w : ℕ) → slice_get l 0 ≡ Some x → slice_get (slice_set l 0 w) 0 ≡ Some w
+pub set_first : (l : List ℕ) (x w : ℕ) → slice_get l 0 ≡ Some x → slice_get (slice_set l 0 w) 0 ≡ Some w
 set_first [] x w e = absurd (cc e)
 set_first (y ∷ l) x w e = refl
 

@@ -18,9 +18,9 @@ use Rattle.seize.specs.declared.rows.settle.Settled.{Settled}
 use Rattle.seize.specs.Settle.{settle_plan, plan_at, counts}
 use Rattle.seize.specs.World.{World, Row, Rests, Handed, Retire, at_start}
 use Rattle.seize_acts.specs.Acts.Acts.{Begin, Step, Operate, Links, Unlinks}
-use Rattle.seize_acts.proofs.Acts.Answers.{same_some}
 use Rattle.seize_acts.proofs.Acts.Samples.Base.{plain, or_start, after, on, enters, links, settle_by}
 use Rattle.seize_views.specs.Reaches.Reached.{words_of_row, IsWordIn, LeadsBy, LeadsTo, OneLeadsTo, IsOfASlot, IsOfARow, IsOfABlock}
+use Rattle.seize_words.proofs.General.{both_true as both, same_some}
 
 -- words that name such blocks alone
 module _ (such : ℕ → Bool) where
@@ -31,11 +31,6 @@ module _ (such : ℕ → Bool) where
   abbrev pub rows_such : List (List ℕ) → Bool
   rows_such [] = true
   rows_such (words ∷ rows) = all_such words && rows_such rows
-
-  both : (x y : Bool) → (x && y) ≡ true → (x ≡ true) × (y ≡ true)
-  both true true e = (refl, refl)
-  both true false e = absurd (cc e)
-  both false y e = absurd (cc e)
 
   pub one_such : (words : List ℕ) (i word : ℕ) → all_such words ≡ true → slice_get words i ≡ Some word → such (block_in word) ≡ true
   one_such [] i word all at = absurd (cc at)

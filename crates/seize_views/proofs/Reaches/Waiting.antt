@@ -20,6 +20,8 @@ use Rattle.seize_views.specs.Reaches.Reached.{words_of_row, words_of_settling, L
 use Rattle.seize_views.proofs.Reaches.Paths.{leads_here, leads_along}
 use Rattle.seize_views.proofs.Reaches.Rows.{common, NotYet, OnItsWay, popped, undrained, HasAtHand, HasNone, HasBlock, HasSettling, at_hand}
 use Rattle.seize_views.proofs.Reaches.Rows as rows
+use Rattle.seize_acts.proofs.Given.SeizeAloneHistories.Waiting.{carries_lives as carrying_lives}
+use Rattle.seize_acts.proofs.Given.SeizeMemoryWords.Lists.{deferred_of as deferred_on}
 
 -- a word that is there is what it is seen as
 pub is_there : (o : Option ℕ) → IsSome o → o ≡ Some (or_zero o)
@@ -34,9 +36,6 @@ pending_of i l ne = grind (arith, ne)
 doomed_of : (i : ℕ) (l : Life) → (is_doomed i l ≡ 0 → ⊥) → l ≡ IsDoomed i
 doomed_of i l ne = grind (arith, ne)
 
-deferred_on : (t : ℕ) (l : Life) → (is_deferred t l ≡ 0 → ⊥) → l ≡ IsDeferred t
-deferred_on t l ne = grind (arith, ne)
-
 -- a block that does not stand in a list stands in none behind its first one, and the other way round
 
 none_behind : (a d : ℕ) (l : List ℕ) → count a (d ∷ l) ≡ 0 → count a l ≡ 0
@@ -44,9 +43,6 @@ none_behind a d l z = grind (arith, z)
 
 none_with : (a d : ℕ) (l : List ℕ) → (a ≡ d → ⊥) → count a l ≡ 0 → count a (d ∷ l) ≡ 0
 none_with a d l ne z = grind (arith, z, ne)
-
-carrying_lives : (l : Life) → can_carry l ≡ true → lives l ≡ true
-carrying_lives l c = grind (arith, c)
 
 module _ {T : Type 0} {size : ℕ} (defers : T → Option ℕ) (w : World T) (good : Good defers (LAST_SLOT + 1) size w) where
   abbrev n : ℕ

@@ -7,7 +7,6 @@ use Rattle.seize.specs.declared.rows.settle.Settle.{Settle}
 use Rattle.seize.specs.Settle.{retiring, flushing}
 use Rattle.seize.specs.World.{World, Use, Hand, at_start}
 use Rattle.seize.specs.World as world
-use Rattle.seize_acts.proofs.Acts.Answers.{same_some}
 use Rattle.seize_seats.specs.Seats.State.{State, view_of, joined, Comes, Starts}
 use Rattle.seize_views.specs.Views.Rows.{TurnsTo, row_of, use_of, hand_of, IsCut, IsKnown, IsInSomeHand, Fits, IsBounded, Holds, Keeps}
 use Rattle.seize_views.specs.Views.Begun.{IsBegun}
@@ -26,6 +25,7 @@ use Rattle.seize_views.proofs.Views.Begins.{resting}
 use Rattle.seize_views.proofs.Views.Lifted as lifted
 use Rattle.seize_views.proofs.Views.Roots.{forgets}
 use Rattle.seize_views.proofs.Views.Turning.{Turning, turning}
+use Rattle.seize_words.proofs.General.{same_some}
 
 -- each root is 0 at the start
 zeros : (n r word : ℕ) → slice_get (replicate n 0) r ≡ Some word → 0 ≡ word

@@ -15,7 +15,6 @@ use Rattle.seize_acts.proofs.Given.SeizeRuleWorld.Values.{taken_value, made_valu
 use Rattle.seize_acts.specs.Given.SeizeAloneAlone.{IsOfUsers}
 use Rattle.seize_acts.proofs.Given.SeizeAloneHistories.Reached.{Reached}
 use Rattle.seize_acts.proofs.Given.SeizeAloneHistories.NotTaken.{IsHad, IsHeld, kept_there}
-use Rattle.seize_acts.proofs.Acts.Answers.{same_some}
 use Rattle.seize_seats.specs.Seats.State.{State, view_of}
 use Rattle.seize_views.specs.Views.Rows.{Leads, had_in, hand_of, IsMade, IsInHand, Holds}
 use Rattle.seize_views.specs.Views.Told.{alone_with, told}
@@ -30,6 +29,7 @@ use Rattle.seize_views.proofs.Views.Came.{of_users, reached, since_one}
 use Rattle.seize_views.proofs.Views.Found.{found_on, found_with}
 use Rattle.seize_views.proofs.Views.Steps.{roots_kept, world_roots, world_rooted}
 use Rattle.seize_views.proofs.Views.Users.{use_making, beside, same_hand, world_took, making_not_held, passes_one, Carries, within, alone_carries, users}
+use Rattle.seize_words.proofs.General.{same_some}
 
 module _ {T : Type 0} (defers : T → Option ℕ) where
   taken_none : (m : Mem T) (b : ℕ) (x : T) (m2 : Mem T) → Took m (Take b) (Taken x) m2 → value_at m2 b ≡ None

@@ -7,13 +7,13 @@ use Rattle.seize.specs.World.{World, Hand, with_at}
 use Rattle.seize.specs.World as world
 use Rattle.seize_acts.proofs.Given.SeizeRuleRows.Others.{with_here, with_other}
 use Rattle.seize_acts.proofs.Given.SeizeAloneHistories.NotTaken.{IsHad, kept_there}
-use Rattle.seize_acts.proofs.Acts.Answers.{same_some}
 use Rattle.seize_seats.specs.Seats.State.{State, view_of, after}
 use Rattle.seize_views.specs.Views.Rows.{hand_of, IsInSomeHand, IsFound, Holds}
 use Rattle.seize_views.specs.declared.view.SlotView.{SlotView}
 use Rattle.seize_views.specs.declared.view.Fixed.{Fixed}
 use Rattle.seize_views.proofs.Views.Came.{of_users, reached}
 use Rattle.seize_views.proofs.Views.Lists.{there, elsewhere}
+use Rattle.seize_words.proofs.General.{same_some}
 
 -- it is this block, or not
 pub has_or_not : (o : Option ℕ) (b : ℕ) → (o ≡ Some b) ⊎ (o ≡ Some b → ⊥)

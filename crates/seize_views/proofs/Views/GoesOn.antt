@@ -5,7 +5,6 @@ use Rattle.seize_words.specs.OneMemory.Op.{Op, Store, Swap}
 use Rattle.seize_words.specs.declared.at.At.TheVariants.{Slot}
 use Rattle.seize.specs.declared.states.TheConstants.{HEAD, FREE, ACTIVE}
 use Rattle.seize.specs.World.{World, Use}
-use Rattle.seize_acts.proofs.Acts.Answers.{same_some}
 use Rattle.seize_views.specs.Views.Rows.{head_of}
 use Rattle.seize_views.specs.Views.Told.{told}
 use Rattle.seize_views.specs.Views.Promises.{op_of, RowsGoOn}
@@ -17,6 +16,7 @@ use Rattle.seize_views.proofs.Views.Lifted.{has_row, makes}
 use Rattle.seize_views.proofs.Views.Operations.{enters, leaves, frees}
 use Rattle.seize_views.proofs.Views.Registers.{registers}
 use Rattle.seize_views.proofs.Views.Settling.{settles}
+use Rattle.seize_words.proofs.General.{same_some}
 
 -- in a world
 module _ {T : Type 0} (defers : T → Option ℕ) (fixed : Fixed) (Is : Use → Use → Type 0) (like : IsLikeness Is) (w : World T) (i : ℕ) where

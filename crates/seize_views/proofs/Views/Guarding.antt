@@ -10,7 +10,6 @@ use Rattle.seize.specs.Law.{holds}
 use Rattle.seize.specs.World.{World}
 use Rattle.seize.specs.World as world
 use Rattle.seize_acts.proofs.Given.SeizeAloneHistories.NotTaken.{IsHeld, kept_there}
-use Rattle.seize_acts.proofs.Acts.Answers.{same_some}
 use Rattle.seize_seats.specs.Seats.State.{State, view_of, Allows}
 use Rattle.seize_seats.specs.Seats.Lendings.{Shown}
 use Rattle.seize_views.specs.Views.Rows.{Leads, RootsNameLinked, Holds, row_of, use_of, hand_of, IsShort, IsKnown, IsBounded}
@@ -33,6 +32,7 @@ use Rattle.seize_views.proofs.Views.Roots.{root_held}
 use Rattle.seize_views.proofs.Views.Users.{users_on}
 use Rattle.seize_views.proofs.Views.Watched.{some_watch, watches_open}
 use Rattle.seize_views.proofs.Views.Written.{root_can}
+use Rattle.seize_words.proofs.General.{same_some}
 
 module _ {T : Type 0} (defers : T → Option ℕ) (fixed : Fixed) where
   module _ (s : State T (SlotView T) (World T)) (i j : ℕ) (u : SlotView T) (h : Holds defers fixed s) (at_j : view_of s j ≡ Some u) (apart : i ≢ j) where

@@ -3,7 +3,6 @@ use Rattle.std.specs.Prelude.{◌≢◌, Option, Some, None, slice_get, slice_se
 use Rattle.std.proofs.Common.{◌≡◌, ℕ, ◌⊎◌, inl, inr, refl, sym, subst, ap, ◌∙◌}
 use Rattle.std.proofs.lemmas.Bool.{cases_eq}
 use Rattle.seize.specs.World.{World, Hand}
-use Rattle.seize_acts.proofs.Acts.Answers.{same_some}
 use Rattle.seize_seats.specs.Seats.State.{State, view_of, Meets}
 use Rattle.seize_views.specs.Views.Begun.{Hands}
 use Rattle.seize_views.specs.Views.Promises.{BorneAreHandedOn}
@@ -15,6 +14,7 @@ use Rattle.seize_views.specs.declared.view.Has.TheVariants.{Nothing, Made, Seen,
 use Rattle.seize_views.specs.declared.view.Fixed.{Fixed}
 use Rattle.seize_views.proofs.Views.Found.{found_at}
 use Rattle.seize_views.proofs.Views.Lists.{there, elsewhere}
+use Rattle.seize_words.proofs.General.{same_some}
 
 module _ {T : Type 0} (defers : T → Option ℕ) (fixed : Fixed) (s : State T (SlotView T) (World T)) (i j : ℕ) (v u : SlotView T) (h : Holds defers fixed s)
     (at_i : view_of s i ≡ Some v) (at_j : view_of s j ≡ Some u) (apart : i ≢ j) where

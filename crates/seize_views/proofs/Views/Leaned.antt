@@ -3,12 +3,12 @@ use Rattle.std.specs.Prelude.{◌≢◌, Some, None, ◌++◌, slice_get, slice_
 use Rattle.std.proofs.Common.{◌≡◌, ℕ, true, List, [], ◌∷◌, ◌⊎◌, inl, inr, sym, subst, ap, ◌∙◌}
 use Rattle.std.proofs.lemmas.Bool.{cases_eq}
 use Rattle.seize.specs.Law.{Effect, holds}
-use Rattle.seize_acts.proofs.Acts.Answers.{same_some}
 use Rattle.seize_views.specs.Views.Watched.{open_at, LeansOn, IsOwn, IsBase, Upholds, AreLeaned}
 use Rattle.seize_views.specs.declared.view.Noted.{Noted}
 use Rattle.seize_views.specs.declared.view.SlotView.{SlotView}
 use Rattle.seize_views.specs.declared.view.SlotView.TheVariants.{Under}
 use Rattle.seize_views.proofs.Views.Lists.{there, elsewhere, with_last, with_more}
+use Rattle.seize_words.proofs.General.{same_some}
 
 pub own_under : {T : Type 0} (x : SlotView T) (n t b : ℕ) → IsOwn x → x ≡ Under n t b → ⊥
 own_under x n t b own e = subst IsOwn e own

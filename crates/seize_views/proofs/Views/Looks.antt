@@ -15,7 +15,6 @@ use Rattle.seize.specs.declared.rows.settle.Settled.{Settled}
 use Rattle.seize.specs.Settle as settle
 use Rattle.seize.specs.Settle.{settle_plan, plan_at, standing, drained_first}
 use Rattle.seize.specs.World.{World}
-use Rattle.seize_acts.proofs.Acts.Answers.{same_some}
 use Rattle.seize_seats.specs.Seats.State.{State, view_of}
 use Rattle.seize_seats.specs.Seats.Lendings.{Shown}
 use Rattle.seize_views.specs.Views.Promises.{LookedAreShown}
@@ -23,6 +22,7 @@ use Rattle.seize_views.specs.Views.Rows.{IsReclaiming, IsLooked, Holds}
 use Rattle.seize_views.specs.Views.Told.{shown_by}
 use Rattle.seize_views.specs.declared.view.SlotView.{SlotView}
 use Rattle.seize_views.specs.declared.view.SlotView.TheVariants.{Settles}
+use Rattle.seize_words.proofs.General.{same_some}
 
 -- it looks at nothing
 abbrev pub IsNow : {T R : Type 0} → Then T R → Type 0

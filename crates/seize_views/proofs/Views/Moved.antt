@@ -9,7 +9,6 @@ use Rattle.seize.specs.World as world
 use Rattle.seize_acts.proofs.Given.SeizeRuleWorld.Kept.{rows_may}
 use Rattle.seize_acts.specs.Given.SeizeAloneAlone.{IsOfUsers}
 use Rattle.seize_acts.proofs.Given.SeizeAloneHistories.NotTaken.{IsHad, kept_there}
-use Rattle.seize_acts.proofs.Acts.Answers.{same_some}
 use Rattle.seize_seats.specs.Seats.State.{State, view_of, after}
 use Rattle.seize_acts.specs.Bounds.Bounds.{HasCounted, HasTried, IsAloneOnSlot, Meanwhile}
 use Rattle.seize_views.specs.Views.Rows.{Leads, use_of, row_of, hand_of, had_in, settles_for, IsUsed, IsMade, IsInHand, IsKnown, RootsNameLinked, IsInSomeHand, Fits, Since, Came, IsBounded, Holds, Keeps}
@@ -26,6 +25,7 @@ use Rattle.seize_views.proofs.Views.Found.{HasNow, AreFound, found_at, some_has}
 use Rattle.seize_acts.proofs.Bounds.Bounds.Passing.{still_within}
 use Rattle.seize_views.proofs.Views.Lists.{there, elsewhere}
 use Rattle.seize_views.proofs.Views.Reclaims.{reclaiming_there, reclaiming_handed}
+use Rattle.seize_words.proofs.General.{same_some}
 
 -- a slot that a seat has is not vacant
 pub not_vacant : {T : Type 0} (x : SlotView T) (t : ℕ) (a : Use) → use_of x ≡ Some (t, a) → a ≡ Vacant → ⊥

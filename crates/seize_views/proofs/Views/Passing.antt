@@ -9,7 +9,6 @@ use Rattle.seize_words.specs.declared.at.At.TheVariants.{Root}
 use Rattle.seize.specs.Law.{holds}
 use Rattle.seize.specs.World.{World, IsInside}
 use Rattle.seize_acts.proofs.Given.SeizeAloneHistories.NotTaken.{IsHeld, kept_there}
-use Rattle.seize_acts.proofs.Acts.Answers.{same_some}
 use Rattle.seize_seats.specs.Seats.State.{State, view_of, Allows, Goes}
 use Rattle.seize_views.specs.Views.Rows.{Leads, Holds}
 use Rattle.seize_views.specs.Views.Told.{told}
@@ -29,6 +28,7 @@ use Rattle.seize_views.proofs.Views.Roots.{root_held, marked, marked_named, mark
 use Rattle.seize_views.proofs.Views.Users.{users_on}
 use Rattle.seize_views.proofs.Views.Watched.{open_inside}
 use Rattle.seize_views.proofs.Views.Written.{rooted_still, root_can}
+use Rattle.seize_words.proofs.General.{same_some}
 
 module _ {T : Type 0} where
   -- of a view that leans on a seat: which one, of which slot, and what it has seen

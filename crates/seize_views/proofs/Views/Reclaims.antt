@@ -13,7 +13,6 @@ use Rattle.seize.specs.Settle.{settle_plan, plan_at}
 use Rattle.seize.specs.Leave.{settled}
 use Rattle.seize.specs.declared.states.TheConstants.{LAST_SLOT}
 use Rattle.seize.specs.World.{World, Row, Handed, MayStep}
-use Rattle.seize_acts.proofs.Bounds.Bounds.Hands.{in_hand}
 use Rattle.seize_acts.proofs.Given.SeizeAloneHistories.Reached.{Reached}
 use Rattle.seize_acts.proofs.Given.SeizeMovesState.Ghost.{State}
 use Rattle.seize_acts.proofs.Given.SeizeMovesMoves.Takes.{first_doomed}
@@ -27,6 +26,7 @@ use Rattle.seize_acts.proofs.Given.SeizeMemoryWords.View.{View, view}
 use Rattle.seize_views.specs.Views.Rows.{counting, settles_for, IsReclaiming}
 use Rattle.seize_views.specs.declared.view.Why.{Why}
 use Rattle.seize_views.specs.declared.view.Why.TheVariants.{Retiring, Ending}
+use Rattle.seize_acts.proofs.Given.SeizeAloneHistories.Waiting.{in_hand}
 
 -- a block with a word is there
 some_value : {T : Type 0} (x : Option (Block T)) (word : ℕ) → IsSome (word_in x word) → IsSome (value_in x)

@@ -21,13 +21,13 @@ use Rattle.seize_acts.proofs.Given.SeizeRuleRows.Others.{with_here}
 use Rattle.seize_acts.proofs.Given.SeizeRuleRows.Known.{FitsRow, FitsRegister}
 use Rattle.seize_acts.proofs.Given.SeizeRuleRows.Register.{taken_use}
 use Rattle.seize_acts.proofs.Given.SeizeAloneHistories.Reached.{Reached}
-use Rattle.seize_acts.proofs.Acts.Answers.{same_some}
 use Rattle.seize_views.specs.Views.Rows.{hand_of, use_of, row_of, IsSeeking, IsPlain, IsShort, IsKnown, IsBounded}
 use Rattle.seize_views.specs.Views.Told.{left_by, ComesTo, told}
 use Rattle.seize_views.specs.Views.Promises.{op_in}
 use Rattle.seize_views.specs.declared.view.SlotView.TheVariants.{Registers}
 use Rattle.seize_views.specs.declared.view.Fixed.{Fixed}
 use Rattle.seize_views.proofs.Views.InWorld.{slot_held, IsLikeness, IsUsedLike, HasRow, GoesTo, MayMake, is_reached, may, slot_of}
+use Rattle.seize_words.proofs.General.{same_some}
 
 -- registering that has come so far goes on without entering, or the slot that it has taken was nobody's
 abbrev pub IsWell : (ℕ → Use) → Register × Advance ℕ → Type 0

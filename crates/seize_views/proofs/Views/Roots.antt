@@ -18,7 +18,6 @@ use Rattle.seize_acts.proofs.Given.SeizeMovesState.Logs.{reached_held}
 use Rattle.seize_acts.proofs.Given.SeizeRuleRows.Others.{with_here, with_other}
 use Rattle.seize_acts.proofs.Given.SeizeRuleRows.Teams.{UseFits}
 use Rattle.seize_acts.proofs.Given.SeizeAloneHistories.Reached.{Reached}
-use Rattle.seize_acts.proofs.Acts.Answers.{same_some}
 use Rattle.seize_seats.specs.Seats.State.{State, view_of}
 use Rattle.seize_views.specs.Views.Rows.{Leads, TurnsTo, had_in, hand_of, IsMade, IsInHand, RootsNameLinked, Holds}
 use Rattle.seize_views.specs.Views.Told.{seen_in, cut_in, made_beside, alone_with, told}
@@ -33,6 +32,7 @@ use Rattle.seize_views.proofs.Views.Found.{found_on, linked_some}
 use Rattle.seize_views.proofs.Views.Moved.{inside_of}
 use Rattle.seize_views.proofs.Views.Users.{use_making, making_use, beside, making_not_held, passes_then, Carries, within, alone_carries, users, users_outside, users_owe}
 use Rattle.seize_views.proofs.Views.Written.{Wrote, Cuts, wrote, rooted_still, roots_now, written, FoundIn, found_but, fresh, root_can, unlinked, clears}
+use Rattle.seize_words.proofs.General.{same_some}
 
 -- bits of the tag leave the block of a word as it is
 marked_block : (word bits : ℕ) → bits < 2 ^ 11 → block_in (bit_or word bits) ≡ block_in word

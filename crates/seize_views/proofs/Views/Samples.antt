@@ -8,7 +8,6 @@ use Rattle.seize_words.specs.declared.at.At.TheVariants.{Root, Used, Slot, Entry
 use Rattle.seize_words.specs.OneMemory.Op.{Store}
 use Rattle.seize.specs.World.{World, at_start}
 use Rattle.seize_acts.specs.Acts.Acts.{Operate, Unlinks}
-use Rattle.seize_acts.proofs.Acts.Answers.{same_some}
 use Rattle.seize_acts.proofs.Acts.Samples.Base.{plain, after, enters, links}
 use Rattle.seize_seats.specs.Seats.State.{State}
 use Rattle.seize_views.specs.Reaches.Reached.{words_of_row, LeadsBy, OneLeadsTo}
@@ -19,6 +18,7 @@ use Rattle.seize_views.specs.declared.view.SlotView.TheVariants.{Inside}
 use Rattle.seize_views.specs.declared.view.Has.{Has}
 use Rattle.seize_views.specs.declared.view.Has.TheVariants.{Nothing, Cut}
 use Rattle.seize_views.proofs.Reaches.Samples.{one_such, row_such, AllBare, no_words}
+use Rattle.seize_words.proofs.General.{same_some}
 
 -- caller 0 has entered slot 0, and taken block 1 from the root, where it was linked
 abbrev cut : World ℕ

@@ -1,6 +1,6 @@
 -- A settling goes on: its next operation may be made, and leads on.
 use Rattle.std.specs.Prelude.{Option, Some, length}
-use Rattle.std.proofs.Common.{◌≡◌, ℕ, ◌+◌, ◌<◌, Bool, true, false, refl, sym, subst, ap, ◌∙◌, arith, inl, inr}
+use Rattle.std.proofs.Common.{◌≡◌, ℕ, ◌+◌, ◌<◌, Bool, true, false, refl, sym, subst, ap, ◌∙◌, inl, inr}
 use Rattle.seize_words.specs.OneMemory.Mem.{Mem, Can, Took, value_at}
 use Rattle.seize_words.specs.OneMemory.Op.{Op, Out}
 use Rattle.seize_words.specs.OneMemory.Plan.{Plan, Turn, Do, Ends, Steps, May}
@@ -26,7 +26,7 @@ use Rattle.seize_acts.proofs.Given.SeizeRulePoints.Settle.{is_over, settle_steps
 use Rattle.seize_acts.proofs.Given.SeizeRuleWorld.Start.{words_good}
 use Rattle.seize_straight.specs.Going.{DropGoes}
 use Rattle.seize_acts.proofs.Given.SeizeAloneHistories.Reached.{Reached}
-use Rattle.seize_acts.proofs.Acts.Answers.{same_some, ended}
+use Rattle.seize_acts.proofs.Acts.Answers.{ended}
 use Rattle.seize_acts.proofs.Acts.Steps.{sees_end}
 use Rattle.seize_acts.proofs.Given.SeizeEndsBatches.Rows.{settles_memory}
 use Rattle.seize_acts.specs.Bounds.Bounds.{HasCounted, HasTried, IsAloneOnSlot, SettlesWithin, TriesWithin}
@@ -43,6 +43,8 @@ use Rattle.seize_acts.proofs.Bounds.Bounds.Passing.{steps_within}
 use Rattle.seize_views.proofs.Views.InWorld.{IsLikeness, HasRow, GoesTo, MayMake, is_reached, may, used_as, slot_of}
 use Rattle.seize_views.proofs.Views.Reclaims.{fits_settle, may_settle}
 use Rattle.seize_views.proofs.Views.Looks.{rest_of, looked}
+use Rattle.seize_acts.proofs.Given.SeizeRuleRows.Leave.{over_is}
+use Rattle.seize_words.proofs.General.{same_some}
 
 module _ {T R : Type 0} where
   -- what may be done, and is an operation, may be made, and comes to an end
@@ -71,9 +73,6 @@ module _ {T : Type 0} where
   further Done going = absurd going
 
 module _ {T : Type 0} (defers : T → Option ℕ) where
-  over_is : (p : Settling) → is_over p ≡ true → p ≡ at.Over
-  over_is p e = grind arith
-
   -- a settling that makes an operation is not over
   not_over : (c : Settle) (p : Settling) (op : Op T) → op_in (plan_at defers c p) ≡ Some op → (y : Bool) → is_over p ≡ y → y ≡ false
   not_over c p op e false is = refl

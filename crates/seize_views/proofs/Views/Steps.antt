@@ -1,5 +1,5 @@
 -- A row that begins, and a step of one, as what a seat has done.
-use Rattle.std.specs.Prelude.{◌≢◌, ◌++◌, Option, Some, IsSome, length, slice_get, None}
+use Rattle.std.specs.Prelude.{◌≢◌, Option, Some, IsSome, length, slice_get, None}
 use Rattle.std.proofs.Common.{◌≡◌, ℕ, ◌+◌, List, [], ◌∷◌, ◌⊎◌, inl, inr, refl, sym, subst, ap, ◌∙◌, arith}
 use Rattle.std.proofs.lemmas.Bool.{cases_eq}
 use Rattle.seize_words.specs.OneMemory.Mem.{Mem, value_at}
@@ -7,10 +7,10 @@ use Rattle.seize_words.specs.OneMemory.Word.{block_in}
 use Rattle.seize.specs.declared.rows.register.Registering.{Registering}
 use Rattle.seize.specs.declared.rows.register.Registering.TheVariants as at
 use Rattle.seize.specs.Sequence.{taken_in}
-use Rattle.seize.specs.Law.{Effect, Entered, Left as LeftSlot, Made, Linked, Unlinked, Deferred, Retired, Taken, Dropped, Ended, LeftOver, holds, is_over}
+use Rattle.seize.specs.Law.{holds, is_over}
 use Rattle.seize.specs.World.{World, Row, Use, Hand, Vacant, Begin, Step, Request, Steps', Happens, times}
 use Rattle.seize.specs.World as world
-use Rattle.seize_acts.proofs.Given.SeizeRuleRows.Effects.{IsOneStep, hand_kept, taken_hand}
+use Rattle.seize_acts.proofs.Given.SeizeRuleRows.Effects.{hand_kept, taken_hand}
 use Rattle.seize_acts.proofs.Given.SeizeRuleRows.Known.{works_on, registering_on}
 use Rattle.seize_acts.specs.Given.SeizeAloneAlone.{IsOfUsers}
 use Rattle.seize_acts.proofs.Given.SeizeAloneSpared.Rows.{RowStepped}
@@ -26,22 +26,7 @@ use Rattle.seize_views.specs.declared.view.Fixed.{Fixed}
 use Rattle.seize_views.proofs.Views.Came.{of_users, reached, since_one}
 use Rattle.seize_views.proofs.Views.Found.{HasNow, has_or_not, found_on}
 use Rattle.seize_views.proofs.Views.Moved.{Moved, hand_users, not_vacant, used_so, still_used}
-
--- one step of a row ends no block's owner
-pub not_over : (b : ℕ) (effects log : List Effect) → IsOneStep effects → is_over b (effects ++ log) ≡ is_over b log
-not_over b [] log one = refl
-not_over b (e ∷ f ∷ effects) log one = absurd one
-not_over b (Entered s ∷ []) log one = refl
-not_over b (LeftSlot s ∷ []) log one = refl
-not_over b (Retired c ∷ []) log one = refl
-not_over b (Taken c ∷ []) log one = refl
-not_over b (Made c ∷ []) log one = absurd one
-not_over b (Linked c o ∷ []) log one = absurd one
-not_over b (Unlinked c ∷ []) log one = absurd one
-not_over b (Deferred c t ∷ []) log one = absurd one
-not_over b (Dropped c ∷ []) log one = absurd one
-not_over b (Ended o ∷ []) log one = absurd one
-not_over b (LeftOver c further ∷ []) log one = absurd one
+use Rattle.seize_acts.proofs.Given.SeizeAloneHistories.LeftTo.{over_kept as not_over}
 
 -- a row of a seat works on no slot but the seat's
 pub works_on_own : {T : Type 0} (v : SlotView T) → IsShort v → (t : ℕ) → works_on (row_of v) ≡ t + 1 → (a : Use) × (use_of v ≡ Some (t, a))

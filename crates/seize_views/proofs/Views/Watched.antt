@@ -5,7 +5,6 @@ use Rattle.std.proofs.lemmas.Bool.{cases_eq, eq-eqb}
 use Rattle.seize.specs.Law.{Effect, holds}
 use Rattle.seize.specs.World.{World, Use, IsInside}
 use Rattle.seize.specs.World as world
-use Rattle.seize_acts.proofs.Acts.Answers.{same_some}
 use Rattle.seize_seats.specs.Seats.State.{State, view_of}
 use Rattle.seize_views.specs.Views.Rows.{Holds, HeldStay, IsUsed, use_of}
 use Rattle.seize_views.specs.Views.Watched.{one, open_at, is_watching, LeansOn, IsOwn, watchers, watching, Stays, IsBase, Upholds, AreLeaned, AreWatched}
@@ -17,6 +16,7 @@ use Rattle.seize_views.specs.declared.view.Becomes.TheVariants.{Idle, Active}
 use Rattle.seize_views.specs.declared.view.Fixed.{Fixed}
 use Rattle.seize_views.proofs.Views.Lists.{there, elsewhere, with_last, with_more}
 use Rattle.seize_views.proofs.Views.Leaned.{steps_leaned, joins_leaned}
+use Rattle.seize_words.proofs.General.{same_some}
 
 -- ---- how many there are
 module _ {T : Type 0} (t : ℕ) where

@@ -12,7 +12,6 @@ use Rattle.seize.specs.World as world
 use Rattle.seize_acts.proofs.Given.SeizeMovesState.Held.{held_on}
 use Rattle.seize_acts.proofs.Given.SeizeRuleRows.Others.{with_here, with_other}
 use Rattle.seize_acts.proofs.Given.SeizeRuleWorld.Values.{own_op_value}
-use Rattle.seize_acts.proofs.Acts.Answers.{same_some}
 use Rattle.seize_seats.specs.Seats.State.{State, view_of}
 use Rattle.seize_views.specs.Views.Rows.{Leads, hand_of, IsInSomeHand, IsFound, RootsNameLinked, Since, Holds}
 use Rattle.seize_views.specs.declared.view.SlotView.{SlotView}
@@ -23,6 +22,7 @@ use Rattle.seize_views.proofs.Views.Moved.{hand_users, Passes}
 use Rattle.seize_views.proofs.Views.Came.{since_one, since_then}
 use Rattle.seize_views.proofs.Views.Found.{HasNow, AreFound, found_at, has_more, still_has, linked_some}
 use Rattle.seize_views.proofs.Views.Users.{same_use, world_took, passes_one, passes_then, Users}
+use Rattle.seize_words.proofs.General.{same_some}
 
 -- a root is there
 root_there : (l : List ℕ) (r : ℕ) → r < length l → IsSome (slice_get l r)

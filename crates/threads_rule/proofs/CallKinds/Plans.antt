@@ -3,16 +3,12 @@ use Rattle.std.specs.Prelude.{Option, Some, IsSome, if◌then◌else◌}
 use Rattle.std.proofs.Common.{◌≡◌, ℕ, Bool, true, false, refl, sym, subst, ◌∙◌}
 use Rattle.seize_words.specs.OneMemory.Op.{Op, Out, Rewrite}
 use Rattle.seize_words.specs.OneMemory.Plan.{Plan, Then, Turn, Do, Now, Seeing, Sure, Ends, MaySee, May, Steps, then_as, plan_as}
-use Rattle.seize_acts.proofs.Acts.Answers.{same_some}
 use Rattle.seize_views.specs.Views.Promises.{op_in}
 use Rattle.seize_views.specs.Views.Told.{FollowsBy}
 use Rattle.seize_views.proofs.Views.Looks.{IsNow, rest_of, ends_same, now_ends}
 use Rattle.threads_rule.specs.CallKinds.Answers.{IsAnswer}
-
--- it makes an operation, and which replaces no value
-abbrev pub IsDo : {T R : Type 0} → Plan T R → Type 0
-IsDo (Turn rest) = ⊥
-IsDo (Do op rest) = Unit {0}
+use Rattle.seize_views.proofs.Views.Makes.{IsDo}
+use Rattle.seize_words.proofs.General.{same_some}
 
 abbrev pub ReplacesNone : {T : Type 0} → Op T → Type 0
 ReplacesNone (Rewrite b x) = ⊥

@@ -1,7 +1,6 @@
 -- The turns of a seat of maps, and the lookup that has begun.
 use Rattle.std.specs.Prelude.{max, Result, Ok, Err, IfErr, Option, None}
 use Rattle.std.proofs.Common.{◌≡◌, ℕ, ◌≤◌, ◌^◌, Bool, true, Some, ◌⊎◌, inl, refl, sym, subst, ap, ◌∙◌, arith}
-use Rattle.seize_acts.proofs.Acts.Answers.{same_some}
 use Rattle.seize_seats.specs.Seats.State.{Turns}
 use Rattle.seize_words.specs.declared.fault.Fault.{Fault}
 use Rattle.map_tables.specs.Chunks.{is_incremental}
@@ -31,6 +30,7 @@ use Rattle.threads_rule.specs.Errands.Calling.{IsUnderWay, MayDo, wanted_of}
 use Rattle.threads_rule.specs.CallKinds.Kinds.{Kind, Stage}
 use Rattle.threads_rule.specs.Errands.Looking.{Begins, IsOn, LooksFor, MayLook, StaysThere}
 use Rattle.threads_rule.specs.Errands.Making.{BeginsMaking, CameTo, MayBegin, PlansJust}
+use Rattle.seize_words.proofs.General.{same_some}
 
 module _ {K V S : Type 0} (same : K → K → Bool) (hash : S → K → ℕ) (fixed : Fixed) (id : ℕ) (v : View K V S) where
   -- who may come to know one thing may come to know what that is of

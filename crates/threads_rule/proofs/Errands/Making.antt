@@ -18,7 +18,8 @@ use Rattle.seize_views.proofs.Views.Looks.{rest_of, IsNow}
 use Rattle.seize_views.specs.Views.Promises.{op_in}
 use Rattle.threads_rule.specs.CallKinds.Answers.{IsAnswer}
 use Rattle.threads_rule.specs.Errands.Making.{IsEarly, left_at, StaysChosen, GetsOn}
-use Rattle.threads_rule.proofs.CallKinds.Plans.{IsDo, LeavesValues, IsAnsweredBy, answered_by}
+use Rattle.threads_rule.proofs.CallKinds.Plans.{LeavesValues, IsAnsweredBy, answered_by}
+use Rattle.seize_views.proofs.Views.Makes.{IsDo}
 
 -- what a step tells: it goes on early, with no table to make
 abbrev pub GoesEarly : NewMap × Advance Setting → Type 0

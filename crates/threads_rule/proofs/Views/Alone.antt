@@ -5,7 +5,6 @@ use Rattle.seize.specs.World.{Row, Rests, Registers, Enters, Settles, Leaves, De
 use Rattle.many_acts.specs.Given.CallersRows.{IsRowOn}
 use Rattle.many_acts.specs.Given.ScenesScene.{Scene}
 use Rattle.seize_acts.specs.Acts.Waits.{SettlesOn}
-use Rattle.seize_acts.proofs.Acts.Answers.{same_some}
 use Rattle.seize_acts.specs.Bounds.Bounds.{IsAloneOnSlot}
 use Rattle.map_tables.specs.declared.node.Node.{Node}
 use Rattle.seize_views.specs.Views.Rows.{row_of, use_of}
@@ -20,6 +19,7 @@ use Rattle.threads_rule.specs.declared.view.SeatWork.{SeatWork}
 use Rattle.threads_rule.specs.declared.view.SeatWork.TheVariants.{Nothing, Calls, Makes}
 use Rattle.threads_rule.proofs.Views.Leaves.{own_section}
 use Rattle.threads_rule.proofs.Views.Whose.{Seated, whose}
+use Rattle.seize_words.proofs.General.{same_some}
 
 -- a row on a slot settles there, if it settles on any
 settles_on : (row : Row) (s t : ℕ) → IsRowOn s row → SettlesOn t row → s ≡ t

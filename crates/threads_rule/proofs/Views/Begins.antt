@@ -19,7 +19,6 @@ use Rattle.many_acts.specs.Acts.Acts.{Act, Wanted, Get, Count, UnlessToCount, Be
 use Rattle.many_acts.specs.Acts.Doings.{Does, MayDo}
 use Rattle.many_acts.specs.Acts.Leads.{AreFewWith, Led}
 use Rattle.seize_acts.specs.Acts.Acts.{rests, is_within}
-use Rattle.seize_acts.proofs.Acts.Answers.{same_some}
 use Rattle.seize_seats.specs.Seats.State.{State, view_of, Goes}
 use Rattle.seize_views.specs.declared.view.Fixed.{Fixed}
 use Rattle.seize_views.specs.declared.view.SlotView.{SlotView}
@@ -40,6 +39,7 @@ use Rattle.threads_rule.proofs.Views.Moved.{scene_of, are_so, Moved, Adds, same_
 use Rattle.threads_rule.proofs.Views.Numbers.{slot_at}
 use Rattle.threads_rule.proofs.Views.Pairs.{begun_pair, told_pair}
 use Rattle.threads_rule.proofs.Views.UnderWay.{called_at, does as way_does, section_is as way_section, on_row as way_on}
+use Rattle.seize_words.proofs.General.{same_some}
 
 -- but for a counting
 unless : {K V : Type 0} (wanted : Wanted K V) (A : Type 0) → A → UnlessToCount wanted A

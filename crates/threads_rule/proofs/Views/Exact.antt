@@ -13,7 +13,6 @@ use Rattle.seize_model.proofs.Given.SeizeRuleRows.Teams.{UseFits, shares, is_sha
 use Rattle.owner_calls.proofs.Given.CallersTogether.Came.{came_reached}
 use Rattle.many_acts.specs.Given.ScenesScene.{Scene}
 use Rattle.seize_model.proofs.Alone.Histories.Reached.{Reached}
-use Rattle.seize_acts.proofs.Acts.Answers.{same_some}
 use Rattle.seize_seats.specs.Seats.Errands.{IsUnlent}
 use Rattle.seize_seats.specs.Seats.State.{State, view_of}
 use Rattle.seize_views.specs.Views.Rows.{row_of, use_of, used_for}
@@ -29,6 +28,7 @@ use Rattle.threads_rule.specs.declared.view.SeatWork.TheVariants.{Nothing, Calls
 use Rattle.threads_rule.proofs.Views.Leaves.{own_section}
 use Rattle.threads_rule.proofs.Views.Moved.{scene_of, all_stand, are_so}
 use Rattle.threads_rule.proofs.Views.Whose.{whose}
+use Rattle.seize_words.proofs.General.{same_some}
 
 -- a row that works beside others on a slot works on the one that it is on
 on_slot : (row : Row) (s t : ℕ) → IsRowOn s row → works_on row ≡ t + 1 → shares row ≡ true → s ≡ t

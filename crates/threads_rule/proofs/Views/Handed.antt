@@ -24,7 +24,7 @@ use Rattle.seize_model.proofs.Alone.Histories.Reached.{Reached, happens_reached}
 use Rattle.seize_views.specs.Views.Rows.{settles_for, IsReclaiming}
 use Rattle.seize_views.specs.declared.view.Why.{Why}
 use Rattle.seize_views.proofs.Views.Reclaims.{fits_settle}
-use Rattle.threads_rule.proofs.Views.Quiet.{AllOfUsers}
+use Rattle.seize_model.proofs.Alone.Histories.UsersTurn.{AreUsers as AllOfUsers}
 
 -- what is on its way to the collector, or there, is in its hand
 is_its : (k : Hand) (l : Life) → is_handed l ≡ true → HandFits k l → k ≡ Handed

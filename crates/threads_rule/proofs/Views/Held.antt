@@ -4,7 +4,6 @@ use Rattle.std.proofs.Common.{◌≡◌, ℕ, Bool, true, false, List, [], ◌�
 use Rattle.seize_words.specs.OneMemory.Mem.{Mem, value_at}
 use Rattle.map_tables.specs.declared.node.Node.{Node}
 use Rattle.many_acts.specs.Given.ScenesScene.{Scene}
-use Rattle.seize_acts.proofs.Acts.Answers.{same_some}
 use Rattle.seize_seats.specs.Seats.State.{State, view_of}
 use Rattle.seize_views.specs.declared.view.SlotView.{SlotView}
 use Rattle.threads_rule.specs.Views.Looks.{shown_in}
@@ -12,6 +11,7 @@ use Rattle.threads_rule.specs.Views.Promises.{HeldAreShown}
 use Rattle.threads_rule.specs.Views.Rule.{MapsWorld, IsHeld, AllHeld, Holds}
 use Rattle.threads_rule.specs.declared.view.View.{View}
 use Rattle.threads_rule.specs.declared.view.SeatWork.{SeatWork}
+use Rattle.seize_words.proofs.General.{same_some}
 
 module _ {K V S : Type 0} (same : K → K → Bool) (hash : S → K → ℕ) where
   pub value_of : (scene : Scene K V) (under : Option (ℕ × ℕ)) (slot : SlotView (Node K V)) (work : SeatWork K V S) (b : ℕ) (x : Node K V) (looks : List (ℕ × Node K V))

@@ -8,7 +8,6 @@ use Rattle.map_tables.specs.declared.node.Node.{Node}
 use Rattle.owner_calls.proofs.Given.CallersTogether.Came.{came_reached}
 use Rattle.many_acts.specs.Given.ScenesScene.{Scene}
 use Rattle.seize_model.proofs.Alone.Histories.NotTaken.{IsHeld as IsHeldBy, kept_there}
-use Rattle.seize_acts.proofs.Acts.Answers.{same_some}
 use Rattle.seize_seats.specs.Seats.State.{State, view_of}
 use Rattle.seize_views.specs.declared.view.Has.TheVariants.{Nothing as NoBlock}
 use Rattle.seize_views.specs.declared.view.SlotView.TheVariants.{Inside}
@@ -19,6 +18,7 @@ use Rattle.threads_rule.specs.declared.view.SeatWork.{SeatWork}
 use Rattle.threads_rule.specs.declared.view.SeatWork.TheVariants.{Nothing}
 use Rattle.threads_rule.proofs.Views.Held.{held_of}
 use Rattle.threads_rule.proofs.Views.Moved.{all_stand}
+use Rattle.seize_words.proofs.General.{same_some}
 
 module _ {K S : Type 0} (V : Type 0) (same : K → K → Bool) (hash : S → K → ℕ) where
   pub held_are_kept : HeldAreKept V same hash

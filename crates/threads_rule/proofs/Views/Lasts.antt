@@ -11,7 +11,6 @@ use Rattle.seize_model.proofs.Given.SeizeRuleWorld.Kept.{rows_may}
 use Rattle.owner_calls.proofs.Given.CallersTogether.Came.{came_reached}
 use Rattle.many_acts.specs.Given.ScenesScene.{Scene, slot_of}
 use Rattle.many_acts.specs.Acts.Leads.{AllStand}
-use Rattle.seize_acts.proofs.Acts.Answers.{same_some}
 use Rattle.seize_views.proofs.Views.Reclaims.{reclaiming_there}
 use Rattle.seize_views.specs.Views.Rows.{settles_for}
 use Rattle.seize_views.specs.declared.view.Becomes.TheVariants.{Idle}
@@ -26,6 +25,7 @@ use Rattle.threads_rule.proofs.Views.Handed.{reclaiming_handed}
 use Rattle.threads_rule.proofs.Views.Leaves.{Leaves}
 use Rattle.threads_rule.proofs.Views.Made.{own_is_made}
 use Rattle.threads_rule.proofs.Views.Within.{RowReclaims, row_reclaims}
+use Rattle.seize_words.proofs.General.{same_some}
 
 module _ {K V S : Type 0} (same : K → K → Bool) (hash : S → K → ℕ) (batch_size roots : ℕ) (s n : Scene K V) (all : AllStand same hash batch_size roots slot_of s) (came : CameAbout batch_size n.world)
     (i : ℕ) (mine : Option (ℕ × Use)) (leaves : Leaves same hash batch_size s n i mine) (k : ℕ) (ne : k ≢ i) (b : ℕ) (x : Node K V) (is : value_at s.world.memory b ≡ Some x) where

@@ -5,7 +5,6 @@ use Rattle.std.proofs.lemmas.Bool.{cases_eq}
 use Rattle.map_tables.specs.declared.node.Node.{Node}
 use Rattle.seize.specs.World.{Inside as WithinUse}
 use Rattle.many_acts.specs.Given.ScenesScene.{Scene}
-use Rattle.seize_acts.proofs.Acts.Answers.{same_some}
 use Rattle.seize_seats.specs.Seats.State.{State, view_of, Goes}
 use Rattle.seize_views.specs.Views.Rows.{row_of, use_of}
 use Rattle.seize_views.specs.declared.view.Fixed.{Fixed}
@@ -23,6 +22,7 @@ use Rattle.threads_rule.specs.declared.view.SeatWork.TheVariants.{Nothing}
 use Rattle.threads_rule.proofs.Views.Leaves.{own_slot}
 use Rattle.threads_rule.proofs.Views.Numbers.{first_slot}
 use Rattle.threads_rule.proofs.Views.Views.{Had, views_hold}
+use Rattle.seize_words.proofs.General.{same_some}
 
 module _ {K V S : Type 0} (same : K → K → Bool) (hash : S → K → ℕ) (fixed : Fixed) (s : State (Node K V) (View K V S) (MapsWorld K V S)) (h : Holds same hash fixed s)
     (id : ℕ) (v : View K V S) (at_id : view_of s id ≡ Some v) (rests : v.slot ≡ Rests) (free : v.work ≡ Nothing) where

@@ -12,7 +12,6 @@ use Rattle.many_acts.specs.Given.FinishesMaps.{Standing, with_call}
 use Rattle.many_acts.specs.Given.ScenesScene.{Scene}
 use Rattle.seize_acts.specs.Acts.Stays.{how_many, is_end_of_owner}
 use Rattle.many_acts.proofs.Acts.Counts.{its_call, other_call}
-use Rattle.seize_acts.proofs.Acts.Answers.{same_some}
 use Rattle.seize_views.specs.Views.Rows.{use_of}
 use Rattle.seize_views.specs.declared.view.Has.{Has}
 use Rattle.seize_views.specs.declared.view.Has.TheVariants.{Nothing as NoBlock, Made, Seen, Both, Cut}
@@ -28,24 +27,14 @@ use Rattle.seize_views.proofs.Views.Moved.{not_vacant}
 use Rattle.threads_rule.proofs.Views.Numbers.{seat_apart, slot_apart}
 use Rattle.threads_rule.proofs.Views.Made.{KeepsMade}
 use Rattle.threads_rule.proofs.Views.Ran.{Keeps, Passes}
+use Rattle.many_acts.proofs.Given.CallersTogether.Slots.{alike_same, alike_then as alike_on}
+use Rattle.seize_words.proofs.General.{same_some}
 
 pub stays_inside : (u v : Use) → IsUsedAlike u v → IsInside u → IsInside v
 stays_inside Vacant v is inside = absurd inside
 stays_inside (Outside n) v is inside = absurd inside
 stays_inside (Inside n) v is inside = subst (λ (x : Use). IsInside x) (sym is.1) tt
 stays_inside Changing v is inside = absurd inside
-
-alike_on : (u v w : Use) → IsUsedAlike u v → IsUsedAlike v w → IsUsedAlike u w
-alike_on Vacant v w a b = subst (λ (x : Use). IsUsedAlike x w) a b
-alike_on (Outside n) v w a b = subst (λ (x : Use). IsUsedAlike x w) a.1 b
-alike_on (Inside n) v w a b = subst (λ (x : Use). IsUsedAlike x w) a.1 b
-alike_on Changing v w a b = subst (λ (x : Use). IsUsedAlike x w) a b
-
-pub alike_same : (u : Use) → IsUsedAlike u u
-alike_same Vacant = refl
-alike_same (Outside n) = (n, refl)
-alike_same (Inside n) = (n, refl)
-alike_same Changing = refl
 
 -- what is used like a slot that is nobody's is nobody's
 pub alike_vacant : (u : Use) → IsUsedAlike u Vacant → u ≡ Vacant

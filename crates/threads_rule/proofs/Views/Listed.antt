@@ -1,6 +1,5 @@
 -- What a list of acts tells, with one act more.
 use Rattle.std.specs.Prelude.{◌≢◌, ◌==◌, ◌++◌, length, suc, Option, Some, if◌then◌else◌}
-use Rattle.std.specs.List.{AllByRecursion}
 use Rattle.std.proofs.Common.{◌≡◌, ℕ, ◌+◌, Bool, List, [], ◌∷◌, refl, sym, subst, ap, ◌∙◌, arith}
 use Rattle.std.proofs.lemmas.Bool.{eq-eqb, ne_eqb}
 use Rattle.seize_words.specs.OneMemory.Mem.{Mem}
@@ -15,11 +14,7 @@ use Rattle.threads_rule.specs.Views.Listed.{Called, calls_then, calls_of, has_to
 use Rattle.threads_rule.specs.Views.Rule.{IsSlot, IsRun, AreRuns, caller_at}
 use Rattle.threads_rule.specs.Views.Told.{newest_told}
 use Rattle.threads_rule.specs.declared.view.BegunCall.{BegunCall}
-
--- what is so of each of a list is so with one more
-pub all_more : {X : Type 0} (P : X → Type 0) (xs : List X) (x : X) → AllByRecursion P xs → P x → AllByRecursion P (xs ++ x ∷ [])
-all_more P [] x all one = (one, tt)
-all_more P (y ∷ xs) x all one = (all.0, all_more P xs x all.1 one)
+use Rattle.seize_words.proofs.General.{all_and_one as all_more, nothing_and as none_before}
 
 -- a seat is that of its callers, and of no other seat's
 pub its_seat : (seat t : ℕ) → IsSlot t → seat_of (caller_at seat t) ≡ seat
@@ -58,9 +53,6 @@ module _ {K V S : Type 0} where
   calls_more seat (one ∷ doings) (said ∷ answers) doing told calls long = calls_more seat doings answers doing told (calls_then seat one said calls) (let less = long in omega (arith, less))
   calls_more seat [] (said ∷ answers) doing told calls long = absurd (cc long)
   calls_more seat (one ∷ doings) [] doing told calls long = absurd (cc long)
-
-none_before : (n : ℕ) → 0 + n ≡ n
-none_before n = omega arith
 
 module _ {K S : Type 0} (V : Type 0) (same : K → K → Bool) (hash : S → K → ℕ) (batch_size roots : ℕ) (slot : ℕ → ℕ) (course : Course V same hash batch_size roots slot) where
   one_longer : (answers : List (Answer K V)) (told : Answer K V) → length (answers ++ told ∷ []) ≡ suc (length answers)

@@ -5,13 +5,14 @@ use Rattle.std.proofs.lemmas.Bool.{cases_eq, eq-eqb, ne_eqb}
 use Rattle.seize_words.specs.OneMemory.Mem.{Mem, Can, Took, value_at}
 use Rattle.seize_words.specs.OneMemory.Op.{Op, Out}
 use Rattle.seize_words.specs.OneMemory.Plan.{Plan, Then, Turn, Do, Now, Seeing, Sure, Ends, MaySee, May, Steps}
-use Rattle.seize_acts.proofs.Acts.Answers.{same_some, ended}
+use Rattle.seize_acts.proofs.Acts.Answers.{ended}
 use Rattle.seize_acts.proofs.Acts.Steps.{sees_end}
 use Rattle.seize_views.specs.Views.Promises.{op_in}
 use Rattle.seize_views.specs.Views.Told.{FollowsBy}
 use Rattle.many_acts.specs.Looks.Blocks.{Sees}
 use Rattle.many_acts.specs.Looks.Sees.{HasSeen}
 use Rattle.threads_rule.specs.Views.Looks.{shown_in, TurnsTo, MayFollow}
+use Rattle.seize_words.proofs.General.{same_some}
 
 module _ {T : Type 0} where
   -- what the list shows is so

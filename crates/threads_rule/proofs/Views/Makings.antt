@@ -33,7 +33,6 @@ use Rattle.many_acts.specs.Acts.Lists.{AllMayStep, AllAreActs}
 use Rattle.many_acts.proofs.Acts.Lists.{steps_are_acts}
 use Rattle.seize_model.proofs.Alone.Histories.Reached.{Reached}
 use Rattle.seize_acts.specs.Acts.Answers.{Grant, then_on}
-use Rattle.seize_acts.proofs.Acts.Answers.{same_some}
 use Rattle.seize_seats.specs.Seats.State.{State, view_of, Goes}
 use Rattle.seize_views.specs.Views.Told.{FollowsBy}
 use Rattle.seize_views.specs.declared.view.Fixed.{Fixed}
@@ -50,13 +49,15 @@ use Rattle.threads_rule.specs.declared.view.View.{View}
 use Rattle.threads_rule.specs.declared.view.SeatWork.{SeatWork}
 use Rattle.threads_rule.specs.declared.view.SeatWork.TheVariants.{Nothing, Calls, Makes}
 use Rattle.threads_rule.proofs.Views.Knows.{knows_rests}
-use Rattle.threads_rule.proofs.Views.Leaves.{Leaves, alike_same, own_idle, map_on}
+use Rattle.threads_rule.proofs.Views.Leaves.{Leaves, own_idle, map_on}
 use Rattle.threads_rule.proofs.Views.Looked.{Made, may_op}
 use Rattle.threads_rule.proofs.Views.Made.{making_keeps}
 use Rattle.threads_rule.proofs.Views.Listed.{numbered_on}
 use Rattle.threads_rule.proofs.Views.Moved.{scene_of, all_stand, are_so, Moved, same_slot, moved}
 use Rattle.threads_rule.proofs.Views.Ran.{Ran, ran_stays, ran_ends_none, ran_keeps, ran_passes}
 use Rattle.threads_rule.proofs.Views.Sections.{as_users}
+use Rattle.many_acts.proofs.Given.CallersTogether.Slots.{alike_same}
+use Rattle.seize_words.proofs.General.{same_some}
 
 module _ {K V S : Type 0} (same : K → K → Bool) (hash : S → K → ℕ) (fixed : Fixed) (s : State (Node K V) (View K V S) (MapsWorld K V S)) (h : Holds same hash fixed s)
     (id : ℕ) (v : View K V S) (at_id : view_of s id ≡ Some v) where

@@ -12,7 +12,6 @@ use Rattle.many_acts.specs.Acts.Acts.{Act, Answer}
 use Rattle.many_acts.specs.Acts.Doings.{Does, MayDo}
 use Rattle.many_acts.specs.Acts.Leads.{AllStand}
 use Rattle.many_acts.specs.Acts.Lists.{Reached, LedTo, nothing_done, on_by}
-use Rattle.seize_acts.proofs.Acts.Answers.{same_some}
 use Rattle.seize_seats.specs.Seats.Errands.{IsUnlent}
 use Rattle.seize_seats.specs.Seats.State.{State, view_of, Goes}
 use Rattle.seize_views.specs.Views.Rows.{use_of}
@@ -25,10 +24,11 @@ use Rattle.threads_rule.specs.declared.view.View.{View}
 use Rattle.threads_rule.specs.declared.view.SeatWork.TheVariants.{Nothing, Calls}
 use Rattle.threads_rule.proofs.Views.Alone.{alone_on_slot}
 use Rattle.threads_rule.proofs.Views.Knows.{row_of_it, by_kind, knows_on}
-use Rattle.threads_rule.proofs.Views.Listed.{all_more, as_long, calls_more, led_more, runs_on}
+use Rattle.threads_rule.proofs.Views.Listed.{as_long, calls_more, led_more, runs_on}
 use Rattle.threads_rule.proofs.Views.Leaves.{Leaves, own_section, section_inside, inside_of, unborn_on, fits_on}
 use Rattle.threads_rule.proofs.Views.Lasts.{of_call_lasts}
 use Rattle.threads_rule.proofs.Views.Numbers.{seat_apart}
+use Rattle.seize_words.proofs.General.{same_some, all_and_one as all_more}
 
 module _ {K V S : Type 0} (same : K → K → Bool) (hash : S → K → ℕ) (fixed : Fixed) (s : State (Node K V) (View K V S) (MapsWorld K V S)) (h : Holds same hash fixed s) where
   abbrev pub scene_of : Scene K V

@@ -19,7 +19,6 @@ use Rattle.many_acts.specs.Given.ScenesScene.{Scene, slot_of}
 use Rattle.many_acts.specs.Acts.Leads.{AllStand}
 use Rattle.owner_calls.proofs.Given.CallersTogether.Came.{came_reached}
 use Rattle.seize_model.proofs.Alone.Histories.Reached.{Reached}
-use Rattle.seize_acts.proofs.Acts.Answers.{same_some}
 use Rattle.seize_views.specs.Views.Rows.{row_of, use_of}
 use Rattle.seize_views.specs.declared.view.SlotView.{SlotView}
 use Rattle.threads_rule.specs.Views.Rule.{HasRow, IsSlot, IsUsedSo, IsAside, DoesSo, caller_at, section_of, IsFresh}
@@ -31,6 +30,7 @@ use Rattle.threads_rule.proofs.Views.Numbers.{slot_at}
 use Rattle.threads_rule.proofs.Views.Ran.{Ran, ran_stays, ran_ends_none, ran_keeps, ran_passes}
 use Rattle.threads_rule.proofs.Views.Sections.{calls_ran}
 use Rattle.threads_rule.proofs.Views.Leaves.{Leaves, own_section, section_on, inside_alike, call_here, call_other, call_elsewhere}
+use Rattle.seize_words.proofs.General.{same_some}
 
 module _ {K V S : Type 0} (same : K → K → Bool) (hash : S → K → ℕ) (batch_size roots : ℕ) (s : Scene K V) (all : AllStand same hash batch_size roots slot_of s) (id t m : ℕ)
     (its_slot : IsSlot t) (it : Standing K) (stands : s.maps m ≡ Some it) (u : UnderWay K V K) (here : s.calls m (caller_at id t) ≡ Some u) where

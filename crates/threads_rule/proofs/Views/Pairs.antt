@@ -26,10 +26,10 @@ use Rattle.owner_calls.specs.Given.CallersOverAll.{CallOverAll}
 use Rattle.many_acts.specs.Given.CallersRooms.{CallForRoom}
 use Rattle.many_acts.specs.Given.FinishesMachines.{machine_of, DidOfKind, MachineStepsAmong, ToldOfKind}
 use Rattle.many_acts.specs.Given.FinishesMaps.{Standing}
-use Rattle.seize_acts.proofs.Acts.Answers.{same_some}
 use Rattle.threads_rule.specs.Views.Rule.{given_pair, pair_of}
 use Rattle.threads_rule.specs.Views.Told.{HandsBack, begun_with, newest_told, pair_in}
 use Rattle.threads_rule.specs.declared.view.BegunCall.{BegunCall}
+use Rattle.seize_words.proofs.General.{same_some}
 
 module _ {K V : Type 0} where
   -- a call is under way with the pair with which it has begun

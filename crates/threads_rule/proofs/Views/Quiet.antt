@@ -1,20 +1,21 @@
 -- What ends no section, and no owner: events of users, and steps of rows that retire or defer a block. What sections hold stays.
-use Rattle.std.specs.Prelude.{◌≢◌, ◌++◌, Option, Ok, Err, cond, eqb, if◌then◌else◌}
+use Rattle.std.specs.Prelude.{◌++◌, Option, Ok, Err, cond, eqb, if◌then◌else◌}
 use Rattle.std.proofs.Common.{◌≡◌, ℕ, Bool, true, false, List, [], ◌∷◌, ◌⊎◌, inl, inr, refl, sym, subst, ap, arith, ◌∙◌, ◌+◌}
-use Rattle.std.proofs.lemmas.Bool.{cases_eq, eq-eqb}
+use Rattle.std.proofs.lemmas.Bool.{eq-eqb}
 use Rattle.seize_words.specs.OneMemory.Op.{Out, Found, Stored, Exchanged, Made, Taken, Roomed}
 use Rattle.seize_words.specs.OneMemory.Mem.{Mem, value_at}
 use Rattle.seize.specs.Law.{Effect, Entered, Left, Made as MadeBlock, Linked, Unlinked, Deferred, Retired, Taken as TakenBlock, Dropped, Ended, LeftOver, holds, is_over, owner_of}
 use Rattle.seize.specs.Sequence.{IsUsers}
-use Rattle.seize.specs.World.{World, Use, Vacant, Outside, Inside, Changing, Event, Begin, Step, Makes, Drops, Links, Parts, Unlinks, Rewrites, Operates, Ends, LeavesOver, Relinks, Clears, Chooses, Request, Retire, Defer', Happens, Runs, IsInside, made_by, with_at, one_more}
+use Rattle.seize.specs.World.{World, Event, Begin, Step, Makes, Drops, Links, Parts, Unlinks, Rewrites, Operates, Ends, LeavesOver, Relinks, Clears, Chooses, Request, Retire, Defer', Happens, Runs, IsInside, made_by}
 use Rattle.seize_model.proofs.Given.SeizeMovesState.Held.{held_on, NoneLeft}
 use Rattle.seize_model.proofs.Given.SeizeRuleRows.Effects.{IsOneStep}
-use Rattle.seize_model.proofs.Given.SeizeRuleRows.Others.{with_here, with_other}
 use Rattle.seize_model.proofs.Alone.Histories.Reached.{Reached, happens_reached}
 use Rattle.seize_model.proofs.Alone.Histories.NotTaken.{IsHeld, kept_value, still_held, did}
 use Rattle.seize_acts.specs.Acts.Stays.{how_many, is_end_of, is_end_of_owner}
 use Rattle.seize_acts.proofs.Acts.Stays.{run_stays}
-use Rattle.seize_views.proofs.Views.Steps.{not_over}
+use Rattle.many_acts.proofs.Given.CallersTogether.Handed.{inside_on as more_inside}
+use Rattle.seize_model.proofs.Alone.Histories.LeftTo.{over_kept as not_over}
+use Rattle.seize_model.proofs.Alone.Histories.UsersTurn.{AreUsers as AllOfUsers}
 
 not_ended : (s : ℕ) (effects log : List Effect) → NoneLeft s effects → how_many (is_end_of s) (effects ++ log) ≡ how_many (is_end_of s) log
 not_ended s [] log n = refl
@@ -29,11 +30,6 @@ not_ended s (TakenBlock c ∷ effects) log n = not_ended s effects log n.1
 not_ended s (Dropped c ∷ effects) log n = not_ended s effects log n.1
 not_ended s (Ended o ∷ effects) log n = not_ended s effects log n.1
 not_ended s (LeftOver c further ∷ effects) log n = not_ended s effects log n.1
-
--- each of these is of users
-abbrev pub AllOfUsers : {T : Type 0} → List (Event T) → Type 0
-AllOfUsers [] = Unit {0}
-AllOfUsers (e ∷ events) = IsUsers e × AllOfUsers events
 
 module _ {T : Type 0} (defers : T → Option ℕ) (size : ℕ) where
   -- no section has ended, and no owner
@@ -121,20 +117,6 @@ module _ {T : Type 0} (defers : T → Option ℕ) (size : ℕ) where
   HandsOne (Retire s b) = Unit {0}
   HandsOne (Defer' s b c) = Unit {0}
   HandsOne _ = ⊥
-
-  more_inside : (uses : ℕ → Use) (s t : ℕ) → IsInside (uses t) → IsInside (with_at uses s (one_more (uses s)) t)
-  more_inside uses s t inside = by (cases_eq t s)
-    where
-      more : (u : Use) → IsInside u → IsInside (one_more u)
-      more Vacant i = i
-      more (Outside n) i = i
-      more (Inside n) i = tt
-      more Changing i = i
-
-      by : (t ≡ s) ⊎ (t ≢ s) → IsInside (with_at uses s (one_more (uses s)) t)
-      by (inl e) = subst (λ (a : ℕ). IsInside (with_at uses s (one_more (uses s)) a)) (sym e)
-          (subst (λ (u : Use). IsInside u) (sym (with_here uses s (one_more (uses s)))) (more (uses s) (subst (λ (a : ℕ). IsInside (uses a)) e inside)))
-      by (inr ne) = subst (λ (u : Use). IsInside u) (sym (with_other uses s t (one_more (uses s)) ne)) inside
 
   begin_stays : (request : Request) (w v : World T) (i : ℕ) → HandsOne request → Happens defers size (Begin i request) w v → (t : ℕ) → IsInside (w.uses t) → IsInside (v.uses t) × Stayed w v t
   begin_stays (Retire s b) w v i is h t inside =

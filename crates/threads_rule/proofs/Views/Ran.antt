@@ -23,7 +23,8 @@ use Rattle.seize_acts.specs.Bounds.Bounds.{IsOfOthers, IsAloneOnSlot, Meanwhile}
 use Rattle.seize_acts.proofs.Bounds.Bounds.Passing.{event_row}
 use Rattle.seize_views.proofs.Views.Steps.{step_keeps}
 use Rattle.threads_rule.proofs.Views.Handed.{users_keep}
-use Rattle.threads_rule.proofs.Views.Quiet.{AllOfUsers, HandsOne, Stayed, SameOwners, users_stay, users_end_none, row_stays, row_ends_none}
+use Rattle.threads_rule.proofs.Views.Quiet.{HandsOne, Stayed, SameOwners, users_stay, users_end_none, row_stays, row_ends_none}
+use Rattle.seize_model.proofs.Alone.Histories.UsersTurn.{AreUsers as AllOfUsers}
 
 -- what users do is nobody's row
 user_of_others : {T : Type 0} (j : ℕ) (e : Event T) → IsUsers e → IsOfOthers j e

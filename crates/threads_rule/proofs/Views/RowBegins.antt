@@ -37,12 +37,13 @@ use Rattle.threads_rule.specs.declared.view.SeatWork.{SeatWork}
 use Rattle.threads_rule.specs.declared.view.SeatWork.TheVariants.{Nothing, Calls, Makes}
 use Rattle.threads_rule.proofs.Views.Alone.{alone_on_slot, lone_on}
 use Rattle.threads_rule.proofs.Views.Exact.{none_inside, none_outside}
-use Rattle.threads_rule.proofs.Views.Leaves.{Leaves, own_section, alike_same}
+use Rattle.threads_rule.proofs.Views.Leaves.{Leaves, own_section}
 use Rattle.threads_rule.proofs.Views.Listed.{numbered_on}
 use Rattle.threads_rule.proofs.Views.Moved.{moved}
 use Rattle.threads_rule.proofs.Views.Numbers.{slot_at}
 use Rattle.threads_rule.proofs.Views.Whose.{whose}
 use Rattle.threads_rule.proofs.Views.RowFits.{scene, all, so, its_place, i, knows, its, next, w, maps_on, held_place, go}
+use Rattle.many_acts.proofs.Given.CallersTogether.Slots.{alike_same}
 
 -- a row that has no block works on slots alone
 of_slots : (request : Request) → HasNoBlock request → IsOfSlots request

@@ -12,7 +12,6 @@ use Rattle.many_acts.specs.Given.ScenesScene.{Scene, slot_of}
 use Rattle.many_acts.specs.Acts.Acts.{Act}
 use Rattle.many_acts.specs.Acts.Doings.{Does}
 use Rattle.many_acts.specs.Acts.Leads.{AllStand}
-use Rattle.seize_acts.proofs.Acts.Answers.{same_some}
 use Rattle.seize_seats.specs.Seats.Errands.{IsUnlent}
 use Rattle.seize_seats.specs.Seats.State.{State, view_of}
 use Rattle.seize_views.specs.Views.Rows.{row_of, use_of, IsPlain, IsShort, IsKnown, IsBounded}
@@ -32,6 +31,7 @@ use Rattle.threads_rule.specs.declared.view.SeatWork.TheVariants.{Nothing, Calls
 use Rattle.threads_rule.proofs.Views.Knows.{row_of_it}
 use Rattle.threads_rule.proofs.Views.Leaves.{Leaves, own_slot, own_section, alike_vacant, map_on, own_idle}
 use Rattle.threads_rule.proofs.Views.Moved.{scene_of, all_stand, are_so, Moved}
+use Rattle.seize_words.proofs.General.{same_some}
 
 -- the place is that of the slot that is held
 pub held_place : (o p : Option (ℕ × Use)) → slot_held o ≡ slot_held p → held_slot o ≡ held_slot p

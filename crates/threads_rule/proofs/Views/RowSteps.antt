@@ -19,7 +19,6 @@ use Rattle.seize_model.proofs.Alone.Histories.Uses.{uses_kept}
 use Rattle.seize_model.proofs.Alone.Histories.NotTaken.{did}
 use Rattle.seize_acts.specs.Acts.Acts.{row_steps}
 use Rattle.seize_acts.specs.Acts.Answers.{Grant}
-use Rattle.seize_acts.proofs.Acts.Answers.{same_some}
 use Rattle.seize_seats.specs.Seats.Errands.{IsUnlent}
 use Rattle.seize_seats.specs.Seats.State.{State, view_of, Goes}
 use Rattle.seize_views.specs.Views.Rows.{use_of}
@@ -34,12 +33,14 @@ use Rattle.threads_rule.specs.declared.view.View.{View}
 use Rattle.threads_rule.specs.declared.view.SeatWork.TheVariants.{Nothing}
 use Rattle.threads_rule.proofs.Views.Alone.{alone_on_slot}
 use Rattle.threads_rule.proofs.Views.Made.{row_keeps}
-use Rattle.threads_rule.proofs.Views.Leaves.{Leaves, alike_same}
+use Rattle.threads_rule.proofs.Views.Leaves.{Leaves}
 use Rattle.threads_rule.proofs.Views.Listed.{numbered_on}
 use Rattle.threads_rule.proofs.Views.Moved.{moved}
 use Rattle.threads_rule.proofs.Views.Numbers.{first_slot}
 use Rattle.threads_rule.proofs.Views.Ran.{Ran, ran_stays, ran_ends_none, ran_keeps, ran_passes}
 use Rattle.threads_rule.proofs.Views.RowFits.{scene, all, so, its_place, i, knows, is_used, its, next, w, maps_on, go}
+use Rattle.many_acts.proofs.Given.CallersTogether.Slots.{alike_same}
+use Rattle.seize_words.proofs.General.{same_some}
 
 -- uses are alike however many rows work on the slot
 fewer : (a b : Use) → IsUsedAlike a b → IsUsedAlike (one_less a) (one_less b)

@@ -10,7 +10,6 @@ use Rattle.map_tables.specs.Nodes.{deferred_word}
 use Rattle.map_tables.specs.declared.node.Node.{Node}
 use Rattle.many_acts.specs.Given.CallersRows.{IsUsedAlike}
 use Rattle.many_acts.specs.Given.ScenesScene.{Scene}
-use Rattle.seize_acts.proofs.Acts.Answers.{same_some}
 use Rattle.seize_seats.specs.Seats.Errands.{IsUnlent}
 use Rattle.seize_seats.specs.Seats.State.{State, view_of, Goes}
 use Rattle.seize.specs.Settle.{flushing}
@@ -43,6 +42,7 @@ use Rattle.threads_rule.proofs.Views.RowBegins.{row_just, nobody_else, begins_to
 use Rattle.threads_rule.proofs.Views.RowFits.{scene, so, i, knows}
 use Rattle.threads_rule.proofs.Views.RowSteps.{alike, row_in, steps_to}
 use Rattle.threads_rule.proofs.Views.Views.{Had, views_hold}
+use Rattle.seize_words.proofs.General.{same_some}
 
 -- who knows of no block within its section knows of none
 plain_has : {T : Type 0} (t : ℕ) (has : Has T) → IsPlain (slot_view.Inside t has) → has ≡ NoBlock

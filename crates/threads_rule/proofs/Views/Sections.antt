@@ -14,8 +14,9 @@ use Rattle.many_acts.specs.Given.FinishesMachines.{MachineStepsAmong, DidOfKind}
 use Rattle.many_acts.specs.Given.FinishesMaps.{Standing}
 use Rattle.many_acts.specs.Given.ScenesScene.{Scene}
 use Rattle.many_acts.specs.Acts.Leads.{AllStand}
-use Rattle.threads_rule.proofs.Views.Quiet.{AllOfUsers, HandsOne}
+use Rattle.threads_rule.proofs.Views.Quiet.{HandsOne}
 use Rattle.threads_rule.proofs.Views.Ran.{Stepped, Ran}
+use Rattle.seize_model.proofs.Alone.Histories.UsersTurn.{AreUsers as AllOfUsers}
 
 module _ {K V : Type 0} where
   pub as_users : (events : List (Event (Node K V))) → AllUsers events → AllOfUsers events

@@ -40,7 +40,6 @@ use Rattle.many_acts.specs.Acts.Leads.{AllStand, CallCame, call_at, call_steps}
 use Rattle.many_acts.specs.Acts.Lists.{AllMayStep, AllAreActs}
 use Rattle.many_acts.proofs.Acts.Lists.{steps_are_acts}
 use Rattle.seize_acts.specs.Acts.Answers.{Grant, then_on}
-use Rattle.seize_acts.proofs.Acts.Answers.{same_some}
 use Rattle.seize_seats.specs.Seats.State.{State, view_of, Goes}
 use Rattle.seize_views.specs.declared.view.Fixed.{Fixed}
 use Rattle.threads_rule.specs.Views.Listed.{Called, calls_of, calls_then, has_told, IsNewest}
@@ -62,6 +61,7 @@ use Rattle.threads_rule.proofs.Views.RowLooks.{row_sees}
 use Rattle.threads_rule.proofs.Views.Numbers.{slot_at}
 use Rattle.threads_rule.proofs.Views.Pairs.{newest_pair, step_hands, step_pair}
 use Rattle.threads_rule.proofs.Views.Quiet.{none_over}
+use Rattle.seize_words.proofs.General.{same_some}
 
 -- a pair is known by what it is
 pair_is : (A B : Type 0) (x y : A × B) → x ≡ y → (x.0 ≡ y.0) × (x.1 ≡ y.1)

@@ -6,7 +6,6 @@ use Rattle.map_tables.specs.declared.node.Node.{Node}
 use Rattle.papaya_raw.specs.declared.machines.machine.Machine.{Machine}
 use Rattle.many_acts.specs.Given.ScenesScene.{slot_of}
 use Rattle.many_acts.specs.Acts.Lists.{nothing_done}
-use Rattle.seize_acts.proofs.Acts.Answers.{same_some}
 use Rattle.seize_seats.specs.Seats.State.{State, view_of}
 use Rattle.seize_views.specs.Views.Rows.{use_of}
 use Rattle.seize_views.specs.declared.view.Fixed.{Fixed}
@@ -17,6 +16,7 @@ use Rattle.threads_rule.specs.Views.Rule.{MapsWorld, Fits, KnowsRow, AreRuns, Ha
 use Rattle.threads_rule.specs.declared.view.BegunCall.{BegunCall}
 use Rattle.threads_rule.specs.declared.view.View.{View}
 use Rattle.threads_rule.specs.declared.view.SeatWork.TheVariants.{Nothing, Calls}
+use Rattle.seize_words.proofs.General.{same_some}
 
 module _ {K V S : Type 0} (same : K → K → Bool) (hash : S → K → ℕ) (fixed : Fixed) (s : State (Node K V) (View K V S) (MapsWorld K V S)) (h : Holds same hash fixed s)
     (views : List (View K V S)) where

@@ -5,7 +5,6 @@ use Rattle.std.proofs.Common.{◌≡◌, ◌⊎◌, ℕ, Bool, true, inl, inr, r
 use Rattle.std.proofs.lemmas.Bool.{cases_eq}
 use Rattle.run_shows.specs.Given.SeizeWordsPlan.{Plan}
 use Rattle.seize_acts.specs.Acts.Answers.{Grant, then_on}
-use Rattle.seize_acts.proofs.Acts.Answers.{same_some}
 use Rattle.run_shows.specs.Given.TablesDeclared.node.Node.{Node}
 use Rattle.run_shows.specs.Given.RawMachine.{machine_plan, machine_replied, machine_asked}
 use Rattle.run_shows.specs.Given.RawDeclared.machines.asking.MachineReply.{MachineReply}
@@ -31,6 +30,7 @@ use Rattle.run_shows.specs.Scenes.Held.{Held, IsAt}
 use Rattle.run_shows.specs.Scenes.Replying.{scene_with, unless_stopped}
 use Rattle.run_shows.specs.Scenes.Scene.{Scene, slot_of}
 use Rattle.run_shows.specs.Scenes.Stepping.{StepsFrom, scene_after}
+use Rattle.run_shows.proofs.Given.General.{same_some}
 
 -- what is wanted of a map begins so
 pub begins_so : {K V : Type 0} (same : K → K → Bool) (s : Standing K) → AreLawful same s.hash → (i : ℕ) (wanted : Wanted K V) → Begins same s i (begun same slot_of s i wanted)

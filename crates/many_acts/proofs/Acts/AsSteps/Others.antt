@@ -11,7 +11,6 @@ use Rattle.run_shows.specs.Given.SeizeDeclared.advance.Advance.TheVariants as pr
 use Rattle.run_shows.specs.Given.SeizeDeclared.rows.settle.Settled.{Settled}
 use Rattle.run_shows.specs.Given.SeizeDeclared.rows.settle.Settled.TheVariants as settled
 use Rattle.seize_acts.specs.Acts.Answers.{Grant}
-use Rattle.seize_acts.proofs.Acts.Answers.{same_some}
 use Rattle.run_shows.specs.Given.TablesChunks.{is_incremental}
 use Rattle.run_shows.specs.Given.TablesNodes.{deferred_word}
 use Rattle.run_shows.specs.Given.TablesDeclared.node.Node.{Node}
@@ -42,6 +41,7 @@ use Rattle.run_shows.specs.Scenes.Ending.{EndingComesToThere, ending_begun}
 use Rattle.run_shows.specs.Scenes.Held.{Held, IsAt}
 use Rattle.run_shows.specs.Scenes.Making.{MakingComesToThere, making_begun, scene_making}
 use Rattle.run_shows.specs.Scenes.Scene.{Scene, slot_of}
+use Rattle.run_shows.proofs.Given.General.{same_some}
 
 module _ {K V S : Type 0} (same : K → K → Bool) (by_hasher : S → K → ℕ) (hash : ℕ → K → ℕ) (batch_size roots : ℕ) (s n : Scene K V) (before : Changed)
     (at : IsAt same hash (held_in batch_size roots before s) s) (all : AllStand same by_hasher batch_size roots slot_of n) (i : ℕ) where

@@ -21,7 +21,7 @@ use Rattle.run_shows.specs.Given.SeizeDeclared.rows.settle.Settled.{Settled}
 use Rattle.run_shows.specs.Given.SeizeDeclared.rows.settle.Settled.TheVariants as settled
 use Rattle.seize_acts.specs.Acts.Acts.{row_steps}
 use Rattle.seize_acts.specs.Acts.Answers.{Grant, stepped, then_on}
-use Rattle.seize_acts.proofs.Acts.Answers.{same_some, some, was_stepped}
+use Rattle.seize_acts.proofs.Acts.Answers.{some, was_stepped}
 use Rattle.seize_acts.proofs.Given.SeizeRuleRows.Others.{begins_others, steps_others, with_here}
 use Rattle.seize_acts.proofs.Given.SeizeRuleRows.Teams.{shares}
 use Rattle.seize_acts.proofs.Given.SeizeEndsBatches.Rows.{begins_memory}
@@ -51,6 +51,7 @@ use Rattle.run_shows.specs.declared.row.RowTold.TheVariants as told
 use Rattle.run_shows.specs.declared.row.SlotCall.{SlotCall}
 use Rattle.run_shows.specs.declared.row.SlotRow.{SlotRow}
 use Rattle.run_shows.specs.declared.row.SlotRow.TheVariants as rows
+use Rattle.run_shows.proofs.Given.General.{same_some}
 
 module _ {K V : Type 0} (w : World (Node K V)) (i : ℕ) (g : Grant) where
   -- A step of a row has led to a world: it is told, with what it has changed, and the row goes on, on its slot, unless it has come to its end.

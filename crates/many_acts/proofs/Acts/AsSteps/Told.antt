@@ -5,11 +5,12 @@ use Rattle.std.specs.Option.{option_map_or}
 use Rattle.run_shows.specs.Given.SeizeWordsMem.{Mem, after, value_at}
 use Rattle.run_shows.specs.Given.SeizeWordsPlan.{Plan, Turn, Do}
 use Rattle.seize_acts.specs.Acts.Answers.{Grant, answer, ends, stepped, then_on}
-use Rattle.seize_acts.proofs.Acts.Answers.{answer_gives, ended, same_some, some}
+use Rattle.seize_acts.proofs.Acts.Answers.{answer_gives, ended, some}
 use Rattle.run_shows.specs.Given.TablesDeclared.node.Node.{Node}
 use Rattle.run_shows.specs.Given.TellerTells.{StepsTold}
 use Rattle.run_shows.specs.Given.EffectsDeclared.changed.Changed.TheVariants.{Nothing as NoChange}
 use Rattle.many_acts.specs.Acts.AsSteps.{changed_as, changed_of}
+use Rattle.run_shows.proofs.Given.General.{same_some}
 
 module _ {K V R : Type 0} (m : Mem (Node K V)) (g : Grant) where
   pub was_told : (plan : Plan (Node K V) R) (p : Mem (Node K V) × R) → stepped m g plan ≡ Some p → StepsTold K V R m NoChange plan p.0 (changed_of m g plan) p.1

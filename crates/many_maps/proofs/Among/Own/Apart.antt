@@ -1,6 +1,6 @@
 -- What the deed of an end is done to is its map's, or left over to its caller: each block that is apart from these is as it was.
 use Rattle.std.specs.Prelude.{◌≢◌, Some}
-use Rattle.std.proofs.Common.{◌≡◌, ℕ, zero, suc, ◌<◌, ◌≤◌, Bool, true, false, List, [], ◌∷◌, ◌⊎◌, inl, inr, refl, arith, ap, sym, subst, ◌∙◌}
+use Rattle.std.proofs.Common.{◌≡◌, ℕ, ◌<◌, ◌≤◌, Bool, true, false, List, [], ◌∷◌, ◌⊎◌, inl, inr, refl, arith, ap, sym, subst, ◌∙◌}
 use Rattle.many_calls.specs.Given.SeizeWordsDeclared.at.At.TheVariants.{Entry, Word}
 use Rattle.many_calls.specs.Given.SeizeWordsMem.{value_at, word_at}
 use Rattle.many_calls.specs.Given.SeizeDeclared.states.TheConstants.{NEXT}
@@ -20,13 +20,10 @@ use Rattle.many_maps.specs.FactsEnds.{Deed, Looks, TakesPair, LeavesTable, Joins
 use Rattle.many_maps.proofs.Ends.CountedBlocks.{times_other}
 use Rattle.many_maps.proofs.Ends.OrdersOnce.{plain_order, pair_there}
 use Rattle.many_maps.proofs.Ends.SinceOn.{handed_stays}
-
-none_of : (k : ℕ) → (0 < k → ⊥) → k ≡ 0
-none_of zero none = refl
-none_of (suc k) none = absurd (none (omega arith))
+use Rattle.many_calls.proofs.Given.General.{none_less as none_of}
 
 -- another one than the first, and none of the others
-none_in_both : (x b : ℕ) (l : List ℕ) → x ≢ b → (0 < times x l → ⊥) → times x (b ∷ l) ≡ 0
+pub none_in_both : (x b : ℕ) (l : List ℕ) → x ≢ b → (0 < times x l → ⊥) → times x (b ∷ l) ≡ 0
 none_in_both x b l ne none = times_other x b l ne ∙ none_of (times x l) none
 
 -- nothing was done to the block

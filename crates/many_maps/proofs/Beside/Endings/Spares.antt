@@ -1,6 +1,6 @@
 -- What others leave of a map that ends while they take their steps: its blocks, what is left over, its root, and what lies behind its tables.
-use Rattle.std.specs.Prelude.{◌≡◌, ℕ, Option, Some, None, IsSome, ◌⊎◌}
-use Rattle.std.proofs.Common.{refl, sym, subst, ◌∙◌, inl, inr}
+use Rattle.std.specs.Prelude.{◌≡◌, ℕ, Some, ◌⊎◌}
+use Rattle.std.proofs.Common.{sym, subst, ◌∙◌, inl, inr}
 use Rattle.many_calls.specs.Given.SeizeWordsDeclared.at.At.TheVariants.{Root, Used, Entry, Word}
 use Rattle.many_calls.specs.Given.SeizeWordsMem.{value_at, word_at}
 use Rattle.many_calls.specs.Given.SeizeDeclared.states.TheConstants.{NEXT}
@@ -17,6 +17,7 @@ use Rattle.many_calls.specs.Together.{CameAbout}
 use Rattle.many_calls.proofs.Rows.Behind.{LaySo, lay_then}
 use Rattle.many_calls.proofs.Rows.Keep.{kept_block}
 use Rattle.many_calls.proofs.Together.Came.{came_reached}
+use Rattle.many_calls.proofs.Given.General.{some_there}
 
 module _ {K V : Type 0} (w : World (Node K V)) where
   -- the block is in use, and this owner's
@@ -61,11 +62,6 @@ module _ {K V : Type 0} (w : World (Node K V)) where
   pub end_not_held : (owner i b : ℕ) → IsOfEnd owner i b → (j : ℕ) → IsHeldBy j (w.hand b) → ⊥
   end_not_held owner i b (inl used) j held = subst (IsHeldBy j) used.0 held
   end_not_held owner i b (inr left) j held = subst (IsHeldBy j) left held
-
--- what is there has some value
-pub some_there : {X : Type 0} (o : Option X) → IsSome o → (x : X) × (o ≡ Some x)
-some_there None some = absurd (cc some)
-some_there (Some x) some = (x, refl)
 
 pub end_there : {K V : Type 0} (size : ℕ) (w : World (Node K V)) → CameAbout size w → (owner i b : ℕ) → IsOfEnd w owner i b → (value : Node K V) × (value_at w.memory b ≡ Some value)
 end_there size w came owner i b of = some_there (value_at w.memory b) (kept_there deferred_word size w (came_reached size w came) b (kept_block w b (inl (end_own w owner i b of))))

@@ -23,7 +23,6 @@ use Rattle.many_calls.specs.Given.ResizeNewTable.{first_table}
 use Rattle.many_calls.specs.Given.ResizeDeclared.new_map.NewMap.{NewMap}
 use Rattle.many_calls.specs.Given.ResizeDeclared.new_map.Opening.TheVariants as at
 use Rattle.many_calls.proofs.Given.RuleWords.BlocksApart.{new_apart}
-use Rattle.many_calls.proofs.Given.RuleWords.WritesWords.{is_some_of}
 use Rattle.many_calls.proofs.Given.RuleWorld.Hands.{at_cases, hand_kept}
 use Rattle.many_calls.proofs.Given.RuleWorld.OthersSpared.{keeps_made, keeps_dropped}
 use Rattle.many_calls.specs.Given.RuleInWorld.{IsOut}
@@ -38,6 +37,7 @@ use Rattle.many_maps.proofs.Beside.Makings.FirstLengths.{first_len}
 use Rattle.many_maps.proofs.Beside.Makings.Leaves.{IsItsBlock, IsAsItWas, LeavesOthers, came_then}
 use Rattle.many_maps.proofs.Beside.Makings.Went.{GoesTo, MakingWent, facts_at, still}
 use Rattle.many_calls.proofs.Together.MapStands.{map_begins_together}
+use Rattle.many_calls.proofs.Given.General.{some_is as is_some_of}
 
 module _ {K Q : Type 0} (V : Type 0) (same : K → K → Bool) (asks : Q → K → Bool) (batch_size roots : ℕ) (slot : ℕ → ℕ) (w : World (Node K V)) (came : CameAbout batch_size w) (i : ℕ) (b : Beginning K)
     (f : MakingFacts w same batch_size roots i b) (free : HasRoots w roots) where

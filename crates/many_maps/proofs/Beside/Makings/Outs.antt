@@ -18,7 +18,7 @@ use Rattle.many_calls.specs.Given.RuleWords.{Blocks}
 use Rattle.many_calls.proofs.Given.RuleWorld.Hands.{at_cases}
 use Rattle.many_calls.specs.Together.{CameAbout}
 use Rattle.many_calls.proofs.Together.Came.{came_reached}
-use Rattle.many_maps.proofs.Beside.Endings.Spares.{some_there}
+use Rattle.many_calls.proofs.Given.General.{some_there}
 
 -- what is linked is out
 standing_out : (h : Hand) → IsStanding h → IsOut h
@@ -30,7 +30,7 @@ standing_out (Cutting i) is = absurd is
 standing_out Handed is = absurd is
 standing_out (LeftTo i) is = absurd is
 
-handed_lives : (l : Life) → is_handed l ≡ true → lives l ≡ true
+pub handed_lives : (l : Life) → is_handed l ≡ true → lives l ≡ true
 handed_lives l is = grind (arith, is)
 
 out_lives : (h : Hand) (l : Life) → IsOut h → HandFits h l → lives l ≡ true

@@ -19,7 +19,7 @@ use Rattle.many_maps.proofs.Beside.Makings.Roots.{may_takes, went_takes, may_fre
 use Rattle.many_maps.proofs.Beside.Makings.Steps.{one_made, two_made, making_leads}
 use Rattle.many_maps.proofs.Beside.Makings.Tables.{may_tables, went_tables}
 use Rattle.many_maps.proofs.Beside.Makings.Went.{MakingWent}
-use Rattle.many_maps.proofs.Beside.Maps.All.{one_of}
+use Rattle.many_calls.proofs.Given.General.{same_some as one_of}
 
 module _ {K Q : Type 0} (V : Type 0) (same : K → K → Bool) (asks : Q → K → Bool) (batch_size roots : ℕ) (slot : ℕ → ℕ) where
   pub no_makings_begin : NoMakingsBegin {Q = Q} V same asks batch_size roots slot

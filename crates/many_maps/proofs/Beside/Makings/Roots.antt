@@ -20,11 +20,11 @@ use Rattle.many_calls.specs.Given.ResizeNewMap.{at_root, next_root, taken, takes
 use Rattle.many_calls.specs.Given.ResizeDeclared.new_map.NewMap.{NewMap}
 use Rattle.many_calls.specs.Given.ResizeDeclared.new_map.Opening.{Opening}
 use Rattle.many_calls.specs.Given.ResizeDeclared.new_map.Opening.TheVariants as at
-use Rattle.many_calls.proofs.Given.RuleWords.WritesWords.{is_some_of}
 use Rattle.many_calls.proofs.Given.RuleWorld.OthersSpared.{keeps_written}
 use Rattle.many_maps.specs.Makings.{Beginning, HasTaken, HasMade, HasRoots, OpeningFacts, MakingFacts, KeepsIts, HasComeTo}
 use Rattle.many_maps.proofs.Beside.Makings.Leaves.{IsItsRoot, LeavesOthers}
 use Rattle.many_maps.proofs.Beside.Makings.Went.{GoesTo, MakingWent, facts_at, still}
+use Rattle.many_calls.proofs.Given.General.{some_is as is_some_of}
 
 module _ {K Q : Type 0} (V : Type 0) (same : K → K → Bool) (asks : Q → K → Bool) (batch_size roots : ℕ) (slot : ℕ → ℕ) (w : World (Node K V)) (i : ℕ) (b : Beginning K)
     (f : MakingFacts w same batch_size roots i b) (free : HasRoots w roots) where

@@ -19,10 +19,10 @@ use Rattle.many_calls.specs.Together.{OnKey, UnderWay, CameAbout, HandsOver, IsO
 use Rattle.many_maps.proofs.Beside.Makings.Beside.{LeavesMakings, makings_on}
 use Rattle.many_maps.proofs.Beside.Makings.CallSteps.{no_maker, still_alone}
 use Rattle.many_maps.proofs.Beside.Makings.Lasts.{counter_on}
-use Rattle.many_maps.proofs.Beside.Maps.All.{one_of}
 use Rattle.many_maps.proofs.Beside.Maps.Rows.{rows_stand_in_maps, guards_stand_in_maps}
 use Rattle.many_calls.proofs.Rows.Beside.{users_hand, users_value, users_word, row_keeps_blocks}
 use Rattle.many_calls.proofs.Together.Came.{came_next, came_reached}
+use Rattle.many_calls.proofs.Given.General.{same_some as one_of}
 
 -- a map that is as it was, but for what may be looked at of it, has its setting
 pub same_setting : {K : Type 0} (o after : Option (Standing K)) → IsSameMap o after → (s2 : Standing K) → after ≡ Some s2 → (s : Standing K) × (o ≡ Some s) × (s2.setting ≡ s.setting)

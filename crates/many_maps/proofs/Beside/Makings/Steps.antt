@@ -23,9 +23,10 @@ use Rattle.many_maps.proofs.Beside.Makings.OtherMakings.{making_left}
 use Rattle.many_maps.proofs.Beside.Makings.OtherMaps.{map_stays}
 use Rattle.many_maps.proofs.Beside.Makings.Outs.{out_there}
 use Rattle.many_maps.proofs.Beside.Makings.Went.{IsOwnRoot, IsOwnCounter, GoesTo, MakesMap, MakingWent}
-use Rattle.many_maps.proofs.Beside.Maps.All.{one_of, StandsSo}
+use Rattle.many_maps.proofs.Beside.Maps.All.{StandsSo}
 use Rattle.many_maps.proofs.Beside.Maps.Comes.{each_at, two_at, none_at}
 use Rattle.many_calls.proofs.Together.At.{at_other, at_same}
+use Rattle.many_calls.proofs.Given.General.{same_some as one_of}
 
 module _ {X : Type 0} (f : ℕ → Option X) (k : ℕ) (new : Option X) where
   -- what is so of all but one, and of that one, is so of all

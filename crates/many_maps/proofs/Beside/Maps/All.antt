@@ -11,10 +11,7 @@ use Rattle.many_maps.specs.Maps.{Standing, IsSameMap, with_call, MapsTogether, A
 use Rattle.many_calls.specs.Sights.{Sight, IsPartOf}
 use Rattle.many_calls.specs.Together.{UnderWay, HasCall, CameAbout, Together}
 use Rattle.many_calls.proofs.Together.At.{at_other, at_same}
-
--- what is there or isn't
-pub one_of : {X : Type 0} (x y : X) → ◌≡◌ {A = Option X} (Some x) (Some y) → x ≡ y
-one_of x y e = cc e
+use Rattle.many_calls.proofs.Given.General.{same_some as one_of}
 
 pub not_none : {X : Type 0} (x : X) (o : Option X) → o ≡ Some x → o ≢ None
 not_none x o is none = cc (is, none)

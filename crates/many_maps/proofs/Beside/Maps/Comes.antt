@@ -7,10 +7,11 @@ use Rattle.many_calls.specs.Given.SeizeWorld.{with_at}
 use Rattle.many_calls.specs.Given.PointsSteps.{AreLawful}
 use Rattle.many_maps.specs.Maps.{Standing, new_map, NoMapsBegin, MapsCome, CallsBeginInMaps}
 use Rattle.many_calls.specs.Together.{CameAbout}
-use Rattle.many_maps.proofs.Beside.Maps.All.{one_of, StandsSo, maps_with_call}
+use Rattle.many_maps.proofs.Beside.Maps.All.{StandsSo, maps_with_call}
 use Rattle.many_calls.proofs.Together.At.{at_other, at_same}
 use Rattle.many_calls.proofs.Together.MapStands.{map_begins_together}
 use Rattle.many_calls.proofs.Together.Begins.{begins_together}
+use Rattle.many_calls.proofs.Given.General.{same_some as one_of}
 
 module _ {K Q : Type 0} (V : Type 0) (same : K → K → Bool) (asks : Q → K → Bool) (size : ℕ) (slot : ℕ → ℕ) where
   pub no_maps_begin : NoMapsBegin {Q = Q} V same asks size slot

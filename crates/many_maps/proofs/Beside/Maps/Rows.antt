@@ -9,13 +9,14 @@ use Rattle.many_calls.specs.Given.TablesNodes.{deferred_word}
 use Rattle.many_calls.specs.Given.TablesDeclared.node.Node.{Node}
 use Rattle.many_maps.specs.Maps.{AllMapsStand, Standing, with_call, MapsTogether, RowsStandInMaps, GuardsStandInMaps}
 use Rattle.many_calls.specs.Together.{OnKey, UnderWay, CameAbout, IsOneStep, Together, GuardsOf}
-use Rattle.many_maps.proofs.Beside.Maps.All.{one_of, not_none, StandsSo, StandsSomehow, all_stand, calls_only, calls_once, its_calls, others_calls}
+use Rattle.many_maps.proofs.Beside.Maps.All.{not_none, StandsSo, StandsSomehow, all_stand, calls_only, calls_once, its_calls, others_calls}
 use Rattle.many_maps.proofs.Beside.Maps.OtherBegins.{other_begun}
 use Rattle.many_maps.proofs.Beside.Maps.Steps.{no_other}
 use Rattle.many_calls.proofs.Sights.Parts.{part_same}
 use Rattle.many_calls.proofs.Together.Came.{came_next, came_reached}
 use Rattle.many_calls.proofs.Together.Guards.{guards_stand_together}
 use Rattle.many_calls.proofs.Together.Stepped.{rows_stand_together}
+use Rattle.many_calls.proofs.Given.General.{same_some as one_of}
 
 module _ {K Q : Type 0} (V : Type 0) (same : K → K → Bool) (asks : Q → K → Bool) (size : ℕ) (slot : ℕ → ℕ)
     (w : World (Node K V)) (maps : ℕ → Option (Standing K)) (calls : ℕ → ℕ → Option (UnderWay K V Q)) (all : MapsTogether V same asks size slot w maps calls)

@@ -366,7 +366,7 @@ module _ {K V Q : Type 0} (present : There) (absent : Missing) (takes : Takes) w
     call_fits m m2 end s = fits_from m m2 end p.stands is.4 s
 
 -- nothing was told of a pair yet
-untold_fits : {K V : Type 0} (kind : Takes) (key : Option K) (absent : Told V) → ToldFits kind (untold kind key absent)
+pub untold_fits : {K V : Type 0} (kind : Takes) (key : Option K) (absent : Told V) → ToldFits kind (untold kind key absent)
 untold_fits kind key absent = record { takes_is = refl; removes = λ e. cc e; choices = λ e. refl }
 
 -- the four kinds that never ask

@@ -1,7 +1,6 @@
 -- The making of a table is refused for the length of the table, or for memory, where its block is refused.
 use Rattle.std.specs.Prelude.{◌≡◌, ℕ, ◌+◌, ◌^◌, ◌<◌, ◌≤◌, max, nat_lt, nat_le, if◌then◌else◌, Bool, true, false, Result, Ok, Err, IfOk}
 use Rattle.std.proofs.Common.{inl, inr, refl, sym, subst, ap, arith}
-use Rattle.std.proofs.lemmas.Bool.{cases_lt, lt-ltb}
 use Rattle.std.proofs.lemmas.Bool.Decides.{leb_tells}
 use Rattle.map_facts.specs.Given.SeizeWordsDeclared.at.At.{At}
 use Rattle.map_facts.specs.Given.SeizeWordsDeclared.at.At.TheVariants as name
@@ -33,6 +32,7 @@ use Rattle.map_facts.proofs.Given.TablesEnds.{next_few}
 use Rattle.map_facts.proofs.Given.RuleKeys.Always.{Always, AlwaysOf, always_if, always_steps}
 use Rattle.map_facts_late.specs.Ends.{EndsSo}
 use Rattle.map_facts_late.specs.Faults.{AnyTable, IsRoom, RoomInMaking, SoInMaking, StandsInMaking}
+use Rattle.map_facts.proofs.Given.General.{less_not as at_least}
 
 -- a length that can't be had is too long
 abbrev IsLong : {T : Type 0} → Result T Fault → Type 0
@@ -57,14 +57,6 @@ above a b e =
     elim (leb_tells a b) as (λ _. b < a) [
       | inl few ↦ absurd (let most = few.0 in cc (most, e))
       | inr many ↦ many.1
-    ]
-
--- and at least that where it is not less
-pub at_least : (a b : ℕ) → nat_lt a b ≡ false → b ≤ a
-at_least a b e =
-    elim (cases_lt a b) as (λ _. b ≤ a) [
-      | inl below ↦ absurd (let less = lt-ltb a b below in cc (less, e))
-      | inr least ↦ least
     ]
 
 -- what is so of both outcomes of a test is so of this one

@@ -37,7 +37,8 @@ use Rattle.map_facts.proofs.Given.RuleKeys.Always.{Always, AlwaysOf, always_ends
 use Rattle.map_facts_late.specs.Ends.{EndsInReserving}
 use Rattle.map_facts_late.specs.Faults.{AnyTable, IsRoom, RoomInReserving, RefusesSo, SoInReserving, StandsInCopying, StandsInReserving}
 use Rattle.map_facts_late.proofs.KindsKept.Rooms.Copying.{CopiesAs, CopiesFor, copier_as, copying_ends}
-use Rattle.map_facts_late.proofs.KindsKept.Rooms.Making.{CountsOn, sum_counts, MakesAs, MakesFor, always_long, always_where, at_least, new_table_as, first_table_as, table_reserved_as}
+use Rattle.map_facts_late.proofs.KindsKept.Rooms.Making.{CountsOn, sum_counts, MakesAs, MakesFor, always_long, always_where, new_table_as, first_table_as, table_reserved_as}
+use Rattle.map_facts.proofs.Given.General.{less_not as at_least}
 
 -- a fault that it has to tell is such a one, and a refusal is one for it
 module _ (Is : Fault → Type 0) (Last : Table → Reason → Type 0) where

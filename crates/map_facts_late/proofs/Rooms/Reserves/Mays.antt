@@ -29,11 +29,11 @@ use Rattle.map_facts.specs.Given.RuleInWorld.{IsMapIn}
 use Rattle.map_facts.proofs.Given.RuleWords.LinksRead.{see_link}
 use Rattle.map_facts.proofs.Given.RuleWords.LinksSeen.{root_leads, next_leads}
 use Rattle.map_facts.proofs.Given.RuleWords.TablesSeen.{next_there}
-use Rattle.map_facts.proofs.Given.RuleWords.WritesWords.{is_some_of}
 use Rattle.map_facts.proofs.Given.RuleWorld.WentWrote.{counter_of}
 use Rattle.map_facts.specs.FactsTables.{SumFacts, NewTableFacts}
 use Rattle.map_facts.proofs.Making.NewTable.{may_new_table}
 use Rattle.map_facts.proofs.Making.Sum.{may_sum}
+use Rattle.map_facts.proofs.Given.General.{some_is as is_some_of}
 
 module _ {K V : Type 0} where
   -- it makes a first table, or counts the pairs, by the root that it has read

@@ -28,7 +28,6 @@ use Rattle.map_facts.specs.Given.RuleInWorld.{IsMapIn}
 use Rattle.map_facts.proofs.Given.RuleWords.LinksRead.{see_link, link_ends}
 use Rattle.map_facts.proofs.Given.RuleWords.LinksSeen.{root_leads, next_leads}
 use Rattle.map_facts.proofs.Given.RuleWords.TablesSeen.{next_there, place_there}
-use Rattle.map_facts.proofs.Given.RuleWords.WritesWords.{is_some_of}
 use Rattle.map_facts.proofs.Given.RuleWorld.WentStill.{went_still}
 use Rattle.map_facts.specs.FactsIdle.{IsIdle}
 use Rattle.map_facts_late.proofs.Copiers.LateBegins.{late_begins, behind_left}
@@ -39,6 +38,7 @@ use Rattle.map_facts_late.specs.FactsSweeps.{WasRoot, GoesOver, HasNoTable, Copi
 use Rattle.map_facts_late.proofs.Swept.Sweeps.Tables.{WasRootIn, first_was}
 use Rattle.map_facts_late.proofs.Swept.Sweeps.On.{After, Knows, KnowsAt, telling_after, on_at, begins_over, enters, seen_after}
 use Rattle.map_facts_late.proofs.Swept.Sweeps.Moved.{Sees, SweepTells, SweepWent}
+use Rattle.map_facts.proofs.Given.General.{some_is as is_some_of}
 
 module _ {K V : Type 0} (same : K → K → Bool) (hash : K → ℕ) (caller : ℕ) (setting : Setting) (began : ℕ) (w : World (Node K V)) (c : Chart K) (blocks : Blocks)
     (map : IsMapIn same hash setting w c blocks) (p : Sweep) where

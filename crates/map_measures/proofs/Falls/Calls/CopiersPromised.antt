@@ -1,9 +1,7 @@
 -- What is promised of the number of a copier.
 use Rattle.std.specs.Prelude.{List, ◌∷◌}
-use Rattle.std.proofs.Common.{◌≡◌, ℕ, Bool, true, false, inl, inr, ap, ◌∙◌, arith}
-use Rattle.map_tables.specs.Chunks.{is_incremental}
+use Rattle.std.proofs.Common.{ℕ, Bool, true, false, inl, inr, arith}
 use Rattle.map_tables.specs.declared.node.Node.{Node}
-use Rattle.map_tables.specs.declared.setting.Setting.{Setting}
 use Rattle.map_tables.specs.declared.table.Table.{Table}
 use Rattle.map_machines.specs.declared.yielding.Yielding.{Yielding}
 use Rattle.map_machines.specs.declared.yielding.Yielding.TheVariants as outcome
@@ -21,10 +19,7 @@ use Rattle.map_measures.proofs.Falls.Copiers.Incremental.{copied_on}
 use Rattle.map_measures.proofs.Falls.Copiers.Blocking.{copied_on_blocking}
 use Rattle.map_measures.proofs.Falls.Calls.MachineFacts.{copying_stands, copying_stands_blocking}
 use Rattle.map_measures.proofs.Falls.Calls.LateFacts.{late_copying}
-
--- the mode of a copier
-mode_is : (s setting : Setting) (b : Bool) → s ≡ setting → is_incremental setting.mode ≡ b → is_incremental s.mode ≡ b
-mode_is s setting b is mode = ap (λ (x : Setting). is_incremental x.mode) is ∙ mode
+use Rattle.map_measures.proofs.Waits.Promised.{mode_of as mode_is}
 
 -- fewer tables can still be linked, or its number is lower
 room_below : (past past2 : ℕ) (before : Copying → List ℕ) (after : Copier → List ℕ) (stands : Copying) (q : Copier) → FallsTo past past2 before after stands q

@@ -25,7 +25,6 @@ use Rattle.many_calls.specs.Given.RawDeclared.machines.call.Calling.TheVariants 
 use Rattle.many_calls.specs.Given.RuleChart.{Chart}
 use Rattle.many_calls.specs.Given.RuleMaps.{IsTrial}
 use Rattle.many_calls.specs.Given.RuleWords.{Blocks}
-use Rattle.many_calls.proofs.Given.RuleWords.WritesWords.{is_some_of}
 use Rattle.many_calls.specs.Given.PointsMeasures.{IsBelow}
 use Rattle.map_measures.specs.Falls.Room.{tables_to_come}
 use Rattle.map_measures.specs.Falls.Calls.{to_empty, stale, trying, number_at_asking, number_of_call}
@@ -34,6 +33,7 @@ use Rattle.map_measures.proofs.Falls.Onward.{Onward, KeepsTables, links_kept, pa
 use Rattle.map_measures.proofs.Falls.Kept.{keeps_made, keeps_rewritten, keeps_taken}
 use Rattle.map_measures.proofs.Falls.Stands.{HasPairInside, AskingStands}
 use Rattle.map_measures.proofs.Falls.Calls.TrySeen.{stale_kept}
+use Rattle.seize_words.proofs.General.{some_is as is_some_of}
 
 -- once its pair is out of its block, a call has its key
 key_back : {K V : Type 0} (r : Replies K V) (key : K) (value : V) → to_empty (with_back r key value).key ≡ 0

@@ -33,7 +33,6 @@ use Rattle.many_calls.specs.Given.RuleMaps.{IsTable}
 use Rattle.many_calls.specs.Given.RuleWords.{Blocks}
 use Rattle.many_calls.proofs.Given.RuleKeys.TriesSeen.{spot_inside}
 use Rattle.many_calls.proofs.Given.RuleWords.TablesSeen.{status_there}
-use Rattle.many_calls.proofs.Given.RuleWords.WritesWords.{is_some_of}
 use Rattle.many_calls.specs.Given.PointsTold.{IsRowOfCopier}
 use Rattle.map_measures.specs.Falls.CopiesBlocking.{number_at, number_of_copier_blocking, targets}
 use Rattle.map_measures.proofs.Falls.Onward.{Onward}
@@ -44,6 +43,7 @@ use Rattle.map_measures.proofs.Falls.Copiers.Old.{fewer_old}
 use Rattle.map_measures.proofs.Falls.Copiers.StagesBlocking.{IsLower, behind_below, none_left_below, next_below, next_try_below}
 use Rattle.map_measures.proofs.Falls.Copiers.Chunks.{on_claims}
 use Rattle.map_measures.proofs.Falls.Copiers.Remakes.{on_replaces, on_remakes}
+use Rattle.seize_words.proofs.General.{some_is as is_some_of}
 
 module _ {K V : Type 0} (same : K → K → Bool) (hash : K → ℕ) (setting : Setting) (m : Mem (Node K V)) (c : Chart K) (blocks : Blocks) (m2 : Mem (Node K V)) (c2 : Chart K) (blocks2 : Blocks)
     (on : Onward same hash setting m c blocks m2 c2 blocks2) (p : Copier) where

@@ -27,12 +27,12 @@ use Rattle.many_calls.specs.Given.RuleChart.{Chart}
 use Rattle.many_calls.specs.Given.RuleMaps.{IsTable}
 use Rattle.many_calls.specs.Given.RuleWords.{Blocks}
 use Rattle.many_calls.proofs.Given.RuleWords.TablesSeen.{claim_there, word_stands}
-use Rattle.many_calls.proofs.Given.RuleWords.WritesWords.{is_some_of}
 use Rattle.map_measures.specs.Falls.CopiesBlocking.{number_at, number_of_copier_blocking, targets}
 use Rattle.map_measures.proofs.Falls.Onward.{Onward}
 use Rattle.map_measures.proofs.Falls.Copiers.Claims.{claim_is}
 use Rattle.map_measures.proofs.Falls.Copiers.CopierOn.{CopierOn, plain, past_word}
 use Rattle.map_measures.proofs.Falls.Copiers.StagesBlocking.{IsLower, none_left_below}
+use Rattle.seize_words.proofs.General.{some_is as is_some_of}
 
 module _ {K V : Type 0} (same : K → K → Bool) (hash : K → ℕ) (setting : Setting) (m : Mem (Node K V)) (c : Chart K) (blocks : Blocks) (m2 : Mem (Node K V)) (c2 : Chart K) (blocks2 : Blocks)
     (on : Onward same hash setting m c blocks m2 c2 blocks2) (p : Copier) where

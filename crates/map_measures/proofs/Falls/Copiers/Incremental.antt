@@ -34,7 +34,6 @@ use Rattle.many_calls.specs.Given.RuleMaps.{IsTable}
 use Rattle.many_calls.specs.Given.RuleWords.{Blocks}
 use Rattle.many_calls.proofs.Given.RuleKeys.TriesSeen.{spot_inside}
 use Rattle.many_calls.proofs.Given.RuleWords.TablesSeen.{place_there, claim_there, status_there}
-use Rattle.many_calls.proofs.Given.RuleWords.WritesWords.{is_some_of}
 use Rattle.many_calls.specs.Given.PointsTold.{IsRowOfCopier}
 use Rattle.map_measures.specs.Falls.Copies.{number_at, number_of_copier}
 use Rattle.map_measures.proofs.Falls.Onward.{Onward}
@@ -43,6 +42,7 @@ use Rattle.map_measures.proofs.Falls.Copiers.CopierOn.{CopierOn, by_end, plain, 
 use Rattle.map_measures.proofs.Falls.Copiers.Old.{fewer_old}
 use Rattle.map_measures.proofs.Falls.Copiers.Stages.{IsLower, behind_below, none_left_below, next_below, next_try_below}
 use Rattle.map_measures.proofs.Falls.Copiers.Further.{on_passes, on_grows}
+use Rattle.seize_words.proofs.General.{some_is as is_some_of}
 
 module _ {K V : Type 0} (same : K → K → Bool) (hash : K → ℕ) (setting : Setting) (m : Mem (Node K V)) (c : Chart K) (blocks : Blocks) (m2 : Mem (Node K V)) (c2 : Chart K) (blocks2 : Blocks)
     (on : Onward same hash setting m c blocks m2 c2 blocks2) (p : Copier) where

@@ -34,13 +34,14 @@ use Rattle.many_calls.specs.Given.RuleWords.{Blocks}
 use Rattle.many_calls.proofs.Given.RuleWords.LinksRead.{link_table}
 use Rattle.many_calls.proofs.Given.RuleWords.LinksSeen.{root_leads}
 use Rattle.many_calls.proofs.Given.RuleWords.TablesSeen.{turn_is}
-use Rattle.many_calls.proofs.Given.RuleWords.WritesWords.{at_word_block, is_some_of}
+use Rattle.many_calls.proofs.Given.RuleWords.WritesWords.{at_word_block}
 use Rattle.map_measures.specs.Falls.Room.{last_turn, planned}
 use Rattle.map_measures.specs.Falls.Copies.{tables_from_before}
 use Rattle.map_measures.proofs.Falls.Onward.{Onward, grows, known_on, past_kept, links_kept, value_before, value_after, behind_none, some_behind}
 use Rattle.map_measures.proofs.Falls.Kept.{keeps_still, keeps_wrote, keeps_made, keeps_taken}
 use Rattle.map_measures.proofs.Falls.Stands.{IsBehind, IsPlaceOf, MakingStands, NewTableStands}
 use Rattle.map_measures.proofs.Falls.Making.MakingBounds.{making_within}
+use Rattle.seize_words.proofs.General.{some_is as is_some_of}
 
 -- a counting writes nothing
 pub sum_still : {T : Type 0} (m m2 : Mem T) (sum : Sum) (end : Sum × Advance ℕ) → Steps Took value_at m (sum_plan sum) m2 end → m2 ≡ m

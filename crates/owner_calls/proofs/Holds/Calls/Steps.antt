@@ -33,6 +33,7 @@ use Rattle.owner_calls.specs.Holds.Came.{StandsAt, NoneCame, OwnsAt, Owns, HasOn
 use Rattle.owner_calls.proofs.Holds.Calls.Goes.{TellsSo, GoesWith, on_to, over_so, counted_so, looked_so, first_so, next_so, helped_so, copied_so, disposed_so, root_so, nexts_so, found_so, tried_so, told_over}
 use Rattle.owner_calls.proofs.Holds.Runs.Machines.{lookup_puts, table_puts, copier_puts, dispose_puts}
 use Rattle.owner_calls.proofs.Holds.Runs.Puts.{PutsNoneBy, puts_as, as_it_was, made_but, taken_gone, taken_none, rewritten_but, puts_none}
+use Rattle.owner_whole.proofs.Given.LateKindsKept.Calls.Asked.{word_no_tombstone as live_word}
 
 -- the word of a block names it, and is none that a place has without a pair
 module _ (b hash : ℕ) (few : hash < 2 ^ 64) (some : 0 < b) (small : b < 2 ^ 53) where
@@ -41,9 +42,6 @@ module _ (b hash : ℕ) (few : hash < 2 ^ 64) (some : 0 < b) (small : b < 2 ^ 53
 
   pub some_word : word_to b hash ≢ 0
   some_word z = let e = names_block in omega (arith, z, e, some)
-
-pub live_word : (b hash : ℕ) → word_to b hash ≢ TOMBSTONE
-live_word b hash e = absurd (omega (arith, e))
 
 -- the word of a call's own block after a step: it is as it was, or nothing stood in its block before
 abbrev pub OwnComes : {T : Type 0} → Mem T → ℕ → ℕ → Type 0

@@ -9,10 +9,10 @@ use Rattle.seize_words.proofs.OneMemory.OneOwner.AfterWrites.{value_at-with_valu
 use Rattle.seize_words.proofs.OneMemory.OneOwner.Operations.{made, taken, rewritten, roomed}
 use Rattle.map_tables.specs.declared.node.Node.{Node}
 use Rattle.map_tables.specs.declared.node.Node.TheVariants as node
-use Rattle.map_straight.proofs.Given.RuleWords.WritesWords.{is_some_of}
 use Rattle.owner_whole.proofs.Given.PointsValues.Kept.{SameValues, plain_keeps}
 use Rattle.owner_whole.proofs.Given.PointsValues.Left.{leaves_made, made_here, leaves_taken}
 use Rattle.owner_calls.specs.Holds.Came.{StandsAt, NoneCame, NoneCameBut}
+use Rattle.seize_words.proofs.General.{some_is as is_some_of}
 
 module _ {K V : Type 0} where
   -- a value that is no pair

@@ -1,5 +1,5 @@
 -- Where a memory shows one map by two ways of looking, the pairs of the map stand in the same blocks.
-use Rattle.std.specs.Prelude.{◌≡◌, ℕ, zero, suc, ◌+◌, ◌-◌, ◌*◌, ◌<◌, ◌≤◌, ◌^◌, Bool, true, false, cond, [], Option, Some, None}
+use Rattle.std.specs.Prelude.{◌≡◌, ℕ, zero, suc, ◌+◌, ◌-◌, ◌*◌, ◌<◌, ◌≤◌, ◌^◌, Bool, true, false, cond, [], None}
 use Rattle.std.proofs.Common.{sym, ◌∙◌, ap, subst, arith, ⊎_elim, eqb, ltb}
 use Rattle.std.proofs.lemmas.Bool.Decides.{nat_tests}
 use Rattle.std.proofs.lemmas.Bool.{cases_lt, eqb-true, false_from_ne_true}
@@ -12,9 +12,7 @@ use Rattle.map_straight.specs.Given.RuleMaps.{spot_of}
 use Rattle.map_straight.specs.Given.RuleRule.{Rule}
 use Rattle.map_straight.specs.Given.RuleWords.{Blocks, Shows, place_word}
 use Rattle.owner_whole.proofs.Given.CallersAsked.By.{block_of_word}
-
-same_word : (x y : ℕ) → ◌≡◌ {A = Option ℕ} (Some x) (Some y) → x ≡ y
-same_word x y e = cc e
+use Rattle.seize_words.proofs.General.{same_some as same_word}
 
 same_times : (x y : ℕ) → x * 2048 ≡ y * 2048 → x ≡ y
 same_times x y e = omega (arith, e)

@@ -17,10 +17,11 @@ use Rattle.owner_whole.proofs.Given.PointsCalls.StepsTold.{lookups_begin}
 use Rattle.owner_whole.proofs.Given.CallersAsked.By.{block_of_word}
 use Rattle.owner_whole.specs.Whole.Contents.{ContentsBelow, pair_for, without}
 use Rattle.owner_whole.proofs.Whole.Contents.Answers.{present_below}
-use Rattle.owner_whole.proofs.Whole.Contents.Below.{decided, ends_with, as_before, has_pair, same_key}
+use Rattle.owner_whole.proofs.Whole.Contents.Below.{ends_with, as_before, has_pair, same_key}
 use Rattle.map_straight.proofs.Given.RuleWorld.Hands.{current_known}
 use Rattle.owner_whole.specs.Strides.Looking.{LooksIn, Finds}
 use Rattle.owner_calls.specs.Owned.Owned.{Holds, IsWordOf, found_by, left_by}
+use Rattle.seize_words.proofs.General.{true_or_false as decided}
 
 module _ {K V : Type 0} where
   pub found_append : (keys : K → Bool) (xs ys : List (K × V)) → found_by keys xs ≡ None → found_by keys (xs ++ ys) ≡ found_by keys ys

@@ -50,6 +50,7 @@ use Rattle.owner_calls.specs.declared.machines.ForRoom.{ForRoom}
 use Rattle.owner_calls.proofs.Owned.Owned.Keys.{may_turned}
 use Rattle.owner_calls.proofs.Owned.Owned.Lasts.{last_shown}
 use Rattle.owner_whole.proofs.Strides.Runs.Comes.{NextOf, run_comes}
+use Rattle.seize_words.proofs.General.{and_nothing as no_more}
 
 -- from what the map held
 module _ {K V S : Type 0} (same : K → K → Bool) (hashes : S → K → ℕ) (b : Bor S) (setting : Setting) (m0 : Mem (Node K V)) (xs : List (K × V)) (h : Holds same (hashes b.now) setting m0 xs) (additional : ℕ) where
@@ -75,9 +76,6 @@ module _ {K V S : Type 0} (same : K → K → Bool) (hashes : S → K → ℕ) (
 
   all_of : (s : ℕ) → s ≡ 0 + (s - 0)
   all_of s = omega arith
-
-  no_more : (s : ℕ) → s + 0 ≡ s
-  no_more s = omega arith
 
   said_first : said_in h.world.memory ≡ length xs
   said_first =

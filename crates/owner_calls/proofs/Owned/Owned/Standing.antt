@@ -12,9 +12,10 @@ use Rattle.map_straight.specs.Given.RuleWords.{Blocks}
 use Rattle.map_straight.proofs.Given.RuleWorld.Hands.{current_known}
 use Rattle.owner_whole.proofs.Given.FinishesEnds.CountedBlocks.{times-append, times_here, times_other}
 use Rattle.owner_whole.specs.Whole.Contents.{ContentsBelow}
-use Rattle.owner_whole.proofs.Whole.Contents.Below.{ends_with, as_before, decided}
+use Rattle.owner_whole.proofs.Whole.Contents.Below.{ends_with, as_before}
 use Rattle.owner_calls.specs.Owned.Owned.{Holds}
 use Rattle.owner_whole.specs.Strides.Standing.{Standing}
+use Rattle.seize_words.proofs.General.{true_or_false as decided}
 
 -- one more, in a block in which none of the others stands
 standing_push : {K V : Type 0} (m : Mem (Node K V)) (blocks : List ℕ) (xs : List (K × V)) (b : ℕ) (x : K × V) → Standing m blocks xs → value_at m b ≡ Some (node.Pair x.0 x.1) → times b blocks ≡ 0

@@ -24,7 +24,6 @@ use Rattle.owner_whole.specs.Whole.Limits.{IsForTheLast, IsTheLast}
 use Rattle.owner_whole.specs.Whole.SweptPairs.{AreNumbered, NumberedBelow, pairs_of, those, is_done, left_by}
 use Rattle.owner_whole.specs.Whole.WholeSweeps.{NamesNew, IsTold}
 use Rattle.owner_whole.proofs.Given.LateKindsKept.Rooms.Sweeping.{told_as_on}
-use Rattle.owner_whole.proofs.Whole.Contents.Below.{decided}
 use Rattle.owner_whole.proofs.Whole.Contents.KeptBy.{times_here, times_other}
 use Rattle.owner_whole.proofs.Whole.Contents.Numbered.{NumberedLast, numbered_last, numbered_before, numbers_are, numbers_go}
 use Rattle.owner_whole.proofs.Whole.Contents.Swept.{shown, asks_once, sweeps_leave}
@@ -33,6 +32,7 @@ use Rattle.owner_whole.proofs.Whole.Sweeps.ToldOn.{sweeps_told_alone}
 use Rattle.owner_calls.specs.Owned.Owned.{Holds}
 use Rattle.owner_calls.specs.declared.sweeping.OverPairs.{OverPairs}
 use Rattle.owner_calls.proofs.Sifts.Over.Sweeps.{Said, Under, UnderAsking, IsDone, goes_over_one, holds_at}
+use Rattle.seize_words.proofs.General.{true_or_false as decided}
 
 pub retains_not_walks : Retains ≡ Walks → ⊥
 retains_not_walks e = cc e

@@ -30,11 +30,12 @@ use Rattle.many_maps.specs.Given.PointsFactsCalls.{Change, Seeks, CallFacts}
 use Rattle.many_maps.specs.Given.PointsTold.{IsRowOf, IsRowOfCall}
 use Rattle.owner_facts.specs.Alone.Counting.{shards_sum}
 use Rattle.owner_facts.specs.Alone.Counted.{HasAdded, counted_for, counted_end, counted_at}
-use Rattle.owner_facts.proofs.Alone.Shards.Counts.{CountsLater, RefusedAt, Says, none_at, later_says, counts_says, disposes_says, drops_says, over_says}
+use Rattle.owner_facts.proofs.Alone.Shards.Counts.{RefusedAt, Says, none_at, later_says, counts_says, disposes_says, drops_says, over_says}
 use Rattle.owner_facts.proofs.Alone.Shards.Sums.{shard_added, added_same, added_more}
 use Rattle.owner_facts.proofs.Alone.Spared.Shards.{shards_spared}
 use Rattle.many_maps.proofs.Given.RuleSpared.{PlanSpares, spares_as}
 use Rattle.owner_facts.proofs.Alone.Spared.Steps.{shards_same}
+use Rattle.many_maps.proofs.Given.CallersAsked.Stays.{HasYet as CountsLater}
 
 module _ {K V Q : Type 0} (same : K → K → Bool) (hash : K → ℕ) (asks : Q → K → Bool) (w : World (Node K V)) (caller : ℕ) (setting : Setting) (c : Chart K) (blocks : Blocks) (keys : K → Bool)
     (map : IsMapIn same hash setting w c blocks) (change : Change) (p : KeyCall K V Q) (f : CallFacts same hash asks w caller setting c blocks keys change p) (none : IsRowOfCall p.stands → ⊥)

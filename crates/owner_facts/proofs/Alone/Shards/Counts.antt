@@ -50,14 +50,7 @@ use Rattle.many_maps.proofs.Given.PointsCalls.Asked.{asking_so, asking_of_so, pa
 use Rattle.many_maps.proofs.Given.RuleKeys.Always.{Always, AlwaysOf, always_if, always_plan_as, always_steps}
 use Rattle.owner_facts.proofs.Alone.Asks.{asks_so}
 use Rattle.owner_facts.specs.Alone.Counted.{counted_for, counted_end, counted_at}
-
--- a point before the change is counted, and before an answer is known
-abbrev pub CountsLater : Calling → Type 0
-CountsLater (at.Counts removed) = ⊥
-CountsLater (at.Disposes dispose answer) = ⊥
-CountsLater (at.Drops end) = ⊥
-CountsLater (at.Over end) = ⊥
-CountsLater _ = Unit {0}
+use Rattle.many_maps.proofs.Given.CallersAsked.Stays.{HasYet as CountsLater}
 
 pub none_at : (stands : Calling) → CountsLater stands → counted_at stands ≡ 0
 none_at at.Makes so = refl

@@ -23,7 +23,7 @@ use Rattle.owner_facts.specs.Alone.Alone.{HasChanged}
 use Rattle.owner_facts.proofs.Alone.Shards.Fewer.{no_more, all_ones}
 use Rattle.owner_facts.proofs.Alone.Shards.Sums.{total_one_else}
 
-put_here : (f : ℕ → Bool) (k : ℕ) (v : Bool) → put f k v k ≡ v
+pub put_here : (f : ℕ → Bool) (k : ℕ) (v : Bool) → put f k v k ≡ v
 put_here f k v = ap (λ (b : Bool). cond b v (f k)) (eq-eqb k k refl)
 
 put_other : (f : ℕ → Bool) (k : ℕ) (v : Bool) (j : ℕ) → j ≢ k → put f k v j ≡ f j

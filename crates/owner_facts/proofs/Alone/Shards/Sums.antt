@@ -1,6 +1,6 @@
 -- What the shards of a counter say, added up: where their words are the same, and where one of them changes.
-use Rattle.std.specs.Prelude.{◌==◌, ◌&&◌, bit_and}
-use Rattle.std.proofs.Common.{◌≡◌, ◌≢◌, ℕ, zero, suc, ◌+◌, ◌%◌, ◌^◌, ◌<◌, ◌≤◌, Bool, true, false, cond, inl, inr, refl, ap, sym, subst, ◌∙◌, arith, Option, Some}
+use Rattle.std.specs.Prelude.{◌==◌, bit_and}
+use Rattle.std.proofs.Common.{◌≡◌, ◌≢◌, ℕ, zero, suc, ◌+◌, ◌%◌, ◌^◌, ◌<◌, ◌≤◌, Bool, cond, inl, inr, refl, ap, sym, subst, ◌∙◌, arith, Option, Some}
 use Rattle.std.proofs.lemmas.Bool.{cases_lt, cases_eq, eq-eqb, ne_eqb}
 use Rattle.std.proofs.lemmas.Nat.{and_le_r}
 use Rattle.many_maps.specs.Given.SeizeWordsDeclared.at.At.{At}
@@ -10,9 +10,9 @@ use Rattle.many_maps.proofs.Given.SeizeWordsOneOwner.AfterWrites.{word_at-with_w
 use Rattle.many_maps.specs.Given.TablesDeclared.setting.Setting.{Setting}
 use Rattle.many_maps.specs.Given.RuleRule.{total}
 use Rattle.many_maps.proofs.Given.RuleMoves.Totals.{total_same}
-use Rattle.many_maps.proofs.Given.RuleWords.WritesWords.{is_some_of}
 use Rattle.owner_facts.specs.Alone.Counting.{number_in, shards_sum}
 use Rattle.owner_facts.specs.Alone.Counted.{HasAdded}
+use Rattle.many_maps.proofs.Given.General.{and_true, and_false, some_is as is_some_of}
 
 -- a sum in which one item is another one
 one_step : {X : Type 0} (g : X → ℕ) (d e : ℕ → X) (k n : ℕ) → k < suc n → ((j : ℕ) → j < suc n → j ≢ k → g (e j) ≡ g (d j))
@@ -47,14 +47,6 @@ added_none setting m = ap (λ (x : ℕ). x % 2 ^ 64) (plus_none (shards_sum m se
   where
     plus_none : (s : ℕ) → s ≡ s + 0
     plus_none s = omega arith
-
-and_false : (a b : Bool) → b ≡ false → (a && b) ≡ false
-and_false true b e = e
-and_false false b e = refl
-
-and_true : (a b : Bool) → a ≡ true → b ≡ true → (a && b) ≡ true
-and_true true b e k = k
-and_true false b e k = absurd (cc e)
 
 module _ {T : Type 0} (m m2 : Mem T) where
   -- the words are the same

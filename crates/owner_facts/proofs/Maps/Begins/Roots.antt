@@ -21,8 +21,8 @@ use Rattle.many_maps.specs.Given.ResizeDeclared.new_map.NewMap.{NewMap}
 use Rattle.many_maps.specs.Given.ResizeDeclared.new_map.Opening.{Opening}
 use Rattle.many_maps.specs.Given.ResizeDeclared.new_map.Opening.TheVariants as at
 use Rattle.many_maps.proofs.Given.RuleWorld.WentStill.{spares_same, spares_written}
-use Rattle.many_maps.proofs.Given.RuleWords.WritesWords.{is_some_of}
 use Rattle.owner_facts.specs.Maps.FactsBegins.{OpeningFacts, BeginFacts, LeavesRoots, BeginTold, BeginWent}
+use Rattle.many_maps.proofs.Given.General.{some_is as is_some_of}
 
 module _ {K V : Type 0} (same : K → K → Bool) (hash : K → ℕ) (caller : ℕ) (setting : Setting) (w : World (Node K V)) where
   -- a step that changed nothing

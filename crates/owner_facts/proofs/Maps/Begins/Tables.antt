@@ -41,7 +41,6 @@ use Rattle.many_maps.proofs.Given.RuleWorld.Hands.{at_cases}
 use Rattle.many_maps.proofs.Given.PointsMaking.OwnTables.{zero_at}
 use Rattle.many_maps.proofs.Given.PointsMaking.NewTable.{links_current, only_links, may_new_table, went_new_table_lowers}
 use Rattle.many_maps.proofs.Given.RuleWorld.WentStill.{spares_made, spares_taken}
-use Rattle.many_maps.proofs.Given.RuleWords.WritesWords.{is_some_of}
 use Rattle.owner_facts.specs.Maps.FactsBegins.{IsNew, OpeningFacts, BeginFacts, BeginTold, BeginWent}
 use Rattle.owner_facts.proofs.Alone.Lone.Beside.{rests_first, rests_linked}
 use Rattle.many_maps.proofs.Given.CallersMapBegins.{map_begins}
@@ -50,6 +49,7 @@ use Rattle.owner_facts.proofs.Maps.Begins.TableRoots.{LeavesRootsBut, leaves_roo
 use Rattle.owner_facts.proofs.Maps.Begins.Roots.{begin_still, begin_at}
 use Rattle.many_maps.proofs.Beside.Makings.FirstLengths.{LensTo, first_len, lens_told}
 use Rattle.many_maps.proofs.Given.LateRooms.Making.FirstBegins.{first_table_begins}
+use Rattle.many_maps.proofs.Given.General.{some_is as is_some_of}
 
 module _ {K V : Type 0} (same : K → K → Bool) (hash : K → ℕ) where
   module _ (caller : ℕ) (setting : Setting) (w : World (Node K V)) (n : NewMap) (f : BeginFacts same hash caller w setting n) where

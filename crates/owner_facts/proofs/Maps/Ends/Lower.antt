@@ -1,5 +1,5 @@
 -- A step of the end of a map that is not its last leads to a lower number.
-use Rattle.std.specs.Prelude.{◌-◌, ◌%◌, ◌^◌, ◌==◌, ◌&&◌, not, Option, Some, None, IsSome, nat_lt, map, if◌then◌else◌}
+use Rattle.std.specs.Prelude.{◌-◌, ◌%◌, ◌^◌, ◌==◌, ◌&&◌, not, Some, None, IsSome, nat_lt, map, if◌then◌else◌}
 use Rattle.std.proofs.Common.{◌≡◌, ℕ, suc, ◌+◌, ◌*◌, ◌/◌, ◌<◌, ◌≤◌, Bool, true, false, List, [], ◌∷◌, ◌++◌, ◌⊎◌, length, inl, inr, refl, arith, ap, sym, subst, ◌∙◌}
 use Rattle.std.proofs.Math.Nat.{mul-le-mul_right}
 use Rattle.std.proofs.lemmas.Bool.{cases_lt}
@@ -7,8 +7,7 @@ use Rattle.std.proofs.lemmas.List.{length-append}
 use Rattle.many_maps.specs.Given.SeizeWordsDeclared.at.At.{At}
 use Rattle.many_maps.specs.Given.SeizeWordsDeclared.at.At.TheVariants.{Root, Used, Entry, Word}
 use Rattle.many_maps.specs.Given.SeizeWordsOp.{Found, Taken}
-use Rattle.many_maps.specs.Given.SeizeWordsMem.{Mem, Can, Took, block_of, value_in, entry_in, value_at, word_at, with_word, with_block}
-use Rattle.many_maps.specs.Given.SeizeWordsDeclared.block.Block.{Block}
+use Rattle.many_maps.specs.Given.SeizeWordsMem.{Mem, Can, Took, block_of, value_at, word_at, with_word, with_block}
 use Rattle.many_maps.specs.Given.SeizeWordsPlan.{Now, Seeing, May, Steps, Ends}
 use Rattle.many_maps.proofs.Given.SeizeWordsOneOwner.Operations.{loaded, stored, taken}
 use Rattle.many_maps.proofs.Given.SeizeWordsPlans.{ends_if}
@@ -36,7 +35,6 @@ use Rattle.many_maps.specs.Given.RuleWords.{Blocks, next_word}
 use Rattle.many_maps.specs.Given.PointsSteps.{AreLawful}
 use Rattle.many_maps.specs.Given.PointsMeasures.{IsBelow}
 use Rattle.many_maps.proofs.Given.RuleWords.TablesSeen.{block_of_link}
-use Rattle.many_maps.proofs.Given.RuleWords.WritesWords.{is_some_of}
 use Rattle.owner_facts.specs.Maps.EndingsEnds.{HasMore}
 use Rattle.many_maps.specs.FactsEnds.{Gives, Joins, BeganIn, AtPairs, EndingFacts, EndFacts, RootAt, back_of, from_table, wait_before}
 use Rattle.many_maps.specs.Orders.{pairs_behind}
@@ -44,18 +42,15 @@ use Rattle.owner_facts.specs.Maps.MeasuresEnds.{stage, list_len, most_blocks, ta
 use Rattle.owner_facts.proofs.Maps.Ends.BlocksFew.{blocks_few, most_taken, most_written, list_few, range_few, list_len_few, list_len_is}
 use Rattle.many_maps.proofs.Ends.Known.{table_value}
 use Rattle.many_maps.proofs.Ends.Memory.{list_link}
-use Rattle.many_maps.proofs.Ends.Said.{same_some}
 use Rattle.many_maps.proofs.Ends.Pairs.{NextIs, later_fresh, next_there, next_is, next_seen}
+use Rattle.many_maps.proofs.Given.General.{same_some, some_is as is_some_of}
+use Rattle.owner_facts.proofs.Descends.Lists.{entry_value}
+use Rattle.owner_facts.proofs.Descends.Points.{fewer}
 
 -- a list from one of its blocks on
 list_on : {T : Type 0} (m : Mem T) (word b : ℕ) (before rest : List ℕ) → ListFrom m word (before ++ b ∷ rest) → ListFrom m (b * 2048) (b ∷ rest)
 list_on m word b [] rest h = (h.0, h.1, refl, h.3, h.4)
 list_on m word b (x ∷ before) rest h = list_on m h.0 b before rest h.4
-
--- a block with an entry is there
-entry_value : {T : Type 0} (o : Option (Block T)) (i : ℕ) → IsSome (entry_in o i) → IsSome (value_in o)
-entry_value None i some = some
-entry_value (Some x) i some = is_some_of (value_in (Some x)) x.value refl
 
 -- a number of a higher place counts more than all below it
 above : (x y u v n : ℕ) → x < y → u < n → x * n + u < y * n + v
@@ -126,10 +121,6 @@ Falls m e spot m2 (e2, settled.Goes) = IsBelow (ahead m2 e2 e2.stands) (ahead m 
 Falls m e spot m2 (e2, settled.Waits) = Unit {0}
 Falls m e spot m2 (e2, settled.Gave value) = blocks_in m2 < blocks_in m
 Falls m e spot m2 (e2, settled.Done) = Unit {0}
-
--- behind a place that isn't the last fewer are left
-fewer : (place len : ℕ) → nat_lt place (len - 1) ≡ true → suc (len - (place + 1)) < suc (len - place)
-fewer place len k = grind (arith, k)
 
 module _ {K V : Type 0} (same : K → K → Bool) (hash : K → ℕ) (are : AreLawful same hash) (setting : Setting) (c : Chart K) (blocks : Blocks) (lists : ℕ → List ℕ) (owns : Bool) (caller : ℕ)
     (w0 : World (Node K V)) (may : BeganIn setting c blocks lists owns same hash w0) where

@@ -8,10 +8,8 @@ use Rattle.seize_words.specs.OneMemory.Place.{capacity}
 use Rattle.seize_words.specs.OneMemory.Plan.{Then, Now, Seeing, Sure, Ends}
 use Rattle.seize_words.specs.declared.fault.Fault.TheVariants.{Memory}
 use Rattle.owner_whole.specs.Strides.Within.{of_some, all_below, is_free, of_answers, of_ends}
-
-pub both : (a b : Bool) → a ≡ true → b ≡ true → (a && b) ≡ true
-both true b p q = q
-both false b p q = p
+use Rattle.map_measures.proofs.Passes.Places.{second as second_so}
+use Rattle.seize_words.proofs.General.{and_true as both}
 
 -- where it is so for a number, it is for all larger ones
 abbrev pub Grows : (ℕ → Bool) → Type 0
@@ -30,10 +28,6 @@ both_bound a b up up2 (n, p) (k, q) = (n + k, both (a (n + k)) (b (n + k)) (up n
 pub first_so : (a b : Bool) → (a && b) ≡ true → a ≡ true
 first_so true b e = refl
 first_so false b e = e
-
-pub second_so : (a b : Bool) → (a && b) ≡ true → b ≡ true
-second_so true b e = e
-second_so false b e = absurd (false≢true e)
 
 pub below_up : (f g : ℕ → Bool) → ((i : ℕ) → f i ≡ true → g i ≡ true) → (n : ℕ) → all_below n f ≡ true → all_below n g ≡ true
 unfolding all_below

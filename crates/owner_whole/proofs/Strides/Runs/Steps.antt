@@ -11,7 +11,9 @@ use Rattle.seize.specs.declared.advance.Advance.{Advance}
 use Rattle.seize.specs.declared.advance.Advance.TheVariants as progress
 use Rattle.owner_whole.specs.Strides.Ending.{GoesOn, Ends, all_end}
 use Rattle.owner_whole.specs.Strides.Within.{of_some, all_below, is_free, of_answers, of_ends, of_steps, if_goes, within, IsLeast, HasLeast}
-use Rattle.owner_whole.proofs.Strides.Runs.Bounds.{both, Grows, HasBound, first_so, second_so, below_up, below_so, ends_bound, ends_so, answers_bound}
+use Rattle.owner_whole.proofs.Strides.Runs.Bounds.{Grows, HasBound, first_so, below_up, below_so, ends_bound, ends_so, answers_bound}
+use Rattle.map_measures.proofs.Passes.Places.{second as second_so}
+use Rattle.seize_words.proofs.General.{and_true as both}
 
 some_up : {T : Type 0} (x : Option T) (f g : T → Bool) → ((v : T) → f v ≡ true → g v ≡ true) → of_some x f ≡ true → of_some x g ≡ true
 some_up None f g up e = refl

@@ -17,7 +17,8 @@ use Rattle.owner_facts.specs.Given.PointsSteps.{AreLawful}
 use Rattle.map_measures.specs.Given.CallersSince.{SoSince}
 use Rattle.owner_whole.specs.Whole.Contents.{pair_for, ContentsBelow, AreContents, HasRun, IsOfPairs, AnswersOfPairs}
 use Rattle.owner_whole.proofs.Whole.Contents.Lists.{pair_for-append, pair_for-first}
-use Rattle.owner_whole.proofs.Whole.Contents.Below.{EndsWith, ends_with, as_before, decided, has_pair, same_key, absent_below, pairs_apart}
+use Rattle.owner_whole.proofs.Whole.Contents.Below.{EndsWith, ends_with, as_before, has_pair, same_key, absent_below, pairs_apart}
+use Rattle.seize_words.proofs.General.{true_or_false as decided}
 
 module _ {K V : Type 0} (same : K → K → Bool) (hash : K → ℕ) (lawful : AreLawful same hash) (setting : Setting) (w : World (Node K V)) (c : Chart K) (blocks : Blocks)
     (map : IsMapIn same hash setting w c blocks) where

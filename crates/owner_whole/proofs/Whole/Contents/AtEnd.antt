@@ -1,7 +1,6 @@
 -- What a whole call on one key answers, by the list of the map's pairs at its beginning and at its end.
-use Rattle.std.specs.Prelude.{◌≡◌, ℕ, Bool, true, false, cond, List, [], ◌∷◌, ◌++◌}
+use Rattle.std.specs.Prelude.{◌≡◌, ℕ, Bool, true, false, List, [], ◌∷◌, ◌++◌}
 use Rattle.std.proofs.Common.{refl, ap, subst, ◌∙◌, inl, inr}
-use Rattle.std.proofs.lemmas.Bool.{eq-eqb}
 use Rattle.seize_words.specs.OneMemory.Mem.{value_at}
 use Rattle.seize.specs.World.{World}
 use Rattle.map_tables.specs.declared.node.Node.{Node}
@@ -20,9 +19,7 @@ use Rattle.owner_whole.specs.Whole.Contents.{without, AreContents, HasRun, IsOfP
 use Rattle.owner_whole.specs.Whole.AtEnd.{AnswersSo, AnswersTellThePairs}
 use Rattle.owner_whole.proofs.Whole.Contents.Answers.{answers_of_pairs}
 use Rattle.owner_whole.proofs.Whole.Contents.Follow.{contents_follow}
-
-put_there : (f : ℕ → Bool) (n : ℕ) (v : Bool) → put f n v n ≡ v
-put_there f n v = ap (λ (b : Bool). cond b v (f n)) (eq-eqb n n refl)
+use Rattle.owner_facts.proofs.Alone.Shards.PairsChanged.{put_here as put_there}
 
 module _ {K V Q : Type 0} (same : K → K → Bool) (hash : K → ℕ) (asks : Q → K → Bool) (setting : Setting) (slot : ℕ → ℕ) (lawful : AreLawful same hash)
     (w0 : World (Node K V)) (c0 : Chart K) (blocks0 : Blocks) (map0 : IsMapIn same hash setting w0 c0 blocks0)

@@ -1,5 +1,5 @@
 -- The pairs of a map as a list: there is such a list, it has one pair of each class, and how it follows the pairs of the map.
-use Rattle.std.specs.Prelude.{◌≡◌, ◌≢◌, ℕ, zero, suc, ◌<◌, ◌⊎◌, Bool, true, false, cond, List, [], ◌∷◌, ◌++◌, Some, None, if◌then◌else◌}
+use Rattle.std.specs.Prelude.{◌≡◌, ◌≢◌, ℕ, zero, suc, ◌<◌, Bool, true, false, cond, List, [], ◌∷◌, ◌++◌, Some, None, if◌then◌else◌}
 use Rattle.std.proofs.Common.{refl, ap, sym, subst, ◌∙◌, inl, inr, arith}
 use Rattle.std.proofs.lemmas.Bool.{cases_eq}
 use Rattle.std.proofs.lemmas.List.{append-nil}
@@ -19,6 +19,7 @@ use Rattle.owner_facts.specs.Given.PointsSteps.{AreLawful}
 use Rattle.map_measures.proofs.Given.CallersAsked.OneCurrent.{one_current}
 use Rattle.owner_whole.specs.Whole.Contents.{pair_for, without, HasOneEach, ContentsBelow, ContentsAre}
 use Rattle.owner_whole.proofs.Whole.Contents.Lists.{pair_for-append, without-append, one_each_append}
+use Rattle.seize_words.proofs.General.{true_or_false as decided}
 
 -- what is below a number, by whether the map has the pair with the next one
 module _ {K V : Type 0} (m : Mem (Node K V)) (c : Chart K) (blocks : Blocks) (n : ℕ) where
@@ -52,10 +53,6 @@ module _ {K V : Type 0} (m : Mem (Node K V)) (c : Chart K) (blocks : Blocks) (n 
   none_last xs e h =
       subst (λ (b : Bool). cond b ((ys : List (K × V)) × (k : K) × (v : V) × ContentsBelow m c blocks n ys × (value_at m (blocks.pair n) ≡ Some (node.Pair k v)) × (xs ≡ ys ++ ((k, v) ∷ [])))
       (ContentsBelow m c blocks n xs)) (sym e) h
-
-pub decided : (b : Bool) → (b ≡ true) ⊎ (b ≡ false)
-decided true = inl refl
-decided false = inr refl
 
 module _ {K V : Type 0} (same : K → K → Bool) (hash : K → ℕ) (lawful : AreLawful same hash) (setting : Setting) (w : World (Node K V)) (c : Chart K) (blocks : Blocks)
     (map : IsMapIn same hash setting w c blocks) where

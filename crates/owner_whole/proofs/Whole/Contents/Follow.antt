@@ -1,7 +1,7 @@
 -- How the list of a map's pairs follows a change of the map.
 use Rattle.std.specs.Prelude.{◌≡◌, ◌≢◌, ℕ, suc, ◌+◌, ◌<◌, Bool, true, false, cond, List, [], ◌∷◌, ◌++◌, Some}
-use Rattle.std.proofs.Common.{refl, ap, sym, subst, ◌∙◌, arith}
-use Rattle.std.proofs.lemmas.Bool.{eq-eqb, ne_eqb}
+use Rattle.std.proofs.Common.{ap, sym, subst, ◌∙◌, arith}
+use Rattle.std.proofs.lemmas.Bool.{ne_eqb}
 use Rattle.seize_words.specs.OneMemory.Mem.{value_at}
 use Rattle.seize.specs.World.{World}
 use Rattle.map_tables.specs.Chunks.{is_incremental}
@@ -19,13 +19,12 @@ use Rattle.owner_facts.specs.Alone.Alone.{HasChanged}
 use Rattle.owner_whole.specs.Whole.Contents.{without, ContentsBelow, AreContents, HasPairFor, ContentsThen, ContentsFollow}
 use Rattle.owner_whole.proofs.Whole.Contents.Answers.{present_below}
 use Rattle.owner_whole.proofs.Whole.Contents.Below.{and_last, has_pair, same_key, absent_below, pairs_apart, below_stays, below_without}
+use Rattle.owner_facts.proofs.Alone.Shards.PairsChanged.{put_here}
 
 module _ {K V : Type 0} (same : K → K → Bool) (hash : K → ℕ) (lawful : AreLawful same hash) (setting : Setting) (w w2 : World (Node K V)) (c c2 : Chart K) (blocks blocks2 : Blocks)
     (map : IsMapIn same hash setting w c blocks) (map2 : IsMapIn same hash setting w2 c2 blocks2) (keys : K → Bool) (k : K) (keys_are : (j : K) → keys j ≡ same k j)
     (keeps : (o : ℕ) → o < c.stored → c2.current o ≡ true → value_at w2.memory (blocks2.pair o) ≡ value_at w.memory (blocks.pair o))
     (xs : List (K × V)) (are : AreContents w.memory c blocks xs) where
-  put_here : (f : ℕ → Bool) (n : ℕ) (v : Bool) → put_at f n v n ≡ v
-  put_here f n v = ap (λ (b : Bool). cond b v (f n)) (eq-eqb n n refl)
 
   put_there : (f : ℕ → Bool) (n o : ℕ) (v : Bool) → o ≢ n → put_at f n v o ≡ f o
   put_there f n o v ne = ap (λ (b : Bool). cond b v (f o)) (ne_eqb o n ne)

@@ -14,9 +14,9 @@ use Rattle.map_measures.specs.Given.LateCovers.{times}
 use Rattle.owner_whole.specs.Whole.Contents.{AreContents}
 use Rattle.owner_whole.specs.Whole.KeptBy.{KeptBegins, KeptTold, KeptAtEnd}
 use Rattle.owner_whole.specs.Whole.SweptPairs.{NumberedBelow, AreNumbered, pairs_of, those, is_done, left_by}
-use Rattle.owner_whole.proofs.Whole.Contents.Below.{decided}
 use Rattle.owner_whole.proofs.Whole.Contents.Numbered.{numbered_last, numbered_before, pairs_append, numbers_are, numbers_go}
 use Rattle.owner_whole.proofs.Whole.Contents.Swept.{sweeps_leave}
+use Rattle.seize_words.proofs.General.{true_or_false as decided}
 
 -- how often a pair is behind another one
 pub times_here : (n : ℕ) (xs : List ℕ) → times n (n ∷ xs) ≡ suc (times n xs)

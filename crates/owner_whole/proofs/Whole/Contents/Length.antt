@@ -11,7 +11,8 @@ use Rattle.owner_facts.specs.Alone.Counting.{one_if, pairs_in, shards_sum}
 use Rattle.owner_facts.proofs.Alone.Shards.PairsChanged.{few_pairs_there}
 use Rattle.owner_whole.specs.Whole.Contents.{ContentsBelow}
 use Rattle.owner_whole.specs.Whole.WholeRooms.{CountingsComeTo}
-use Rattle.owner_whole.proofs.Whole.Contents.Below.{ends_with, as_before, decided}
+use Rattle.owner_whole.proofs.Whole.Contents.Below.{ends_with, as_before}
+use Rattle.seize_words.proofs.General.{true_or_false as decided}
 
 length_last : {X : Type 0} (xs : List X) (x : X) → length (xs ++ (x ∷ [])) ≡ suc (length xs)
 length_last [] x = refl

@@ -11,7 +11,8 @@ use Rattle.map_measures.specs.Given.RuleChart.{Chart}
 use Rattle.map_measures.specs.Given.RuleWords.{Blocks}
 use Rattle.owner_whole.specs.Whole.Contents.{ContentsBelow}
 use Rattle.owner_whole.specs.Whole.SweptPairs.{NumberedBelow, pairs_of, those, NumbersAre, NumbersGo, PairsAreInIt}
-use Rattle.owner_whole.proofs.Whole.Contents.Below.{decided, ends_with, and_last, as_before, none_last}
+use Rattle.owner_whole.proofs.Whole.Contents.Below.{ends_with, and_last, as_before, none_last}
+use Rattle.seize_words.proofs.General.{true_or_false as decided}
 
 -- what is below a number, by whether the map has the pair with the next one
 module _ {K V : Type 0} (m : Mem (Node K V)) (c : Chart K) (blocks : Blocks) (n : ℕ) where

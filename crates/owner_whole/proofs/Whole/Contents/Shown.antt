@@ -12,10 +12,10 @@ use Rattle.map_measures.proofs.Given.RuleWorld.Hands.{current_known}
 use Rattle.map_measures.specs.Given.LateCovers.{times}
 use Rattle.owner_whole.specs.Whole.KeptBy.{AreShownAs, WalksShowAll}
 use Rattle.owner_whole.specs.Whole.SweptPairs.{NumberedBelow, pairs_of}
-use Rattle.owner_whole.proofs.Whole.Contents.Below.{decided}
 use Rattle.owner_whole.proofs.Whole.Contents.KeptBy.{times_here, times_other}
 use Rattle.owner_whole.proofs.Whole.Contents.Numbered.{NumberedLast, numbered_last, numbered_before, pairs_append, numbers_are}
 use Rattle.owner_whole.proofs.Whole.Contents.Swept.{sweeps_leave}
+use Rattle.seize_words.proofs.General.{true_or_false as decided}
 
 module _ {K V : Type 0} (m : Mem (Node K V)) (blocks : Blocks) where
   -- a number is taken out of the list, and its pair

@@ -15,8 +15,8 @@ use Rattle.map_measures.specs.Given.LateCovers.{times, IsKept, Came}
 use Rattle.owner_facts.specs.Given.CallersOverAll.{CallOverAll}
 use Rattle.owner_whole.specs.Whole.LoneSweeps.{IsBefore, goes_once}
 use Rattle.owner_whole.specs.Whole.SweptPairs.{about_to_go, gone_since, HasSwept, NumberedBelow, AreNumbered, those, is_done, left_by, SweptBegins, ContentsBetween, ShownIsInIt, AsksOnce, RefusedKeepsAll, SweepsLeave}
-use Rattle.owner_whole.proofs.Whole.Contents.Below.{decided}
 use Rattle.owner_whole.proofs.Whole.Contents.Numbered.{pairs_are_in_it, all_those, none_those, numbered_those}
+use Rattle.seize_words.proofs.General.{true_or_false as decided}
 
 pub swept_begins : {K V : Type 0} → SweptBegins K V
 swept_begins incremental m c blocks moments its purpose = record {

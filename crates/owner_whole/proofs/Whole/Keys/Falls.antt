@@ -27,7 +27,7 @@ use Rattle.owner_facts.specs.Given.PointsSteps.{AreLawful}
 use Rattle.owner_facts.specs.Given.PointsTold.{IsRowOfCall}
 use Rattle.owner_facts.specs.Alone.Endings.{runs_end}
 use Rattle.map_measures.specs.Falls.Calls.{number_of_call}
-use Rattle.map_measures.proofs.Falls.Laws.{calls_fall, numbers_are_as_many}
+use Rattle.map_measures.proofs.Falls.Laws.{calls_fall}
 use Rattle.map_measures.specs.Given.CallersRows.{row_of}
 use Rattle.owner_facts.specs.Given.CallersSights.{Sight, seen_by}
 use Rattle.owner_facts.specs.Given.CallersTogether.{CallOnKey, OnKey}
@@ -35,6 +35,8 @@ use Rattle.owner_whole.specs.Whole.Owner.{IsAlone}
 use Rattle.owner_whole.specs.Whole.Whole.{then_so, GoesOn, ComesToAnEnd}
 use Rattle.owner_whole.proofs.Whole.Joined.{same_joined, links_joined}
 use Rattle.owner_whole.proofs.Whole.Keys.Own as own
+use Rattle.map_measures.proofs.Falls.Below.{below_followed as lower_more}
+use Rattle.map_measures.proofs.Falls.Calls.Lengths.{numbers_are_as_many}
 
 -- how much a row has left to do
 abbrev pub row_left : {K V : Type 0} → Row → Mem (Node K V) → ℕ
@@ -49,13 +51,6 @@ number_all hash slot c blocks p m = number_of_call hash c blocks p ++ (row_left 
 pub all_as_many : {K V Q : Type 0} (hash : K → ℕ) (slot : ℕ) (c : Chart K) (blocks : Blocks) (p : KeyCall K V Q) (m : Mem (Node K V)) → length (number_all hash slot c blocks p m) ≡ 15
 all_as_many hash slot c blocks p m =
     length-append (number_of_call hash c blocks p) (row_left (row_of slot p.stands) m ∷ []) ∙ ap (λ (x : ℕ). x + 1) (numbers_are_as_many hash c blocks p)
-
--- numbers that are lower are so with further ones
-pub lower_more : (xs ys more others : List ℕ) → IsBelow xs ys → IsBelow (xs ++ more) (ys ++ others)
-lower_more [] ys more others h = absurd h
-lower_more (x ∷ xs) [] more others h = absurd h
-lower_more (x ∷ xs) (y ∷ ys) more others (inl l) = inl l
-lower_more (x ∷ xs) (y ∷ ys) more others (inr h) = inr (h.0, lower_more xs ys more others h.1)
 
 pub lower_last : (xs : List ℕ) (a b : ℕ) → a < b → IsBelow (xs ++ (a ∷ [])) (xs ++ (b ∷ []))
 lower_last [] a b l = inl l

@@ -40,6 +40,7 @@ use Rattle.owner_facts.proofs.Given.CallersTogether.RowsOfCopiers.{at_retirement
 use Rattle.map_measures.specs.Falls.Reserves.{number_of_reserve}
 use Rattle.owner_whole.proofs.Whole.Fresh.Rooms.{whole_blocking}
 use Rattle.owner_whole.proofs.Whole.Rows.Standing.{copier_row, target_here, target_over, late_now, late_over}
+use Rattle.owner_facts.proofs.Given.CallersTogether.RoomRows.{at_copying as at_room_row}
 
 -- what a reservation tells by a step of a retirement within it
 abbrev pub room_told_by : {T : Type 0} → Settled T → Yielding T Unit
@@ -52,17 +53,6 @@ room_told_by settled.Done = outcome.Goes
 abbrev pub RoomTargetIs : ℕ → Reserving → Type 0
 RoomTargetIs first (at.Copies copier) = copier.target.turn ≡ first
 RoomTargetIs first _ = Unit {0}
-
--- the row of a copying
-pub at_room_row : (P : Reserving → Type 0) → ((p : Copier) → IsRowOfCopier p.stands → P (at.Copies p)) → (x : Reserving) → IsRowOfReserve x → P x
-at_room_row P by (at.Copies p) row = by p row
-at_room_row P by at.Reads row = absurd row
-at_room_row P by (at.Makes making) row = absurd row
-at_room_row P by (at.Sums table sum) row = absurd row
-at_room_row P by (at.Follows table need) row = absurd row
-at_room_row P by (at.Grows table making) row = absurd row
-at_room_row P by at.Over row = absurd row
-at_room_row P by (at.Refused fault) row = absurd row
 
 pub no_room_row_rests : (x : Reserving) → IsRowOfReserve x → Rests ≡ row_of_room x → ⊥
 no_room_row_rests = at_room_row (λ x. Rests ≡ row_of_room x → ⊥) (λ p row. copier_row p.stands row)

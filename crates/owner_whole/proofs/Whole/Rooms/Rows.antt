@@ -29,7 +29,6 @@ use Rattle.owner_facts.specs.Maps.AloneReserves.{LooksAtRoot, SumsUp, KeepsToRoo
 use Rattle.owner_facts.specs.Maps.EndingsReserves.{HasMore}
 use Rattle.owner_facts.specs.Maps.FactsAloneReserves.{IsLoneReserve, ReservesAlone}
 use Rattle.map_measures.specs.Falls.Reserves.{number_of_reserve}
-use Rattle.map_measures.proofs.Falls.Laws.{reserve_rows_fall}
 use Rattle.owner_facts.specs.Given.CallersRooms.{CallForRoom, row_of_room, room_once_over}
 use Rattle.owner_facts.specs.Given.CallersSights.{Sight, seen_by}
 use Rattle.owner_facts.specs.Given.CallersTogether.{UnderWay, ForRoom, next_for_room, in_slot, IsReclaimed, Stands, Together, RoomRowsTogether}
@@ -44,10 +43,12 @@ use Rattle.owner_whole.specs.Whole.Contents.{KeepsPairs}
 use Rattle.owner_whole.proofs.Whole.Contents.Runs.{row_keeps, run_on}
 use Rattle.owner_whole.specs.Whole.Owner.{IsFirst, IsOfRoot, IsAlone}
 use Rattle.owner_whole.specs.Whole.WholeRooms.{room_so, RoomLeads, RoomStepLeads}
-use Rattle.owner_whole.proofs.Whole.Keys.Falls.{row_left, lower_more, lower_last}
+use Rattle.owner_whole.proofs.Whole.Keys.Falls.{row_left, lower_last}
 use Rattle.owner_whole.proofs.Whole.Limits.Rooms.{row_reserve_ends}
 use Rattle.owner_whole.proofs.Whole.Rooms.Account.{room_told_by, RoomTargetIs, no_room_row_rests, still_looks, over_looks, row_sums, over_sums, StillRoom, RoomAccount, RoomSettling, RoomOver, room_account, room_target_at, room_target_past, room_never_late_at, room_never_late_past}
 use Rattle.owner_whole.proofs.Whole.Rows.Settles.{never_waits, settling_lowers}
+use Rattle.map_measures.proofs.Falls.Below.{below_followed as lower_more}
+use Rattle.map_measures.proofs.Falls.Reserves.Rows.{reserve_rows_fall}
 
 -- the numbers of a reservation, and then what its row has left
 abbrev pub room_numbers : {K V : Type 0} → Chart K → Blocks → Reserve → Mem (Node K V) → List ℕ

@@ -11,8 +11,6 @@ use Rattle.map_measures.specs.Given.ResizeDeclared.yielding.Yielding.{Yielding}
 use Rattle.map_measures.specs.Given.ResizeDeclared.yielding.Yielding.TheVariants as outcome
 use Rattle.papaya_raw.specs.Given.ReservesReserve.{reserving, reserve_plan}
 use Rattle.papaya_raw.specs.Given.ReservesDeclared.reserve.Reserve.{Reserve}
-use Rattle.papaya_raw.specs.Given.ReservesDeclared.reserve.Reserving.{Reserving}
-use Rattle.papaya_raw.specs.Given.ReservesDeclared.reserve.Reserving.TheVariants as at
 use Rattle.map_measures.specs.Given.RuleChart.{Chart}
 use Rattle.map_measures.specs.Given.RuleWords.{Blocks}
 use Rattle.map_measures.specs.Given.PointsMeasures.{IsBelow, EndsFrom, ends}
@@ -24,7 +22,6 @@ use Rattle.owner_facts.specs.Given.LateLateReserves.{LateReserveFacts}
 use Rattle.owner_facts.specs.Given.LateToldReserves.{IsRowOfReserve}
 use Rattle.owner_facts.specs.Maps.EndingsReserves.{HasMore, ComesToAnEnd}
 use Rattle.map_measures.specs.Falls.Reserves.{number_of_reserve}
-use Rattle.map_measures.proofs.Falls.Laws.{reserve_numbers_are_as_many}
 use Rattle.owner_facts.specs.Given.CallersRooms.{CallForRoom, row_of_room}
 use Rattle.owner_facts.specs.Given.CallersSights.{Sight, seen_by}
 use Rattle.owner_facts.specs.Given.CallersTogether.{UnderWay, ForRoom, in_slot, Stands, Together}
@@ -33,21 +30,13 @@ use Rattle.owner_facts.proofs.Given.CallersTogether.Rooms.{rooms_begin_together}
 use Rattle.owner_whole.specs.Whole.Owner.{IsFirst, IsOfRoot, AtRest, IsAlone}
 use Rattle.owner_whole.specs.Whole.WholeRooms.{room_so, RoomLeads, RoomStepLeads, RoomsBeginAlone, RoomsGoOnAlone, RoomsComeToAnEnd}
 use Rattle.owner_whole.proofs.Whole.Keys.Begins.{one_few}
-use Rattle.owner_whole.proofs.Whole.Keys.Falls.{row_left, lower_more}
+use Rattle.owner_whole.proofs.Whole.Keys.Falls.{row_left}
 use Rattle.owner_whole.proofs.Whole.Rooms.Own as own
 use Rattle.owner_whole.proofs.Whole.Rooms.Rows.{room_numbers}
 use Rattle.owner_whole.proofs.Whole.Rooms.Rows as rows
-use Rattle.owner_whole.proofs.Whole.Rows.Kinds.{copier_decided}
-
-room_decided : (x : Reserving) → IsRowOfReserve x ⊎ (IsRowOfReserve x → ⊥)
-room_decided (at.Copies copier) = copier_decided copier.stands
-room_decided at.Reads = inr (λ h. h)
-room_decided (at.Makes making) = inr (λ h. h)
-room_decided (at.Sums table sum) = inr (λ h. h)
-room_decided (at.Follows table need) = inr (λ h. h)
-room_decided (at.Grows table making) = inr (λ h. h)
-room_decided at.Over = inr (λ h. h)
-room_decided (at.Refused fault) = inr (λ h. h)
+use Rattle.map_measures.proofs.Falls.Below.{below_followed as lower_more}
+use Rattle.map_measures.proofs.Falls.Reserves.Lengths.{reserve_numbers_are_as_many}
+use Rattle.owner_whole.proofs.Lowers.Waits.{room_decided}
 
 module _ {K V Q : Type 0} (same : K → K → Bool) (hash : K → ℕ) (asks : Q → K → Bool) (setting : Setting) (slot : ℕ → ℕ) where
   module _ (w : World (Node K V)) (c : Chart K) (blocks : Blocks) (sights : ℕ → Sight) (a : AtRest {Q = Q} same hash asks setting slot w c blocks sights) (additional : ℕ) where

@@ -22,11 +22,12 @@ use Rattle.owner_facts.specs.Given.CallersSights.{Sight, seen_by}
 use Rattle.owner_facts.specs.Given.CallersTogether.{CallOnKey, OnKey}
 use Rattle.owner_whole.specs.Whole.Owner.{IsAlone}
 use Rattle.owner_whole.specs.Whole.Whole.{GoesOn}
-use Rattle.owner_whole.proofs.Whole.Keys.Falls.{row_left, number_all, lower_more, lower_last}
+use Rattle.owner_whole.proofs.Whole.Keys.Falls.{row_left, number_all, lower_last}
 use Rattle.owner_whole.proofs.Whole.Rows.Account.{Account, Settling, Deferring, Over, Ends, account}
 use Rattle.owner_whole.proofs.Whole.Rows.Settles.{settling_lowers, deferring_lowers}
 use Rattle.owner_whole.proofs.Whole.Rows.Steps as rows
 use Rattle.owner_whole.proofs.Whole.Rows.Within.{IsWithinRow}
+use Rattle.map_measures.proofs.Falls.Below.{below_followed as lower_more}
 
 module _ {K V Q : Type 0} (same : K → K → Bool) (hash : K → ℕ) (asks : Q → K → Bool) (setting : Setting) (slot : ℕ → ℕ) (lawful : AreLawful same hash)
     (w : World (Node K V)) (c : Chart K) (blocks : Blocks) (sights : ℕ → Sight) (u : CallOnKey K V Q) (a : IsAlone same hash asks setting slot w c blocks sights (OnKey u))

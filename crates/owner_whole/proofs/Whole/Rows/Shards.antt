@@ -2,7 +2,7 @@
 use Rattle.std.specs.Prelude.{ℕ, suc, Bool}
 use Rattle.std.proofs.Common.{inl}
 use Rattle.seize_words.specs.OneMemory.Mem.{Mem}
-use Rattle.seize.specs.World.{World, Hand, NoBlock, Making, InUse, Cutting, Handed, LeftTo, Steps', Parting}
+use Rattle.seize.specs.World.{World, Steps'}
 use Rattle.map_measures.proofs.Given.SeizeAloneHistories.NotTaken.{kept_word}
 use Rattle.map_tables.specs.Nodes.{deferred_word}
 use Rattle.map_tables.specs.declared.node.Node.{Node}
@@ -13,19 +13,11 @@ use Rattle.map_measures.specs.Given.RuleWords.{Blocks}
 use Rattle.map_measures.specs.Given.RuleInWorld.{IsMapIn}
 use Rattle.owner_facts.specs.Alone.Counted.{HasAdded}
 use Rattle.owner_facts.proofs.Alone.Shards.Sums.{shards_words, added_same}
-use Rattle.owner_facts.specs.Given.CallersKept.{IsUsersOwn, IsMaking}
+use Rattle.owner_facts.specs.Given.CallersKept.{IsMaking}
 use Rattle.owner_facts.specs.Given.CallersTogether.{CameAbout}
 use Rattle.map_measures.proofs.Given.CallersRows.Keep.{kept_block}
 use Rattle.owner_facts.proofs.Given.CallersTogether.Came.{came_reached}
-
-makers_own : (h : Hand) → IsMaking h → IsUsersOwn h
-makers_own (Making i) making = tt
-makers_own NoBlock making = absurd making
-makers_own (InUse o) making = absurd making
-makers_own (Parting i) making = absurd making
-makers_own (Cutting i) making = absurd making
-makers_own Handed making = absurd making
-makers_own (LeftTo i) making = absurd making
+use Rattle.owner_facts.proofs.Given.CallersRows.Beside.{making_own as makers_own}
 
 pub row_shards : {K V : Type 0} (same : K → K → Bool) (hash : K → ℕ) (setting : Setting) (w : World (Node K V)) (c : Chart K) (blocks : Blocks) → IsMapIn same hash setting w c blocks
     → CameAbout setting.batch_size w → IsMaking (w.hand setting.counter) → (i : ℕ) (w2 : World (Node K V)) → Steps' deferred_word i (w.row i) w w2

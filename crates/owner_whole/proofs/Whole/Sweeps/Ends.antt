@@ -23,18 +23,20 @@ use Rattle.owner_facts.specs.Alone.Endings.{runs_end}
 use Rattle.owner_facts.specs.Given.LateToldSweeps.{IsRowOfSweep}
 use Rattle.map_measures.specs.Passes.FallsSweeps.{ComesOn}
 use Rattle.map_measures.specs.Passes.Sweeps.{number_of_sweep}
-use Rattle.map_measures.proofs.Passes.Laws.{telling_falls, sweep_numbers_are_as_many}
+use Rattle.map_measures.proofs.Passes.Laws.{telling_falls}
 use Rattle.owner_facts.specs.Given.CallersOverAll.{CallOverAll, gone_on, come_to, told_of, row_of_sweep}
 use Rattle.owner_facts.specs.Given.CallersSights.{Sight, seen_by}
 use Rattle.owner_facts.specs.Given.CallersTogether.{OverAll}
 use Rattle.owner_whole.specs.Whole.Owner.{IsAlone}
 use Rattle.owner_whole.specs.Whole.WholeSweeps.{SweepsOn, ComesToAnEnd, SweepLeads, SweepsComeToAnEnd}
-use Rattle.owner_whole.proofs.Whole.Keys.Falls.{row_left, lower_more}
+use Rattle.owner_whole.proofs.Whole.Keys.Falls.{row_left}
 use Rattle.owner_whole.proofs.Whole.Sweeps.Falls.{sweep_numbers, row_lower}
 use Rattle.owner_whole.proofs.Whole.Sweeps.Leads.{sweep_decided}
 use Rattle.owner_whole.proofs.Whole.Sweeps.Own as own
 use Rattle.owner_whole.proofs.Whole.Sweeps.Rows as rows
 use Rattle.owner_whole.proofs.Whole.Sweeps.ToldOn.{told_on}
+use Rattle.map_measures.proofs.Falls.Below.{below_followed as lower_more}
+use Rattle.map_measures.proofs.Passes.Promised.{sweep_numbers_are_as_many}
 
 module _ {K V Q : Type 0} (same : K → K → Bool) (hash : K → ℕ) (asks : Q → K → Bool) (setting : Setting) (slot : ℕ → ℕ) (lawful : AreLawful same hash) (initial : IsPowerOfTwo setting.initial) where
   abbrev Alone : World (Node K V) → Chart K → Blocks → (ℕ → Sight) → CallOverAll → Type 0

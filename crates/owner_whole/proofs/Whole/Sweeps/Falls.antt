@@ -28,12 +28,13 @@ use Rattle.owner_facts.specs.Given.CallersSights.{Sight, seen_by}
 use Rattle.owner_facts.specs.Given.CallersTogether.{OverAll}
 use Rattle.owner_whole.specs.Whole.Owner.{IsAlone}
 use Rattle.map_measures.specs.Passes.FallsSweeps.{ComesOn}
-use Rattle.owner_whole.proofs.Whole.Keys.Falls.{row_left, lower_more, lower_last}
+use Rattle.owner_whole.proofs.Whole.Keys.Falls.{row_left, lower_last}
 use Rattle.owner_whole.proofs.Whole.Rows.Settles.{settling_lowers, deferring_lowers}
 use Rattle.owner_whole.proofs.Whole.Sweeps.Account.{SweepAccount, SweepSettling, SweepDeferring, TableOver, PairOver}
 use Rattle.owner_whole.proofs.Whole.Sweeps.Over.{further_by}
 use Rattle.owner_whole.proofs.Whole.Sweeps.Rows.{IsWithinRow}
 use Rattle.owner_whole.proofs.Whole.Sweeps.Rows as rows
+use Rattle.map_measures.proofs.Falls.Below.{below_followed as lower_more}
 
 -- the numbers of a sweep, and then what its row has left
 abbrev pub sweep_numbers : {K V : Type 0} → (K → ℕ) → ℕ → Chart K → Blocks → Sweep → Mem (Node K V) → List ℕ

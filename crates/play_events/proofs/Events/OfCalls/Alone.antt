@@ -1,5 +1,5 @@
 -- Where calls came one after another, only the call that an event is of can be in the midst of a row; and its slot is active.
-use Rattle.std.specs.Prelude.{◌≡◌, ◌≢◌, ◌<◌, ◌≤◌, ◌^◌, ◌==◌, ◌&&◌, ◌||◌, ℕ, Bool, true, false, List, [], ◌∷◌, Option, Some, None}
+use Rattle.std.specs.Prelude.{◌≡◌, ◌≢◌, ◌<◌, ◌≤◌, ◌^◌, ◌==◌, ◌&&◌, ◌||◌, ℕ, Bool, true, false, List, [], ◌∷◌, Option, Some}
 use Rattle.std.specs.List.{AllByRecursion, list_all, list_any}
 use Rattle.std.proofs.Common.{refl, ap, sym, subst, ◌∙◌, inl, inr}
 use Rattle.std.proofs.lemmas.Bool.{eqb-true}
@@ -28,14 +28,7 @@ use Rattle.play_stepping.specs.Given.SchedulerDeclared.scheduler.Scheduler.{Sche
 use Rattle.play_events.proofs.Events.OfCalls.InRows.{insides_follow_in_rows}
 use Rattle.play_stepping.specs.Given.ExecutorIsThere.{IsUsedAs}
 use Rattle.run_kept.specs.Given.ScenesScene.{slot_of}
-
-both : (a b : Bool) → (a && b) ≡ true → (a ≡ true) × (b ≡ true)
-both true b is = (refl, is)
-both false b is = absurd (cc is)
-
-none_is : {X : Type 0} (o : Option X) → ((x : X) → o ≡ Some x → ⊥) → o ≡ None
-none_is None never = refl
-none_is (Some x) never = absurd (never x refl)
+use Rattle.play_stepping.proofs.Given.General.{both_true as both, none_is}
 
 module _ {V : Type 0} (n j : ℕ) where
   abbrev its_number : NamedCaller V → Bool

@@ -54,6 +54,7 @@ use Rattle.run_kept.specs.Given.ScenesBeginning.{Begins}
 use Rattle.run_kept.specs.Given.ScenesReplying.{scene_with}
 use Rattle.run_kept.specs.Given.ScenesScene.{HasCall, Scene, slot_of}
 use Rattle.play_stepping.specs.Given.ExecutorIsThere.{held_by}
+use Rattle.play_stepping.proofs.Given.General.{same_some as the}
 
 -- what is under way then is a call as it was called
 module _ {K V : Type 0} (same : K → K → Bool) (st : Standing K) (i : ℕ) where
@@ -100,9 +101,6 @@ module _ {K V : Type 0} (same : K → K → Bool) (st : Standing K) (i : ℕ) wh
 
   begun_right : (call : Call K V) → IsBegunRight same (begun_call same st i call) call
   begun_right call = record { called = is_called same st i call; given = is_begun_for same st i call; swept = begun_as call; aim = begun_for call; looks = begun_to_look call }
-
-the : {X : Type 0} (a b : X) → Some a ≡ Some b → a ≡ b
-the a b is = cc is
 
 module _ {K V S : Type 0} (same : K → K → Bool) (hash : K → ℕ) (terms : Terms) (log : List (Entry K V)) (old : Scheduler K V S) (runs : Runs same hash terms log old) (own guard on : List ℕ) (call : Call K V)
     (new : Scheduler K V S) (led : HasBegun same hash own guard on call old new) where

@@ -35,9 +35,10 @@ use Rattle.play_lists.proofs.Given.RowsLists.{both_some, found_alike}
 use Rattle.play_stepping.specs.Given.SchedulerDeclared.scheduler.Scheduler.{Scheduler}
 use Rattle.play_stepping.specs.EventSteps.Stepping.{GoneFor}
 use Rattle.play_stepping.proofs.Given.QuietAfterEffects.{calls_seen}
-use Rattle.play_events.proofs.Events.OfCalls.Steps.{HasCome, IsStep, as_told, did, follows, has_come, its_here, leads, the}
+use Rattle.play_events.proofs.Events.OfCalls.Steps.{HasCome, IsStep, as_told, did, follows, has_come, its_here, leads}
 use Rattle.play_stepping.specs.Given.ExecutorIsThere.{held_by}
 use Rattle.run_schedules.specs.Schedules.Transition.{past}
+use Rattle.play_stepping.proofs.Given.General.{same_some as the}
 
 module _ {K V : Type 0} (name : ℕ → List ℕ) (terms : Terms) (map i : ℕ) (c : CallThere K V) (moments : List (Moment K V)) where
   abbrev All : List Effect → Moment K V → Type 0

@@ -34,10 +34,11 @@ use Rattle.play_stepping.specs.Given.SchedulerDeclared.scheduler.Scheduler.{Sche
 use Rattle.play_stepping.specs.EventSteps.Stepping.{ComesInCase, IsInCase, IsStepped, outcome_of}
 use Rattle.play_stepping.proofs.Given.QuietAfterEffects.{calls_seen}
 use Rattle.play_events.proofs.Events.OfCalls.Found.{mask_is}
-use Rattle.play_events.proofs.Events.OfCalls.Steps.{HasCome, IsStep, as_told, did, follows, its_here, leads, the}
+use Rattle.play_events.proofs.Events.OfCalls.Steps.{HasCome, IsStep, as_told, did, follows, its_here, leads}
 use Rattle.play_events.proofs.Events.OfCalls.Worth.{effects_say}
 use Rattle.play_stepping.specs.Given.ExecutorIsThere.{held_by}
 use Rattle.run_schedules.specs.Schedules.Transition.{past}
+use Rattle.play_stepping.proofs.Given.General.{same_some as the}
 
 -- what is told as a refusal was said as one
 refused_said : {K V : Type 0} (by : Known) (kind : CallKind) (value : Option V) (said : Progress (Node K V)) (fault : Fault) → outcome_of by kind value said ≡ Refused fault → said ≡ progress.Refused fault

@@ -5,7 +5,7 @@ use Rattle.std.proofs.lemmas.Bool.{cases_eq}
 use Rattle.seize_acts.specs.Given.SeizeWaitingHeld.{count}
 use Rattle.run_schedules.specs.Given.SeizeWordsMem.{Mem}
 use Rattle.play_stepping.specs.Given.SeizeWaitingSets.{Change, Retires, Defers as PutsBehind, Sets, all_changed, size}
-use Rattle.play_stepping.specs.Given.SeizeWorld.{World, Row, Rests, Settles, Defers, Use, Vacant, Outside, Inside, Changing, IsInside, Request, Retire, Defer', Begins, Steps', one_less, one_more, with_at, settles_on, defers_on}
+use Rattle.play_stepping.specs.Given.SeizeWorld.{World, Row, Rests, Settles, Defers, Use, IsInside, Request, Retire, Defer', Begins, Steps', one_less, one_more, with_at, settles_on, defers_on}
 use Rattle.play_stepping.specs.Given.SeizeDeclared.rows.settle.Settle.{Settle}
 use Rattle.play_stepping.specs.Given.SeizeDeclared.rows.settle.Settled.{Settled}
 use Rattle.play_stepping.specs.Given.SeizeDeclared.rows.settle.Settled.TheVariants as settled
@@ -25,18 +25,8 @@ use Rattle.run_kept.specs.Models.Numbers.{HasNumber}
 use Rattle.run_kept.proofs.Models.Turns.{inside_active}
 use Rattle.play_events.specs.Events.OfCalls.{InsidesFollowInRows}
 use Rattle.run_kept.specs.Given.ScenesScene.{at_first}
-
-less_inside : (u : Use) → IsInside (one_less u) → IsInside u
-less_inside Vacant h = h
-less_inside (Outside k) h = h
-less_inside (Inside k) h = tt
-less_inside Changing h = h
-
-more_inside : (u : Use) → IsInside (one_more u) → IsInside u
-more_inside Vacant h = h
-more_inside (Outside k) h = h
-more_inside (Inside k) h = tt
-more_inside Changing h = h
+use Rattle.play_stepping.proofs.Given.CallersTogether.Handed.{more_back as more_inside}
+use Rattle.play_stepping.proofs.Given.CallersTogether.RowSteps.{less_inside}
 
 -- a row that shares its slot, or none
 abbrev IsShared : Row → Type 0

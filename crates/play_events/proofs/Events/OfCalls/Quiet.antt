@@ -1,5 +1,5 @@
 -- An event of a call that is out of turn, or kept out, does nothing: it keeps its promises, and the run goes on with it.
-use Rattle.std.specs.Prelude.{◌≡◌, ◌+◌, ℕ, Bool, false, is_some, List, [], ◌∷◌, position, Option, Some, None}
+use Rattle.std.specs.Prelude.{◌≡◌, ◌+◌, ℕ, Bool, List, [], ◌∷◌, position, Option, Some, None}
 use Rattle.std.proofs.Common.{refl, ap, sym, subst, ◌∙◌, arith}
 use Rattle.run_schedules.specs.Given.SeizeWordsDeclared.fault.Fault.TheVariants.{Busy}
 use Rattle.run_schedules.specs.declared.event.Event.{Event}
@@ -36,15 +36,12 @@ use Rattle.play_events.specs.Events.OfCalls.{Runs, RunsOn}
 use Rattle.play_events.proofs.Events.OfCalls.AsBefore.{as_before}
 use Rattle.play_stepping.specs.Given.ExecutorIsThere.{held_by}
 use Rattle.run_schedules.specs.Schedules.Transition.{past, transition}
+use Rattle.play_stepping.proofs.Given.General.{none_of}
 
 -- whatever call there is, nothing is asked of it
 nothing_asked : {K V : Type 0} (o : Option (CallThere K V)) → IfCall (λ (c : CallThere K V). Unit {0}) o
 nothing_asked None = tt
 nothing_asked (Some c) = tt
-
-none_of : {X : Type 0} (o : Option X) → is_some o ≡ false → o ≡ None
-none_of None is = refl
-none_of (Some x) is = absurd (cc is)
 
 module _ {K V S : Type 0} (same : K → K → Bool) (hash : K → ℕ) (terms : Terms) (log : List (Entry K V)) (old new : Scheduler K V S) (runs : Runs same hash terms log old) (logged_is : new.logged ≡ old.logged)
     (calls_are : new.calls ≡ old.calls) (event : Event K V) where

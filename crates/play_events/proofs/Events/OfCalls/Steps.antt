@@ -70,13 +70,10 @@ use Rattle.play_stepping.specs.Given.ExecutorIsThere.{KeepsGiven, held_by}
 use Rattle.run_kept.specs.Given.ScenesScene.{Scene, slot_of}
 use Rattle.run_kept.specs.Given.ScenesStepping.{StepLeads, has_ended, scene_after}
 use Rattle.run_schedules.specs.Schedules.Transition.{past}
+use Rattle.play_stepping.proofs.Given.General.{same_some as the}
 
 one_more : (n : ℕ) → n + 1 ≡ suc n
 one_more n = omega arith
-
--- one that is there is there once
-pub the : {X : Type 0} (a b : X) → Some a ≡ Some b → a ≡ b
-the a b is = cc is
 
 -- who stands at a place has its name
 named_at : {V : Type 0} (name : ℕ → List ℕ) (calls : List (NamedCaller V)) (k : ℕ) (x : NamedCaller V) → slice_get calls k ≡ Some x → AreNamed name calls → name x.number ≡ x.name

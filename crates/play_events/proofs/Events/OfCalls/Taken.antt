@@ -44,9 +44,10 @@ use Rattle.play_events.proofs.Events.OfCalls.Ends.{runs_on, tells_so}
 use Rattle.play_events.proofs.Events.OfCalls.Found.{all_find, gone_find}
 use Rattle.play_events.proofs.Events.OfCalls.InCase.{comes_in_case}
 use Rattle.play_events.proofs.Events.OfCalls.Scenes.{its_named}
-use Rattle.play_events.proofs.Events.OfCalls.Steps.{HasCome, as_told, has_come, the}
+use Rattle.play_events.proofs.Events.OfCalls.Steps.{HasCome, as_told, has_come}
 use Rattle.run_kept.specs.Given.ScenesScene.{slot_of}
 use Rattle.play_stepping.specs.Given.ExecutorIsThere.{held_by}
+use Rattle.play_stepping.proofs.Given.General.{same_some as the}
 
 -- an event that takes steps tells no reply
 steps_tell_none : {K V : Type 0} (event : Event K V) → takes_steps event ≡ true → (outcome : Outcome V) → TellsNone event outcome

@@ -1,5 +1,5 @@
 -- An event that tells a reply to a call that takes it, or gives up a walk that is ready: it is legal, and the run goes on with it.
-use Rattle.std.specs.Prelude.{◌≡◌, ◌&&◌, ℕ, Bool, true, false, List, [], ◌∷◌, position, slice_get, slice_set, Option, Some, None, option_map, Result, Ok, Err}
+use Rattle.std.specs.Prelude.{◌≡◌, ℕ, Bool, true, false, List, [], ◌∷◌, position, slice_get, slice_set, Option, Some, None, option_map, Result, Ok, Err}
 use Rattle.std.specs.Result.{is_err}
 use Rattle.std.proofs.Common.{refl, ap, sym, subst, ◌∙◌, inl, inr}
 use Rattle.std.specs.List.{AllByRecursion}
@@ -64,6 +64,7 @@ use Rattle.play_stepping.specs.Given.ExecutorReplying.{RepliesThere, StopsThere}
 use Rattle.run_kept.specs.Given.ScenesReplying.{scene_with, unless_stopped}
 use Rattle.run_kept.specs.Given.ScenesScene.{Scene}
 use Rattle.run_kept.proofs.Sheds.Held.{stop_held}
+use Rattle.play_stepping.proofs.Given.General.{both_true as both, same_some as the_one}
 
 -- a call takes a reply of its kind
 taken_by : {K V : Type 0} (one : OneKey K V) (reply : Reply V) → fits (kind_on one) reply ≡ true → IsTaken one reply
@@ -77,9 +78,6 @@ taken_by (Compute k) Removes is = tt
 taken_by (Compute k) (Aborts v) is = tt
 taken_by _ reply is = tt
 
-the_one : {X : Type 0} (a b : X) → Some a ≡ Some b → a ≡ b
-the_one a b is = cc is
-
 replied_name : {K V : Type 0} (reply : Reply V) (c : CallThere K V) (stands : Stands) → (replied reply c stands).caller ≡ c.caller
 replied_name reply c (Asking q) = refl
 replied_name reply c _ = refl
@@ -87,10 +85,6 @@ replied_name reply c _ = refl
 plain_ok : {X : Type 0} (r : Result Unit X) → is_err r ≡ false → r ≡ Ok tt
 plain_ok (Ok tt) is = refl
 plain_ok (Err x) is = absurd (cc is)
-
-both : (a b : Bool) → (a && b) ≡ true → (a ≡ true) × (b ≡ true)
-both true b is = (refl, is)
-both false b is = absurd (cc is)
 
 module _ {K V S : Type 0} (same : K → K → Bool) (hash : K → ℕ) (terms : Terms) (log : List (Entry K V)) (old : Scheduler K V S) (runs : Runs same hash terms log old) (own : List ℕ) (new : Scheduler K V S) where
   abbrev m : Moment K V

@@ -72,7 +72,7 @@ use Rattle.play_stepping.proofs.SaysSo.OfCalls.Saying.{number_is}
 use Rattle.play_events.proofs.Events.OfCalls.Asked.{leads_next, next_at}
 use Rattle.play_events.proofs.Events.OfCalls.Ends as ends
 use Rattle.play_events.proofs.Events.OfCalls.Scenes.{AreNamed, its_named}
-use Rattle.play_events.proofs.Events.OfCalls.Steps.{HasCome, IsStep, as_told, did, follows, has_walked_on, its_here, leads, the}
+use Rattle.play_events.proofs.Events.OfCalls.Steps.{HasCome, IsStep, as_told, did, follows, has_walked_on, its_here, leads}
 use Rattle.play_events.proofs.Events.OfCalls.Taken as taken
 use Rattle.run_kept.proofs.Given.ScenesMay.{standing_is}
 use Rattle.play_stepping.specs.Given.ExecutorReplying.{AsksThere}
@@ -80,6 +80,7 @@ use Rattle.run_kept.specs.Given.ScenesReplying.{scene_with}
 use Rattle.run_kept.specs.Given.ScenesScene.{Scene}
 use Rattle.play_stepping.specs.Given.ExecutorIsThere.{held_by}
 use Rattle.run_schedules.specs.Schedules.Transition.{past}
+use Rattle.play_stepping.proofs.Given.General.{same_some as the}
 
 -- a word of a pair names the one of its number
 named_so : (by : Known) (word : ℕ) → (n : ℕ) × NamesPair by word n → NamesPair by word (number_by by word)

@@ -48,10 +48,11 @@ use Rattle.play_events.proofs.Events.OfCalls.Ends.{runs_on, tells_so}
 use Rattle.play_events.proofs.Events.OfCalls.Found.{all_find, gone_find}
 use Rattle.play_events.proofs.Events.OfCalls.InCase.{comes_in_case}
 use Rattle.play_events.proofs.Events.OfCalls.Scenes.{stands_in}
-use Rattle.play_events.proofs.Events.OfCalls.Steps.{HasCome, as_told, has_come, the}
+use Rattle.play_events.proofs.Events.OfCalls.Steps.{HasCome, as_told, has_come}
 use Rattle.play_events.proofs.Events.OfCalls.Words.{not_busy}
 use Rattle.run_kept.specs.Given.ScenesScene.{slot_of}
 use Rattle.play_stepping.specs.Given.ExecutorIsThere.{held_by}
+use Rattle.play_stepping.proofs.Given.General.{same_some as the}
 
 module _ {K V S : Type 0} (same : K → K → Bool) (hash : K → ℕ) (terms : Terms) (log : List (Entry K V)) (old : Scheduler K V S) (runs : Runs same hash terms log old)
     (guard on : List ℕ) (call : Call K V) (mid : Scheduler K V S) (led : HasBegun same hash nameless guard on call old mid)

@@ -29,7 +29,6 @@ use Rattle.run_kept.specs.Given.EffectsDeclared.acting.Acting.TheVariants as act
 use Rattle.run_kept.specs.Given.FinishesMakings.{Beginning, IsMade}
 use Rattle.run_kept.specs.Given.FinishesMaps.{Standing}
 use Rattle.run_kept.specs.Given.FollowsShows.{Shows}
-use Rattle.play_stepping.proofs.Given.SpotsUnreclaimed.{and_both}
 use Rattle.run_kept.specs.Given.OthersMakings.{IsNew, WasNew, making_after}
 use Rattle.run_kept.proofs.Given.OthersMakingGoes.{new_maps_stay}
 use Rattle.play_lists.specs.Given.FindsLinking.{IsMadeFor}
@@ -60,6 +59,7 @@ use Rattle.play_stepping.specs.Given.ExecutorMaking.{MakesThere}
 use Rattle.run_kept.specs.Given.ScenesScene.{Scene, slot_of}
 use Rattle.run_kept.specs.Given.ScenesHeld.{Held, IsAt}
 use Rattle.run_kept.specs.Given.ScenesMaking.{MakingLeads}
+use Rattle.play_stepping.proofs.Given.General.{both_true as and_both}
 
 -- By what a step of a making told: it goes on as another machine, of the same map.
 module _ {K V : Type 0} (same : K → K → Bool) (hash : ℕ → K → ℕ) (s : Scene K V) (old new : Held K V) (i : ℕ) (b : Beginning K) (here : s.makers i ≡ Some b) where

@@ -9,7 +9,6 @@ use Rattle.play_stepping.specs.Given.SeizeWorld.{SlotsTaken}
 use Rattle.play_lists.specs.Given.TablesDeclared.resize_mode.ResizeMode.{ResizeMode}
 use Rattle.play_lists.specs.Given.TablesDeclared.setting.Setting.{Setting}
 use Rattle.play_stepping.proofs.Given.CallersTogether.At.{at_same}
-use Rattle.play_stepping.proofs.Given.SpotsUnreclaimed.{and_both}
 use Rattle.play_stepping.specs.Given.ExecutorDeclared.executor.Executor.{Executor}
 use Rattle.run_kept.specs.Given.FinishesMakings.{Beginning}
 use Rattle.run_kept.specs.Given.FinishesMaps.{Standing}
@@ -63,6 +62,7 @@ use Rattle.play_stepping.specs.Given.ExecutorIsThere.{IsThere, held_by}
 use Rattle.run_kept.specs.Given.ScenesScene.{Scene}
 use Rattle.run_kept.proofs.Sheds.Held.{making_held}
 use Rattle.run_kept.specs.Given.ScenesMaking.{MakingLeads}
+use Rattle.play_stepping.proofs.Given.General.{both_true as and_both}
 
 -- where all that was asked for were growths, so were those before, and those that follow
 asked_before : (xs ys zs : List Effect) → zs ≡ xs ++ ys → list_all is_growth zs ≡ true → (list_all is_growth xs ≡ true) × (list_all is_growth ys ≡ true)

@@ -1,5 +1,5 @@
 -- Where an event that speaks of no call comes alone, no call is under way, and the waiting sets are those of the model.
-use Rattle.std.specs.Prelude.{◌≡◌, ◌==◌, ◌&&◌, ℕ, Bool, true, false, List, [], ◌∷◌, Option, None, map}
+use Rattle.std.specs.Prelude.{◌≡◌, ◌==◌, ℕ, Bool, true, List, [], ◌∷◌, Option, None, map}
 use Rattle.std.specs.List.{list_all, list_any}
 use Rattle.std.proofs.Common.{refl, ap, sym, subst, inl, inr, ◌∙◌}
 use Rattle.run_schedules.specs.declared.event.Event.{Event}
@@ -15,10 +15,7 @@ use Rattle.play_stepping.specs.Given.ExecutorDeclared.caller.NamedCaller.{NamedC
 use Rattle.play_stepping.specs.Given.SchedulerDeclared.scheduler.Scheduler.{Scheduler}
 use Rattle.play_events.specs.Events.OfCalls.{Runs}
 use Rattle.play_events.proofs.Events.OfCalls.Alone.{row_of_caller}
-
-both_so : (a b : Bool) → (a && b) ≡ true → (a ≡ true) × (b ≡ true)
-both_so true b is = (refl, is)
-both_so false b is = absurd (cc is)
+use Rattle.play_stepping.proofs.Given.General.{both_true as both_so}
 
 module _ {K V S : Type 0} (same : K → K → Bool) (hash : K → ℕ) (terms : Terms) (log : List (Entry K V)) (p : Scheduler K V S) (run : Runs same hash terms log p) where
   -- calls of nobody are none

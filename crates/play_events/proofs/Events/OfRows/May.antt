@@ -3,7 +3,6 @@ use Rattle.std.specs.Prelude.{◌≡◌, ◌==◌, ◌&&◌, ℕ, Bool, true, fa
 use Rattle.std.specs.List.{list_all}
 use Rattle.std.proofs.Common.{refl, ap, sym, ◌∙◌}
 use Rattle.play_stepping.specs.Given.SeizeWorld.{IsInside}
-use Rattle.play_stepping.proofs.Given.SpotsUnreclaimed.{and_both}
 use Rattle.run_schedules.specs.Runs.Present.{guards_on, has_registration}
 use Rattle.run_schedules.specs.declared.effect.Effect.{Effect}
 use Rattle.run_schedules.specs.declared.event.Event.{Event}
@@ -21,6 +20,7 @@ use Rattle.play_stepping.specs.Given.SchedulerDeclared.scheduler.Scheduler.{Sche
 use Rattle.play_stepping.proofs.Given.SchedulerDropped.{free_lives}
 use Rattle.play_events.specs.Works.Rows.{may_row}
 use Rattle.play_events.proofs.Events.OfRows.Facts.{inside_by, one_on}
+use Rattle.play_stepping.proofs.Given.General.{both_true as and_both}
 
 -- what passes one test passes another one
 pub all_by : {X : Type 0} (p q : X → Bool) → ((x : X) → p x ≡ true → q x ≡ true) → (xs : List X) → list_all p xs ≡ true → list_all q xs ≡ true

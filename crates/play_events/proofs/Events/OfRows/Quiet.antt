@@ -51,10 +51,7 @@ use Rattle.play_events.specs.Events.OfRows.{is_of_rows}
 use Rattle.play_events.proofs.Events.OfCalls.AsBefore.{as_before}
 use Rattle.play_events.proofs.Events.OfRows.Facts.{inside_by, slot_is}
 use Rattle.run_schedules.specs.Schedules.Transition.{past, transition}
-
-none_made : (q : Bool) → (not q || true) ≡ true
-none_made true = refl
-none_made false = refl
+use Rattle.run_legal.proofs.Idle.{none_made}
 
 module _ {K V : Type 0} where
   -- Nothing is changed by this event, which is of no call, and has done nothing.

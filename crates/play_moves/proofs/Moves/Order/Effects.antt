@@ -19,13 +19,13 @@ use Rattle.play_lists.specs.Given.FindsWithin.{AllIsInOrder, HasItsMap}
 use Rattle.play_events.proofs.Given.LegalGrowths.{growths_leave}
 use Rattle.play_lists.proofs.Given.FindsLife.{each_so}
 use Rattle.play_lists.proofs.Given.FindsLists.{all_so, any_so, each_among, each_is}
-use Rattle.play_lists.proofs.Given.FindsGrown.{number_is}
 use Rattle.play_lists.proofs.Given.FindsTables.{all_kept}
 use Rattle.play_events.proofs.Given.OthersLeads.{same_parts}
 use Rattle.run_histories.proofs.Given.SpotsUnreclaimed.{same_itself}
 use Rattle.play_lists.proofs.Given.FindsRuns.{life_keeps_order}
 use Rattle.run_schedules.specs.Deeds.History.{EndFinds, is_first_of, left_tables}
 use Rattle.play_linear.proofs.Linear.Like.{IsLike}
+use Rattle.run_schedules.proofs.Given.General.{equal_so as number_is}
 
 -- who asks for buckets alone asks for growths alone
 all_growths : (effects : List Effect) → list_all asks_for_bucket effects ≡ true → list_all is_growth effects ≡ true

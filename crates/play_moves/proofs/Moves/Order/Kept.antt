@@ -2,7 +2,6 @@
 use Rattle.std.specs.Prelude.{◌≡◌, ◌≢◌, ◌==◌, ◌+◌, ℕ, Bool, true, false, List, [], Option, Some, None}
 use Rattle.std.specs.List.{AllByRecursion}
 use Rattle.std.proofs.Common.{refl, ap, sym, subst, ◌∙◌}
-use Rattle.seize_acts.proofs.Acts.Answers.{same_some}
 use Rattle.play_events.proofs.Given.LateKindsKept.Laws.{told_sweeps_refuse_room}
 use Rattle.seize_acts.specs.Given.SeizeWorld.{Step}
 use Rattle.seize_acts.specs.Given.SeizeDeclared.advance.Advance.{Advance as Making}
@@ -42,7 +41,6 @@ use Rattle.play_lists.proofs.Given.FindsEvents.{comes_same, told_same}
 use Rattle.play_lists.proofs.Given.FindsGrown.{found_any}
 use Rattle.play_lists.proofs.Given.FindsLists.{all_so}
 use Rattle.play_lists.proofs.Given.FindsOver.{calls_stay}
-use Rattle.play_events.proofs.Given.OwesCalls.{goes_as_one}
 use Rattle.play_events.proofs.Given.GrowsFinding.Others.{ended_calls}
 use Rattle.play_events.proofs.Given.NamedCalled.{begins_for_room}
 use Rattle.play_lists.specs.Given.ActsActs.{begun}
@@ -59,6 +57,8 @@ use Rattle.play_events.proofs.EachMoves.Order.NotBusy.{ends_so, not_busy, room_t
 use Rattle.play_moves.proofs.Moves.Order.Stays.{begins_stay, comes_stay, ends_stay, fails_stay, goes_stay, makes_stay, replies_stay, rows_stay, steps_stay, stops_stay}
 use Rattle.play_moves.proofs.Moves.Order.RoomKept.{goes_on, one_call, ready_has_none, room_on, room_still, told_room}
 use Rattle.play_moves.proofs.Moves.Order.UnderWay.{begins_under, effects_under, ends_under, goes_under, none_named, stays_under, stepped_under, still_under}
+use Rattle.play_lists.proofs.Given.SettlesCalls.{goes_as_one}
+use Rattle.run_schedules.proofs.Given.General.{same_some}
 
 not_over : (q : Bool) → (q ≡ true → ⊥) → q ≡ false
 not_over false never = refl

@@ -18,7 +18,6 @@ use Rattle.play_lists.proofs.Given.FollowsCalling.{is_same_is, is_same_refl}
 use Rattle.play_events.proofs.Given.OthersLeads.{same_parts}
 use Rattle.play_lists.proofs.Given.FindsEndings.{fewer_found, more_found, name_of, number_at, same_number}
 use Rattle.play_lists.proofs.Given.FindsEvents.{beginnings_keep_placed, beginnings_keep_tables}
-use Rattle.play_lists.proofs.Given.FindsGrown.{number_is}
 use Rattle.play_lists.proofs.Given.FindsLists.{all_both, all_so, any_kept, any_kept_among, any_so, each_among, each_is}
 use Rattle.play_lists.proofs.Given.FindsSomewhere.{others_keep_somewhere}
 use Rattle.play_lists.proofs.Given.FindsTables.{all_append, all_kept, others_keep_tables}
@@ -26,6 +25,7 @@ use Rattle.run_schedules.specs.Deeds.Deeds.{come, named, without_map}
 use Rattle.run_schedules.specs.Deeds.History.{left_tables}
 use Rattle.play_lists.specs.Agrees.Fresh.{AreNamed, IsNamed}
 use Rattle.play_moves.proofs.Moves.Order.Effects.{itself, linked_one}
+use Rattle.run_schedules.proofs.Given.General.{equal_so as number_is}
 
 -- of maps that have their numbers as names none has the name of a number that none has
 none_by_name : (n : ℕ) (fs : List MapThere) → AllByRecursion IsNamed fs → find (λ (f : MapThere). f.number == n) fs ≡ None → find (λ (f : MapThere). is_same f.name (named n)) fs ≡ None

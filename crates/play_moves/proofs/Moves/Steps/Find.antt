@@ -1,7 +1,6 @@
 -- The effects of a step of a call, as an entry of a history, find what they must where all is in order.
 use Rattle.std.specs.Prelude.{◌≡◌, ◌+◌, ℕ, Bool, true, false, List, [], ◌∷◌, Option, Some}
 use Rattle.std.proofs.Common.{refl, ap, sym, subst, ◌∙◌, arith, inl, inr}
-use Rattle.seize_acts.proofs.Acts.Answers.{same_some}
 use Rattle.play_lists.specs.Given.TablesDeclared.node.Node.{Node}
 use Rattle.threads_rule.specs.Given.ResizeDeclared.new_table.NewTable.{NewTable}
 use Rattle.threads_rule.specs.Given.ResizeDeclared.sum.Sum.{Sum}
@@ -53,6 +52,7 @@ use Rattle.play_linear.specs.Linear.Shown.{ShowsAnswers}
 use Rattle.play_events.specs.EachMoves.Finds.{FindsIts}
 use Rattle.play_moves.specs.Moves.Steps.{EachStoresOne, ShowsSteps, StepsMay}
 use Rattle.play_events.proofs.EachMoves.Steps.TablesLast.{tables_last}
+use Rattle.run_schedules.proofs.Given.General.{same_some}
 
 -- a counting only looks
 counting_looks : {K V : Type 0} (same : K → K → Bool) (sum : Sum) (its : Call K V) → IsCalled same (Counting sum) its → only_looks its ≡ true

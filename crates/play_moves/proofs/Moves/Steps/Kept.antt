@@ -1,7 +1,6 @@
 -- By each kind of step a history stays one whose entries that are steps of calls find what they must.
 use Rattle.std.specs.Prelude.{◌≡◌, ◌⊎◌, ◌<◌, ℕ, Bool, true, List, [], ◌∷◌, length, Option, Some, None}
 use Rattle.std.proofs.Common.{refl, ap, sym, subst, ◌∙◌, arith, inl, inr}
-use Rattle.seize_acts.proofs.Acts.Answers.{same_some}
 use Rattle.seize_acts.specs.Given.SeizeWorld.{Step}
 use Rattle.seize_acts.specs.Given.SeizeDeclared.advance.Advance.{Advance as Making}
 use Rattle.seize_acts.specs.Given.SeizeDeclared.advance.Advance.TheVariants as progress
@@ -56,6 +55,7 @@ use Rattle.play_moves.proofs.Moves.Steps.ByMakings.{steps_by_making, steps_by_ma
 use Rattle.play_moves.proofs.Moves.Steps.ByOthers.{steps_by_choice, steps_by_end, steps_by_end_begun, steps_by_map_gone, steps_by_reclaiming, steps_by_row, steps_by_row_begun}
 use Rattle.play_moves.proofs.Moves.Steps.Find.{step_finds, step_stores}
 use Rattle.play_moves.proofs.Moves.Steps.Over.{steps_come, steps_over}
+use Rattle.run_schedules.proofs.Given.General.{same_some}
 
 module _ {K V : Type 0} where
   pub order_now : (history : List (Entry K V)) → InOrderSoFar history → AllIsInOrder (moment history)

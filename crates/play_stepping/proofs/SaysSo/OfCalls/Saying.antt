@@ -1,5 +1,5 @@
 -- What a step of a call on one key answers is told as the call means, where the value is kept that is to be told back; and what it asks, by the number of the pair about which it asks.
-use Rattle.std.specs.Prelude.{◌≡◌, ◌⊎◌, ℕ, true, false, List, Option, Some, None, option_map}
+use Rattle.std.specs.Prelude.{◌≡◌, ◌⊎◌, ℕ, true, false, List, Option, Some, None}
 use Rattle.std.proofs.Common.{refl, ap, sym, subst, ◌∙◌, inl, inr}
 use Rattle.papaya_raw.specs.Given.TablesDeclared.node.Node.{Node}
 use Rattle.papaya_raw.specs.declared.machines.answer.KeyAnswer.{KeyAnswer}
@@ -20,15 +20,14 @@ use Rattle.run_schedules.specs.declared.outcome.Outcome.TheVariants as outcome
 use Rattle.run_schedules.specs.Schedules.Sequential.{Answers, Leaves, Puts, Takes, means, puts_reply}
 use Rattle.run_schedules.specs.Schedules.Views.{reply_to}
 use Rattle.run_executor.specs.Given.EffectsKnown.{Known}
-use Rattle.run_executor.specs.Given.EffectsDeclared.role.Role.TheVariants as role
 use Rattle.run_grows.specs.Given.HistoriesAnswers.{IsToldAs, IsToldDone, NamesPair}
-use Rattle.play_scheduler.specs.Given.HistoriesAsking.{IsToldQuestion}
 use Rattle.play_scheduler.specs.Given.HistoriesEvents.{ComesToIt}
 use Rattle.run_grows.specs.Given.HistoriesInEvent.{ComesSo}
 use Rattle.play_scheduler.specs.Given.HistoriesOtherMidsts.{AsksAsSaid}
 use Rattle.run_executor.specs.Named.Seen.{kind_of, kind_on}
 use Rattle.run_executor.specs.Named.Telling.{aborted_with, answer_on, number_by, number_in, occupied_by}
 use Rattle.play_stepping.specs.EventSteps.Stepping.{outcome_of}
+use Rattle.play_stepping.proofs.EventSteps.StepSays.{told_by as question_is}
 
 -- what is stored is the reply's value, and else nothing is meant
 module _ {V : Type 0} where
@@ -56,13 +55,6 @@ module _ {V : Type 0} where
 -- the number of a pair by its word
 pub number_is : (by : Known) (word n : ℕ) → NamesPair by word n → number_by by word ≡ n
 number_is by word n names = ap number_in names
-
--- what is asked is told by the number of the pair
-question_is : (by : Known) (about question : Option ℕ) → IsToldQuestion by about question → IsToldQuestion by about (option_map (number_by by) about)
-question_is by None None so = tt
-question_is by None (Some n) so = absurd so
-question_is by (Some word) None so = absurd so
-question_is by (Some word) (Some n) so = so ∙ ap role.Pair (sym (number_is by word n so))
 
 module _ {V : Type 0} (by : Known) (word n : ℕ) (names : NamesPair by word n) (a : Response V) where
   found_it : answer.Found n ≡ a → a ≡ answer.Found (number_by by word)

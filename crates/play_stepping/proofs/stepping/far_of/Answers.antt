@@ -2,8 +2,8 @@
 use Rattle.std.specs.Prelude.{option_copied}
 use Rattle.std.proofs.Common.{sym, ap, ◌∙◌}
 use Rattle.play_stepping.proofs.EventSteps.ByName.{called_so, is_called}
-use Rattle.play_stepping.proofs.EventSteps.StepSays.{the}
 use Rattle.play_stepping.proofs.stepping.far_of.Goals as goal
+use Rattle.seize_words.proofs.General.{same_some as the}
 
 pub unreachable-requires : goal.unreachable-requires
 unreachable-requires g c = is_called c.args.caller.now c.args.calls.now c.requires (sym c.get.ensures ∙ ap option_copied c.in_default.is)

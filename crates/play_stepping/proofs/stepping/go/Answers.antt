@@ -10,11 +10,12 @@ use Rattle.run_schedules.specs.declared.event.Event.TheVariants.{Go}
 use Rattle.run_schedules.specs.declared.outcome.Outcome.TheVariants.{Refused}
 use Rattle.run_executor.specs.Named.Seen.{is_named}
 use Rattle.play_stepping.specs.EventSteps.Stepping.{PlaysOn}
-use Rattle.play_stepping.proofs.EventSteps.ByName.{none_there, some_there}
+use Rattle.play_stepping.proofs.EventSteps.ByName.{some_there}
 use Rattle.play_stepping.proofs.EventSteps.PlaysAgain.{go_busy}
 use Rattle.play_scheduler.proofs.Rights.{entry_is}
 use Rattle.play_stepping.proofs.EventSteps.TakenBy.{plays_gone}
 use Rattle.play_stepping.proofs.stepping.go.Goals as goal
+use Rattle.seize_words.proofs.General.{none_of as none_there}
 
 pub take_steps-requires : goal.take_steps-requires
 take_steps-requires g c =

@@ -12,10 +12,10 @@ use Rattle.play_stepping.specs.EventSteps.Stepping.{MayWalk, PlaysNext, WalkCome
 use Rattle.play_stepping.proofs.EventSteps.ByName.{none_told}
 use Rattle.play_stepping.proofs.EventSteps.NextEnds.{asked_here, next_asked, next_busy, next_may, next_ready, placed_there, plays_next, there}
 use Rattle.play_stepping.proofs.EventSteps.NextTook.{took_next}
-use Rattle.play_stepping.proofs.EventSteps.StepSays.{the}
 use Rattle.play_scheduler.proofs.Rights.{entry, entry_is}
 use Rattle.play_stepping.proofs.walking.next.Goals as goal
 use Rattle.play_scheduler.specs.Given.ScenesScene.{HasCall}
+use Rattle.seize_words.proofs.General.{same_some as the}
 
 pub returns-in_default : goal.returns-in_default
 returns-in_default g c = record {

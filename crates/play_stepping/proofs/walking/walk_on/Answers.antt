@@ -7,10 +7,10 @@ use Rattle.play_scheduler.specs.Given.LoggedCalling.{CallGoesOn, CallSteps}
 use Rattle.play_scheduler.specs.Given.LoggedShown.{IsShown}
 use Rattle.play_stepping.specs.EventSteps.Stepping.{ReadyAt}
 use Rattle.play_stepping.proofs.EventSteps.NextOn.{logged_on, may_walk, mid_few, mid_first, mid_next}
-use Rattle.play_stepping.proofs.EventSteps.StepSays.{the}
 use Rattle.play_stepping.proofs.walking.walk_on.Goals as goal
 use Rattle.run_executor.specs.Executing.IsThere.{IsThere}
 use Rattle.play_scheduler.specs.Given.ScenesScene.{HasCall}
+use Rattle.seize_words.proofs.General.{same_some as the}
 
 pub way_of-number-requires : goal.way_of-number-requires
 way_of-number-requires g c = let r = c.requires in (r.2, r.4.1, (r.4.0, r.4.2))

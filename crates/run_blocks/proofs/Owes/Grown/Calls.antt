@@ -25,7 +25,6 @@ use Rattle.run_debts.proofs.Given.HandsAsking.{which}
 use Rattle.run_debts.specs.Given.MomentsWhole.{ShowsWhole}
 use Rattle.run_blocks.specs.Owes.Grown.{SoInMachine, IsOther, ShowsGrown, CallsKeepGrown}
 use Rattle.run_blocks.specs.Owes.Short.{ShowsShort}
-use Rattle.run_blocks.proofs.Owes.Calls.{goes_as_one}
 use Rattle.run_blocks.proofs.Owes.Fields.{all_by, field_own, field_other}
 use Rattle.run_blocks.proofs.Owes.Grown.Between.{long_other}
 use Rattle.run_blocks.proofs.Owes.Grown.Machines.{SaysSo, machine_so}
@@ -34,6 +33,7 @@ use Rattle.run_blocks.proofs.Owes.Short.Effects.{short_by, short_kept, effect_sh
 use Rattle.run_debts.specs.Given.ScenesHeld.{Held, IsAt}
 use Rattle.run_debts.specs.Given.ScenesScene.{Scene}
 use Rattle.run_debts.specs.Given.ScenesStepping.{StepLeads, scene_after}
+use Rattle.run_debts.proofs.Calls.{goes_as_one}
 
 -- of what is told of a step
 was_false : (b : Bool) → not b ≡ true → b ≡ false

@@ -23,12 +23,12 @@ use Rattle.run_debts.proofs.Given.FollowsSteps.{WentTo, went_to}
 use Rattle.run_debts.proofs.Given.HandsAsking.{which}
 use Rattle.run_debts.specs.Given.MomentsWhole.{ShowsWhole}
 use Rattle.run_blocks.specs.Owes.Looking.{IsLooking, ShowsLooking, FindAtWork, CallsKeepLooking}
-use Rattle.run_blocks.proofs.Owes.Calls.{goes_as_one}
 use Rattle.run_blocks.proofs.Owes.Fields.{all_by, field_own, field_other, its_effect}
 use Rattle.run_blocks.proofs.Owes.Looking.Leaves.{looking_stays}
 use Rattle.run_debts.specs.Given.ScenesHeld.{Held, IsAt}
 use Rattle.run_debts.specs.Given.ScenesScene.{Scene}
 use Rattle.run_debts.specs.Given.ScenesStepping.{StepLeads, scene_after}
+use Rattle.run_debts.proofs.Calls.{goes_as_one}
 
 module _ {K V : Type 0} where
   -- an effect leaves what was called

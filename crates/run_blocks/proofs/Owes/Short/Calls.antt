@@ -27,7 +27,6 @@ use Rattle.run_debts.proofs.Given.FollowsSteps.{WentTo, went_to}
 use Rattle.run_debts.proofs.Given.HandsAsking.{which}
 use Rattle.run_debts.specs.Given.MomentsWhole.{ShowsWhole}
 use Rattle.run_blocks.specs.Owes.Short.{fault_of, ShowsShort, FindGrown, CallsKeepShort}
-use Rattle.run_blocks.proofs.Owes.Calls.{goes_as_one}
 use Rattle.run_blocks.proofs.Owes.Fields.{all_by, field_own, field_other}
 use Rattle.run_blocks.proofs.Owes.Short.Denied.{EndsSo, MachineStays, machine_stays}
 use Rattle.run_blocks.proofs.Owes.Short.Effects.{short_by, short_kept, effect_short, none_find, asked_finds, made_finds, NoneAsked, none_asked}
@@ -38,6 +37,7 @@ use Rattle.run_debts.proofs.Given.ScenesGoes.{goes_as}
 use Rattle.run_debts.specs.Given.ScenesHeld.{Held, IsAt}
 use Rattle.run_debts.specs.Given.ScenesScene.{Scene}
 use Rattle.run_debts.specs.Given.ScenesStepping.{StepLeads, going_on, has_ended, scene_after}
+use Rattle.run_debts.proofs.Calls.{goes_as_one}
 
 -- a table is none of shards
 not_shards : (len limit turn : ℕ) (q : Bool) → (if q then kind.Pair else kind.Table len limit turn) ≡ kind.Shards → ⊥

@@ -32,7 +32,6 @@ use Rattle.run_debts.specs.Given.FinishesMaps.{with_call as with_in}
 use Rattle.run_debts.specs.Given.FollowsCalling.{NoneNamed}
 use Rattle.run_debts.specs.Given.FollowsShows.{Shows}
 use Rattle.run_debts.proofs.Given.FollowsCalling.{is_same_refl}
-use Rattle.run_debts.proofs.Given.FollowsSteps.{one_of}
 use Rattle.run_debts.proofs.Given.HandsAsking.{which}
 use Rattle.run_debts.specs.Given.MomentsWhole.{ShowsWhole}
 use Rattle.run_blocks.specs.Owes.Making.{making_of, making_in_calling, making_in_sweeping}
@@ -44,6 +43,7 @@ use Rattle.run_debts.specs.Given.OthersWalks.{given_up}
 use Rattle.run_debts.specs.Given.ScenesHeld.{Held, IsAt}
 use Rattle.run_debts.specs.Given.ScenesReplying.{scene_with, unless_stopped}
 use Rattle.run_debts.specs.Given.ScenesScene.{Scene}
+use Rattle.run_debts.proofs.Given.General.{same_some as one_of}
 
 -- a sweep that makes a table takes no reply; one that is asked for its next pair makes none; and one that is ready has none
 

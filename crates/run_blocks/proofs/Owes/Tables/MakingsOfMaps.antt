@@ -31,7 +31,6 @@ use Rattle.run_debts.specs.Given.FinishesEndings.{MakingStepsAmong}
 use Rattle.run_debts.specs.Given.FinishesMakings.{Beginning}
 use Rattle.run_debts.specs.Given.FollowsShows.{Shows}
 use Rattle.run_debts.proofs.Given.FollowsOperations.{LeavesBy}
-use Rattle.run_debts.proofs.Given.FollowsSteps.{one_of}
 use Rattle.run_debts.specs.Given.OthersMakings.{making_after}
 use Rattle.run_debts.proofs.Given.OthersMakes.{left}
 use Rattle.run_debts.proofs.Given.OthersQuiet.{calls_none}
@@ -50,6 +49,7 @@ use Rattle.run_blocks.proofs.Owes.Tables.Roles.{of_table, NoneOfTable, FreeBefor
 use Rattle.run_debts.specs.Given.ScenesHeld.{Held, IsAt}
 use Rattle.run_debts.specs.Given.ScenesMaking.{MakingComesTo, MakingStepsFrom}
 use Rattle.run_debts.specs.Given.ScenesScene.{Scene, slot_of}
+use Rattle.run_debts.proofs.Given.General.{same_some as one_of}
 
 -- effects that say nothing of such a table make none
 first_none : (map : ℕ) (effects : List Effect) → NoneOfTable effects → MakesFirst map effects

@@ -29,7 +29,7 @@ use Rattle.run_debts.specs.Given.FinishesMachines.{machine_of, GoesOnAs}
 use Rattle.run_debts.specs.Given.FollowsShows.{Shows}
 use Rattle.run_debts.proofs.Given.FollowsCalling.{is_same_refl}
 use Rattle.run_debts.proofs.Given.FollowsOperations.{LeavesBy, operated_leaves}
-use Rattle.run_debts.proofs.Given.FollowsSteps.{WentTo, went_to, made_so, one_of}
+use Rattle.run_debts.proofs.Given.FollowsSteps.{WentTo, went_to, made_so}
 use Rattle.run_debts.specs.Given.MomentsWhole.{ShowsWhole}
 use Rattle.run_debts.proofs.Given.MomentsCalls.{calls_keep_whole}
 use Rattle.run_blocks.specs.Owes.Making.{making_of}
@@ -46,6 +46,7 @@ use Rattle.run_blocks.proofs.Owes.Tables.Roles.{FreeBefore, does_to_tables}
 use Rattle.run_debts.specs.Given.ScenesHeld.{Held, IsAt}
 use Rattle.run_debts.specs.Given.ScenesScene.{Scene}
 use Rattle.run_debts.specs.Given.ScenesStepping.{StepLeads, scene_after}
+use Rattle.run_debts.proofs.Given.General.{same_some as one_of}
 
 -- the table that a call has made, if it is under way
 abbrev pub next_table : {K V : Type 0} → Option (UnderWay K V K) → Option Planned

@@ -6,6 +6,7 @@ use Rattle.std.proofs.Common.{◌≡◌, ℕ, Bool, true, false, List, [], ◌�
 use Rattle.run_names.specs.Presence.Crowd.{kept, weigh}
 use Rattle.run_executor.specs.Named.Roll.{newest}
 use Rattle.run_executor.proofs.Named.Roll.Newest.{longer}
+use Rattle.seize_words.proofs.General.{nothing_and as nothing_more}
 
 module _ {T : Type 0} (p : T → Bool) where
   -- 1 for each that passes
@@ -23,9 +24,6 @@ module _ {T : Type 0} (p : T → Bool) where
       by : (a b c : Bool) → (a || (b || c)) ≡ ((a || b) || c)
       by true b c = refl
       by false b c = refl
-
-  nothing_more : (n : ℕ) → 0 + n ≡ n
-  nothing_more n = omega arith
 
   counted : (b : Bool) (n : ℕ) → nat_lt 0 ((if b then 1 else 0) + n) ≡ (nat_lt 0 n || b)
   counted true n = lt-ltb 0 (1 + n) (omega arith) ∙ by (nat_lt 0 n)

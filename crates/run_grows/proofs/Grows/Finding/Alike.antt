@@ -28,10 +28,7 @@ use Rattle.run_grows.specs.Grows.Finding.{ShowsFinding}
 use Rattle.run_grows.proofs.Grows.Finding.Making.Between.{further_stays}
 use Rattle.run_grows.proofs.Grows.Finding.Making.Lengths.{lengths_same}
 use Rattle.run_executor.specs.Given.ScenesScene.{Scene}
-
--- this many and no fewer
-pub itself : (n : ℕ) → n ≤ n
-itself n = omega arith
+use Rattle.run_executor.proofs.Given.General.{at_most_itself as itself}
 
 -- how many tables a map has had, of the same tables
 pub many_same : {K V : Type 0} (m v : Moment K V) → v.tables ≡ m.tables → (of : ℕ) → many_of of m ≤ many_of of v

@@ -14,12 +14,13 @@ use Rattle.run_sweeps.specs.Given.FindsWithin.{many_of}
 use Rattle.run_sweeps.proofs.Given.FindsGrows.Between.{growing_stays}
 use Rattle.run_sweeps.proofs.Given.FindsWaits.Between.{waits_stay}
 use Rattle.run_grows.specs.Grows.Finding.{ShowsFinding}
-use Rattle.run_grows.proofs.Grows.Finding.Alike.{held_in, itself, map_same}
+use Rattle.run_grows.proofs.Grows.Finding.Alike.{held_in, map_same}
 use Rattle.run_grows.proofs.Grows.Finding.Making.Between.{further_stays}
 use Rattle.run_grows.proofs.Grows.Finding.Making.Lengths.{KeepsLengths}
 use Rattle.run_grows.proofs.Grows.Finding.Puts.{puts_beside}
 use Rattle.run_executor.specs.Given.ScenesHeld.{Held, IsAt}
 use Rattle.run_executor.specs.Given.ScenesScene.{Scene}
+use Rattle.run_executor.proofs.Given.General.{at_most_itself as itself}
 
 -- a place is in a map, or in none
 in_which : (p : Place) → is_in_a_map p ≡ true → (map : ℕ) × (p ≡ InMap map)

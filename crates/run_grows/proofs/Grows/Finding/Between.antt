@@ -31,7 +31,6 @@ use Rattle.run_executor.specs.Given.EffectsDeclared.role.Role.TheVariants as rol
 use Rattle.run_executor.specs.Given.FinishesMachines.{machine_of}
 use Rattle.run_executor.specs.Given.FinishesMaps.{Standing, with_call as with_in}
 use Rattle.run_executor.specs.Given.FollowsCalls.{ShowsCalls as IsThere}
-use Rattle.run_executor.proofs.Given.FollowsSteps.{one_of}
 use Rattle.run_executor.proofs.Given.HandsAsking.{which}
 use Rattle.run_logged.specs.Given.SettlesDue.{ToPut, due_in_row}
 use Rattle.run_logged.specs.Given.SettlesHand.{HoldsAt, IsPairAt, IsPairRole, NotesInHand, NotesOfCall, NotesOfSweep, ShowsOwed, in_hand, in_hand_of_call, in_hand_of_sweep, thing_as, things_at}
@@ -45,7 +44,7 @@ use Rattle.run_sweeps.proofs.Given.FindsWaits.Behind.{call_put, room_never, swee
 use Rattle.run_sweeps.proofs.Given.FindsWaits.Between.{waits_follow_owed, waits_stay}
 use Rattle.run_sweeps.proofs.Given.FindsWaits.Puts.{puts_stay}
 use Rattle.run_grows.specs.Grows.Finding.{ShowsFinding}
-use Rattle.run_grows.proofs.Grows.Finding.Alike.{held_in, itself, many_same, stood_as}
+use Rattle.run_grows.proofs.Grows.Finding.Alike.{held_in, many_same, stood_as}
 use Rattle.run_grows.proofs.Grows.Finding.Making.Between.{further_stays}
 use Rattle.run_grows.proofs.Grows.Finding.Making.Lengths.{lengths_same}
 use Rattle.run_executor.proofs.Given.ScenesMay.{standing_is}
@@ -53,6 +52,7 @@ use Rattle.run_executor.specs.Given.ScenesBeginning.{Begins}
 use Rattle.run_executor.specs.Given.ScenesHeld.{Held, IsAt}
 use Rattle.run_executor.specs.Given.ScenesReplying.{scene_with, unless_stopped}
 use Rattle.run_executor.specs.Given.ScenesScene.{Scene, slot_of}
+use Rattle.run_executor.proofs.Given.General.{same_some as one_of, at_most_itself as itself}
 
 -- A call that begins has no pair in hand, and is to put none behind a table.
 

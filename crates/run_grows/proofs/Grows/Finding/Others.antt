@@ -33,7 +33,7 @@ use Rattle.run_sweeps.proofs.Given.FindsCapacities.{capacities_stay, effects_kee
 use Rattle.run_sweeps.proofs.Given.FindsGrows.Steps.{tables_have_been}
 use Rattle.run_grows.proofs.Grows.Finding.Making.Lengths.{effects_keep_lengths}
 use Rattle.run_grows.specs.Grows.Finding.{ShowsFinding}
-use Rattle.run_grows.proofs.Grows.Finding.Alike.{itself, stood_as}
+use Rattle.run_grows.proofs.Grows.Finding.Alike.{stood_as}
 use Rattle.run_grows.proofs.Grows.Finding.Aside.{endings_leave_spots, makings_leave_spots, rows_leave_spots}
 use Rattle.run_grows.proofs.Grows.Finding.Beside.{finding_beside}
 use Rattle.run_executor.specs.Given.ScenesEnding.{EndingLeads}
@@ -42,6 +42,7 @@ use Rattle.run_executor.specs.Given.ScenesMaking.{MakingLeads}
 use Rattle.run_executor.specs.Given.ScenesOnSlots.{RowBegins, RowLeads}
 use Rattle.run_executor.specs.Given.ScenesRows.{request_of}
 use Rattle.run_executor.specs.Given.ScenesScene.{IsOnSlot, Scene, slot_of}
+use Rattle.run_executor.proofs.Given.General.{at_most_itself as itself}
 
 -- the scene after a step of the end of a map
 module _ {K V : Type 0} (same : K → K → Bool) (hash : ℕ → K → ℕ) (s : Scene K V) (old new : Held K V) (i : ℕ) (f : Finishing K V) (here : s.enders i ≡ Some f) where

@@ -38,10 +38,10 @@ use Rattle.run_logged.specs.Given.SettlesDue.{ToPut, due_in_calling, due_in_copy
 use Rattle.run_sweeps.specs.Given.FindsPuts.{IsBehindNext, ShowsPuts}
 use Rattle.run_sweeps.specs.Given.FindsWaits.{waits_in, waits_in_calling, waits_in_sweeping}
 use Rattle.run_sweeps.proofs.Given.FindsWaits.Behind.{IsBehind, key_behind, room_never, sweep_behind}
-use Rattle.run_sweeps.proofs.Given.FindsWaits.Due.{never_put}
 use Rattle.run_executor.proofs.Given.ScenesMay.{standing_is}
 use Rattle.run_executor.specs.Given.ScenesHeld.{Held, IsAt}
 use Rattle.run_executor.specs.Given.ScenesScene.{Scene, slot_of}
+use Rattle.run_logged.proofs.Given.SettlesHand.Behind.{settle_puts as never_put}
 
 -- what has a list is there
 listed : {K V : Type 0} (o : Option (Node K V)) (d : ℕ) → list_in deferred_word o ≡ Some d → IsSome o

@@ -1,6 +1,6 @@
 -- The table that a reservation links is the first of its map, for so many further pairs, or follows the last one by what it has counted, or as its copier makes it; and it may ask for each block that
 -- it makes.
-use Rattle.std.specs.Prelude.{◌≡◌, ℕ, suc, ◌+◌, ◌^◌, ◌≤◌, nat_le, nat_lt, max, Bool, true, false, List, [], ◌∷◌, length, Some, Ok, Err, if◌then◌else◌}
+use Rattle.std.specs.Prelude.{◌≡◌, ℕ, suc, ◌+◌, ◌^◌, nat_le, max, Bool, true, false, List, [], ◌∷◌, length, Some, Ok, Err, if◌then◌else◌}
 use Rattle.std.proofs.Common.{refl, ap, sym, subst, ◌∙◌, arith, inl, inr}
 use Rattle.std.proofs.lemmas.Bool.{leb-true}
 use Rattle.run_executor.specs.Given.SeizeWordsMem.{Mem}
@@ -51,7 +51,6 @@ use Rattle.run_executor.specs.Given.EffectsDeclared.acting.Acting.TheVariants as
 use Rattle.run_executor.specs.Given.FinishesMachines.{machine_of}
 use Rattle.run_executor.specs.Given.FinishesMaps.{Standing}
 use Rattle.run_executor.specs.Given.FollowsFinds.{FindsMap}
-use Rattle.run_executor.proofs.Given.FollowsSteps.{one_of}
 use Rattle.run_executor.specs.Given.MomentsWhole.{ShowsWhole}
 use Rattle.run_logged.specs.Given.OwesMaking.{making_in_reserving, making_of}
 use Rattle.run_logged.specs.Given.OwesTables.{ShowsTables, of_map, table_in, table_made}
@@ -78,6 +77,7 @@ use Rattle.run_executor.specs.Given.ScenesHeld.{Held, IsAt}
 use Rattle.run_executor.specs.Given.ScenesScene.{Scene, slot_of}
 use Rattle.run_executor.specs.Given.ScenesStepping.{StepLeads}
 use Rattle.run_schedules.specs.Schedules.Transition.{Past}
+use Rattle.run_executor.proofs.Given.General.{less_false as not_less, same_some as one_of}
 
 -- what a reservation is called for
 pub its_more : {K V : Type 0} (r : CallForRoom) (its : Call K V) → IsFor (ForRoom r) its → its ≡ call.Reserve r.reserve.additional
@@ -106,9 +106,6 @@ module _ {K V : Type 0} (terms : Terms) (moments : List (Moment K V)) (c : CallT
         (Reserved p.additional, is.0.0, initial, made_for, may_make (last_of x ts), is.0.2, is.1)
 
 -- a first table that can be had is for no more pairs than can be
-
-not_less : (a b : ℕ) → b ≤ a → nat_lt a b ≡ false
-not_less a b l = grind (arith, l)
 
 few_of : (pairs len : ℕ) → Has (len_of pairs) len → is_too_many (0 + pairs) ≡ false
 few_of pairs len has = ap is_too_many (let same : 0 + pairs ≡ pairs = omega arith in same) ∙ by (nat_le (places_for pairs) (2 ^ 48)) refl has

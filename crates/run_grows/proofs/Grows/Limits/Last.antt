@@ -24,6 +24,7 @@ use Rattle.papaya_raw.proofs.Given.TablesEnds.{longest}
 use Rattle.run_executor.proofs.Given.FollowsFinds.{first_is}
 use Rattle.run_sweeps.proofs.Given.FindsGrows.There.{last_has_none}
 use Rattle.run_grows.specs.Grows.Limits.{IsAtLimit}
+use Rattle.run_executor.proofs.Given.General.{or_either as or_one}
 
 -- as long as a table can be, or with the last turn
 abbrev pub is_longest : TableThere → Bool
@@ -67,11 +68,6 @@ any_of map c stage q t (suc n) less is = elim (cases_lt t n) as (λ _. list_any 
       any_last q (tables_to map c stage n) (record { table = table_of map n; shape = shape_at map c n; stage = stage n })
       (let same : t ≡ n = omega (arith, less, above) in subst (λ (k : ℕ). q (record { table = table_of map k; shape = shape_at map c k; stage = stage k }) ≡ true) same is)
 ]
-
-or_one : (a b : Bool) → (a ≡ true) ⊎ (b ≡ true) → (a || b) ≡ true
-or_one a b (inl is) = ap (λ (x : Bool). x || b) is
-or_one true b (inr is) = refl
-or_one false b (inr is) = is
 
 -- So a table of the map from its root on that none can follow is shown at the limit.
 pub limit_there : {K V : Type 0} (map : ℕ) (number : ℕ → ℕ) (s : Standing K) (m : Moment K V) (known : Known) → ShowsMap map number s m known → (t : ℕ) → s.chart.first ≤ t → t < s.chart.past → IsTableLen (s.chart.len t)

@@ -41,11 +41,12 @@ use Rattle.papaya_raw.proofs.Given.TablesEnds.{only_the_last_ends}
 use Rattle.run_executor.proofs.Given.LateKindsKept.Rooms.Asks.{reserve_asks}
 use Rattle.run_executor.proofs.Given.LateKindsKept.Rooms.Bound.{Keeps, calling_on, reserving_on, sweeping_on}
 use Rattle.run_executor.proofs.Given.LateKindsKept.Rooms.Calling.{CallsAs, key_as, key_told_as}
-use Rattle.run_executor.proofs.Given.LateKindsKept.Rooms.Making.{CountsOn, at_least, sum_counts}
+use Rattle.run_executor.proofs.Given.LateKindsKept.Rooms.Making.{CountsOn, sum_counts}
 use Rattle.run_executor.proofs.Given.LateKindsKept.Rooms.Reserving.{ReservesAs, reserve_as}
 use Rattle.run_executor.proofs.Given.LateKindsKept.Rooms.Sweeping.{SweepsAs, sweep_as, told_as_on}
 use Rattle.run_grows.specs.Grows.Limits.{IsFor, IsForBehind, MachineEnds, NeedsMore, RoomEnds, SaysFor}
 use Rattle.run_executor.specs.Given.ScenesStepping.{has_ended}
+use Rattle.run_executor.proofs.Given.General.{less_not as at_least}
 
 module _ (Why : Type 0) where
   -- the fault is another one

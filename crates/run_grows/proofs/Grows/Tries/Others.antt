@@ -25,7 +25,6 @@ use Rattle.run_executor.proofs.Given.MomentsMakingSteps.{makings_go_beside}
 use Rattle.run_executor.proofs.Given.MomentsOnSlots.{row_beside, rows_begin_beside}
 use Rattle.run_sweeps.specs.Given.FindsWithin.{many_of}
 use Rattle.run_sweeps.proofs.Given.FindsGrows.Steps.{tables_have_been}
-use Rattle.run_grows.proofs.Grows.Finding.Alike.{itself}
 use Rattle.run_grows.proofs.Grows.Finding.Aside.{endings_leave_spots, makings_leave_spots, rows_leave_spots}
 use Rattle.run_sweeps.specs.Sources.Sources.{ShowsSources}
 use Rattle.run_grows.specs.Grows.Tries.{ShowsTries}
@@ -38,6 +37,7 @@ use Rattle.run_executor.specs.Given.ScenesOnSlots.{RowBegins, RowLeads}
 use Rattle.run_executor.specs.Given.ScenesRows.{request_of}
 use Rattle.run_executor.specs.Given.ScenesScene.{IsOnSlot, Scene, slot_of}
 use Rattle.run_schedules.specs.Schedules.Transition.{Past}
+use Rattle.run_executor.proofs.Given.General.{at_most_itself as itself}
 
 module _ (K V : Type 0) (same : K → K → Bool) (hash : ℕ → K → ℕ) (name : ℕ → List ℕ) (log : Past K V) (m : Moment K V) (known : Known) (s : Scene K V) (old new : Held K V)
     (sources : ShowsSources same name m known s) (tries : ShowsTries name log m s) where

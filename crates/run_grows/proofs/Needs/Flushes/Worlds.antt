@@ -7,7 +7,7 @@ use Rattle.papaya_raw.specs.Given.SeizeDeclared.states.TheConstants.{LAST_SLOT}
 use Rattle.papaya_raw.specs.Given.SeizeLaw.{is_open}
 use Rattle.papaya_raw.specs.Given.SeizeSettle.{flushing}
 use Rattle.papaya_raw.specs.Given.SeizeWorld.{World, Row, Rests, Settles, Use, Vacant, Outside, Inside, Changing, Flush, Begin, Step, Begins, IsInside, Steps'}
-use Rattle.run_executor.proofs.Given.SeizeMovesState.Ghost.{Head, Never, Free, Idle, Active, State, emptied, is_active}
+use Rattle.run_executor.proofs.Given.SeizeMovesState.Ghost.{Head, Never, State, emptied, is_active}
 use Rattle.run_executor.proofs.Given.SeizeRulePoints.Told.{Told, part}
 use Rattle.run_executor.proofs.Given.SeizeRuleRows.Known.{FitsRow}
 use Rattle.run_executor.proofs.Given.SeizeRuleRows.Others.{with_here}
@@ -21,16 +21,10 @@ use Rattle.run_executor.proofs.Given.SeizeRuleWorld.Begins.{begins_next}
 use Rattle.run_executor.proofs.Given.SeizeRuleWorld.Good.{Good, Next}
 use Rattle.run_executor.proofs.Given.SeizeRuleWorld.Kept.{steps_next}
 use Rattle.run_grows.proofs.Needs.Flushes.Moves.{FlushesOn, flush_moves}
+use Rattle.run_executor.proofs.Given.SeizeRuleRows.Leaving.{active_head_of as active_by}
 
 abbrev pub slots : ℕ
 slots = LAST_SLOT + 1
-
--- a slot within a section is active
-active_by : (h : Head) → emptied h ≡ Active [] → is_active h ≡ true
-active_by Never is = absurd (cc is)
-active_by Free is = absurd (cc is)
-active_by Idle is = absurd (cc is)
-active_by (Active es) is = refl
 
 inside_active : (u : Use) (h : Head) (k : ℕ) (o : Bool) → IsInside u → UseFits u (emptied h) k o → is_active h ≡ true
 inside_active Vacant h k o inside fits = absurd inside

@@ -15,7 +15,6 @@ use Rattle.run_places.specs.Given.CallersTogether.{CallOnKey, UnderWay, OnKey, F
 use Rattle.run_places.specs.Given.EffectsEffects.{known_after}
 use Rattle.run_places.specs.Given.EffectsKnown.{Known}
 use Rattle.run_places.specs.Given.EffectsDeclared.acting.Acting.TheVariants as acts
-use Rattle.run_places.proofs.Given.FollowsSteps.{one_of}
 use Rattle.run_places.specs.Hands.Calling.{AsksJust}
 use Rattle.run_histories.specs.Histories.AsCalled.{AsksAsCalled}
 use Rattle.run_histories.specs.Histories.Asking.{IsToldQuestion}
@@ -31,6 +30,7 @@ use Rattle.run_places.specs.Given.ScenesHeld.{Held, IsAt}
 use Rattle.run_places.specs.Given.ScenesScene.{Scene}
 use Rattle.run_places.specs.Given.ScenesStepping.{StepLeads}
 use Rattle.run_places.specs.Given.SchedulesTransition.{Past}
+use Rattle.run_places.proofs.Given.General.{same_some as one_of}
 
 module _ {K V : Type 0} (known : Known) where
   abbrev AsksSo : UnderWay K V K → Outcome V → Type 0

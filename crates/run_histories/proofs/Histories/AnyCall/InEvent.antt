@@ -23,7 +23,6 @@ use Rattle.run_places.specs.Given.FollowsCalls.{IsCalled}
 use Rattle.run_places.specs.Given.FollowsShows.{Shows}
 use Rattle.run_places.specs.Given.FollowsSteps.{Did}
 use Rattle.run_places.proofs.Given.FollowsCalled.{key_goes_on, room_goes_on, counting_goes_on, sweep_goes_on}
-use Rattle.run_places.proofs.Given.FollowsSteps.{one_of}
 use Rattle.run_places.specs.Moments.Whole.{ShowsWhole}
 use Rattle.run_places.proofs.Moments.Calls.{calls_keep_whole}
 use Rattle.run_histories.specs.Histories.AsCalled.{ShowsAsCalled}
@@ -45,6 +44,7 @@ use Rattle.run_places.specs.Given.ScenesHeld.{Held, IsAt}
 use Rattle.run_places.specs.Given.ScenesScene.{Scene}
 use Rattle.run_places.specs.Given.ScenesStepping.{StepLeads, scene_after}
 use Rattle.run_places.specs.Given.SchedulesTransition.{Past, Transition}
+use Rattle.run_places.proofs.Given.General.{same_some as one_of}
 
 module _ {K V : Type 0} (same : K → K → Bool) where
   -- a call on one key was called on it, and any other one on none

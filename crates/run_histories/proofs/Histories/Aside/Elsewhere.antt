@@ -31,7 +31,6 @@ use Rattle.run_places.specs.Given.FinishesMaps.{Standing, with_call}
 use Rattle.run_places.specs.Given.FollowsCalling.{NoneNamed, come_to}
 use Rattle.run_places.specs.Given.FollowsCalls.{IsCalled}
 use Rattle.run_places.specs.Given.FollowsShows.{Shows}
-use Rattle.run_places.proofs.Given.FollowsSteps.{one_of}
 use Rattle.run_places.specs.Hands.Hands.{IsInUse}
 use Rattle.run_places.proofs.Hands.Asking.{which}
 use Rattle.run_places.specs.Given.OthersAfter.{ShowsAfter}
@@ -62,6 +61,7 @@ use Rattle.run_places.specs.Given.ScenesHeld.{Held, IsAt}
 use Rattle.run_places.specs.Given.ScenesMaking.{MakingComesTo}
 use Rattle.run_places.specs.Given.ScenesReplying.{scene_with, unless_stopped}
 use Rattle.run_places.specs.Given.ScenesScene.{Scene}
+use Rattle.run_places.proofs.Given.General.{same_some as one_of}
 
 -- where a making, and an end, has come, the scene is that of what is held
 module _ {K V : Type 0} (same : K → K → Bool) (hash : ℕ → K → ℕ) (s : Scene K V) (old new : Held K V) where

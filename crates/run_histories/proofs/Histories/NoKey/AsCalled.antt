@@ -29,7 +29,7 @@ use Rattle.run_places.specs.Given.FollowsShows.{Shows}
 use Rattle.run_places.specs.Given.FollowsSteps.{Did}
 use Rattle.run_places.proofs.Given.FollowsCalled.{key_goes_on, room_goes_on, counting_goes_on, sweep_goes_on}
 use Rattle.run_places.proofs.Given.FollowsOnward.{IsLasting, KeepsRoles}
-use Rattle.run_places.proofs.Given.FollowsSteps.{WentTo, LeadsThere, one_of}
+use Rattle.run_places.proofs.Given.FollowsSteps.{WentTo, LeadsThere}
 use Rattle.run_places.proofs.Hands.Asking.{which}
 use Rattle.run_places.proofs.Hands.Replacing.{IsOn, calls_after}
 use Rattle.run_places.specs.Moments.Whole.{ShowsWhole}
@@ -39,6 +39,7 @@ use Rattle.run_histories.proofs.Histories.NoKey.Sweeps.{SweepsOn, sweeps_on, ask
 use Rattle.run_places.specs.Given.ScenesHeld.{Held, IsAt}
 use Rattle.run_places.specs.Given.ScenesScene.{Scene}
 use Rattle.run_places.specs.Given.ScenesStepping.{StepLeads, StepsFrom, scene_after}
+use Rattle.run_places.proofs.Given.General.{same_some as one_of}
 
 module _ (number number2 : ℕ → ℕ) (stored stored2 : ℕ) (more : stored ≤ stored2) (numbers : (n : ℕ) → n < stored → number2 n ≡ number n) where
   pub last_kept : {V : Type 0} (v : Option Verdict) (replies : List (Option ℕ × Reply V)) → IsLastTold number stored v replies → IsLastTold number2 stored2 v replies

@@ -33,7 +33,6 @@ use Rattle.run_places.specs.Given.FollowsCalling.{told, come_to}
 use Rattle.run_places.specs.Given.FollowsShows.{Shows}
 use Rattle.run_places.proofs.Given.FollowsCalling.{is_same_refl, replied_same, come, begins_with, told_with, come_with}
 use Rattle.run_places.proofs.Given.FollowsCalls.{found}
-use Rattle.run_places.proofs.Given.FollowsSteps.{one_of}
 use Rattle.run_places.specs.Hands.Asked.{as_told}
 use Rattle.run_places.proofs.Hands.Asking.{which}
 use Rattle.run_places.proofs.Hands.Calling.{caller_is}
@@ -44,6 +43,7 @@ use Rattle.run_histories.proofs.Histories.Roles.{named_by}
 use Rattle.run_places.specs.Given.ScenesHeld.{Held, IsAt}
 use Rattle.run_places.specs.Given.ScenesReplying.{scene_with}
 use Rattle.run_places.specs.Given.ScenesScene.{Scene, slot_of}
+use Rattle.run_places.proofs.Given.General.{same_some as one_of}
 
 -- where one begins
 

@@ -38,7 +38,6 @@ use Rattle.run_places.specs.Given.EffectsDeclared.acting.Acting.TheVariants as a
 use Rattle.run_places.specs.Given.FinishesMachines.{machine_of}
 use Rattle.run_places.specs.Given.FinishesMaps.{Standing}
 use Rattle.run_places.specs.Given.FollowsSteps.{Did}
-use Rattle.run_places.proofs.Given.FollowsSteps.{one_of}
 use Rattle.run_histories.specs.Histories.AsCalled.{purpose_of, IsAsCalled, ShowsAsCalled}
 use Rattle.run_histories.specs.Histories.Asking.{IsToldQuestion}
 use Rattle.run_histories.specs.Histories.Due.{ShowsDue}
@@ -55,6 +54,7 @@ use Rattle.run_places.specs.Given.ScenesHeld.{Held, IsAt}
 use Rattle.run_places.specs.Given.ScenesScene.{Scene, slot_of}
 use Rattle.run_places.specs.Given.ScenesStepping.{StepLeads, StepsFrom, scene_after}
 use Rattle.run_places.specs.Given.SchedulesTransition.{Past, Transition, worked_by}
+use Rattle.run_places.proofs.Given.General.{same_some as one_of}
 
 -- a reservation and a counting say of nothing that they ask it
 module _ {T : Type 0} where

@@ -16,13 +16,13 @@ use Rattle.run_places.proofs.Given.CallersTogether.At.{at_same}
 use Rattle.run_places.proofs.Given.CallersTogether.Fits.{map_in_slot}
 use Rattle.run_places.specs.Given.FinishesMachines.{DidOfKind}
 use Rattle.run_places.specs.Given.FinishesMaps.{Standing, IsSameMap}
-use Rattle.run_places.proofs.Given.FollowsSteps.{one_of}
 use Rattle.run_histories.specs.Promises.Brief.{TablesLast}
 use Rattle.run_histories.specs.Promises.Reading.{HasStood}
 use Rattle.run_histories.proofs.Promises.Brief.Stays.{same_tables}
 use Rattle.run_places.specs.Given.ScenesHeld.{Held, IsAt}
 use Rattle.run_places.specs.Given.ScenesScene.{Scene, slot_of}
 use Rattle.run_places.specs.Given.ScenesStepping.{StepLeads}
+use Rattle.run_places.proofs.Given.General.{same_some as one_of}
 
 -- a map that is as it was
 pub same_stood : {K : Type 0} (maps : ℕ → Option (Standing K)) (n : ℕ) (after : Option (Standing K)) → IsSameMap (maps n) after → (st : Standing K) → after ≡ Some st → HasStood maps n st

@@ -24,7 +24,6 @@ use Rattle.run_places.specs.Given.FinishesMaps.{Standing}
 use Rattle.run_places.specs.Given.FollowsCalling.{NoneNamed, come_to, told}
 use Rattle.run_places.proofs.Given.FollowsCalling.{is_same_refl, apart_back, come, come_of_same, found_kept, replied_same}
 use Rattle.run_places.proofs.Given.FollowsCalls.{changed_same, changed, of_same, found}
-use Rattle.run_places.proofs.Given.FollowsSteps.{one_of}
 use Rattle.run_places.proofs.Hands.Asking.{which}
 use Rattle.run_places.proofs.Hands.Calling.{caller_is}
 use Rattle.run_places.proofs.Changes.Begun.{effects_begun, comes_begun, if_begun, replied_begun}
@@ -37,6 +36,7 @@ use Rattle.run_histories.proofs.Promises.Brief.Stays.{same_tables, readings_stay
 use Rattle.run_places.specs.Given.ScenesReplying.{scene_with}
 use Rattle.run_places.specs.Given.ScenesScene.{Scene}
 use Rattle.run_places.specs.Given.ScenesStepping.{scene_after}
+use Rattle.run_places.proofs.Given.General.{same_some as one_of}
 
 module _ {K V : Type 0} where
   asks_steps : (question : Option ℕ) (c : CallThere K V) (stands : Stands) → (asks_on question c stands).steps ≡ c.steps
@@ -100,7 +100,7 @@ module _ {K V : Type 0} where
       (rest.0, rest.1, rest.2 ∙ if_steps (call_by m f) (by_steps m f) c (is_same c.caller own), rest.3 ∙ (of_same (call_by m f) (changed_same m f) own c).2)
 
 -- a map that stands as it does
-stands_so : {K : Type 0} (maps : ℕ → Option (Standing K)) (n : ℕ) (st : Standing K) → maps n ≡ Some st → HasStood maps n st
+pub stands_so : {K : Type 0} (maps : ℕ → Option (Standing K)) (n : ℕ) (st : Standing K) → maps n ≡ Some st → HasStood maps n st
 stands_so maps n st is = (st, is, refl, same_tables st.chart)
 
 module _ {K V : Type 0} (name : ℕ → List ℕ) (m : Moment K V) (s : Scene K V) (own : List ℕ) (o : Outcome V) (steps : ℕ) (ended : ends_call o ≡ true → NoneNamed name own s) where

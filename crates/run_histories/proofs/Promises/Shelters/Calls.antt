@@ -52,12 +52,13 @@ use Rattle.run_places.proofs.Moments.Calls.{of_row}
 use Rattle.run_histories.specs.Promises.Shelters.{CallsShelter}
 use Rattle.run_histories.specs.Promises.Sheltered.{AreShelteredOn, GuardsAreOn, HasCome, IsOfThing, IsShelteredOn}
 use Rattle.run_histories.proofs.Promises.Shelters.Lasting.{Lasts, of_map, all_last, guards_last}
-use Rattle.run_histories.proofs.Promises.Lists.{all_append, all_of, passed_all, IsFound, all_found, all_shelter}
+use Rattle.run_histories.proofs.Promises.Lists.{all_of, passed_all, IsFound, all_found, all_shelter}
 use Rattle.run_histories.proofs.Promises.Shelters.Outs.{KeepsIn, OutFirst, AreFew, TakesOwn, calm_keep, room_keeps, effects_few, keep_all}
 use Rattle.run_histories.proofs.Promises.Shelters.Within.{GoOn, GoOnByRows, Sections, Within, call_goes_on, over_row, within_sections}
 use Rattle.run_places.specs.Given.ScenesHeld.{Held, IsAt}
 use Rattle.run_places.specs.Given.ScenesScene.{Scene}
 use Rattle.run_places.specs.Given.ScenesStepping.{StepLeads, scene_after}
+use Rattle.run_places.proofs.Given.General.{all_append}
 
 -- what a row within a call does takes nothing out of a map
 

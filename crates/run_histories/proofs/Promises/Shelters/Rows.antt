@@ -1,5 +1,5 @@
 -- A step of a row on a slot leaves sheltered what is so, and reclaims none of it.
-use Rattle.std.specs.Prelude.{◌≡◌, ◌==◌, ℕ, nat_lt, Bool, true, false, ◌||◌, ◌&&◌, List, [], ◌∷◌, if◌then◌else◌}
+use Rattle.std.specs.Prelude.{◌≡◌, ℕ, nat_lt, Bool, true, false, ◌||◌, ◌&&◌, List, [], ◌∷◌, if◌then◌else◌}
 use Rattle.std.proofs.Common.{refl, sym, subst, ap, ◌∙◌, arith, inl}
 use Rattle.run_places.specs.Given.SeizeWordsMem.{Mem, value_at}
 use Rattle.run_places.specs.Given.SeizeWordsDeclared.at.At.TheVariants.{Root, Used, Slot, Entry, Word}
@@ -13,12 +13,11 @@ use Rattle.run_places.specs.Given.TablesDeclared.node.Node.{Node}
 use Rattle.run_places.specs.Given.RunsPresent.{Present}
 use Rattle.run_places.specs.Given.RunsDeclared.effect.Effect.TheVariants.{Asked}
 use Rattle.run_places.specs.Given.RunsDeclared.effect.Growth.TheVariants.{ABucket}
-use Rattle.run_places.specs.Given.RunsDeclared.effect.TableId.{TableId}
 use Rattle.run_places.specs.Given.RunsDeclared.effect.Thing.{Thing}
 use Rattle.run_places.specs.Given.RunsDeclared.effect.Thing.TheVariants.{APair, ATable}
 use Rattle.run_places.specs.Given.SchedulesLists.{is_in}
 use Rattle.run_places.specs.Given.SchedulesMoment.{Sheltered, Moment}
-use Rattle.run_places.specs.Given.SchedulesThings.{same_table, same_thing}
+use Rattle.run_places.specs.Given.SchedulesThings.{same_thing}
 use Rattle.run_places.specs.Given.EffectsDeclared.changed.Changed.{Changed}
 use Rattle.run_places.specs.Given.EffectsDeclared.changed.Changed.TheVariants as changed
 use Rattle.run_places.proofs.Given.CallersTogether.Came.{came_reached}
@@ -44,20 +43,10 @@ use Rattle.run_places.proofs.Given.ScenesMay.{may_row}
 use Rattle.run_places.specs.Given.ScenesHeld.{Held, IsAt}
 use Rattle.run_places.specs.Given.ScenesOnSlots.{HappensAt, RowSteps}
 use Rattle.run_places.specs.Given.ScenesScene.{IsOnSlot, Scene}
+use Rattle.run_places.proofs.Given.General.{both_true}
+use Rattle.run_places.proofs.Spots.Unreclaimed.{table_is as tables_are}
 
 -- two things that are the same
-
-both_true : (p q : Bool) → (p && q) ≡ true → (p ≡ true) × (q ≡ true)
-both_true true true e = (refl, refl)
-both_true true false e = absurd (cc e)
-both_true false q e = absurd (cc e)
-
-tables_are : (t u : TableId) → same_table t u ≡ true → t ≡ u
-tables_are t u e =
-    let both = both_true (t.map == u.map) (t.turn == u.turn) e in
-    let maps : t.map ≡ u.map = grind (arith, both.0) in
-    let turns : t.turn ≡ u.turn = grind (arith, both.1) in
-    ap (λ (x : ℕ). record { map = x; turn = t.turn }) maps ∙ ap (λ (x : ℕ). record { map = u.map; turn = x }) turns
 
 pub things_are : (x y : Thing) → same_thing x y ≡ true → x ≡ y
 things_are (APair n) (APair k) e = (let it : n ≡ k = grind (arith, e) in ap APair it)

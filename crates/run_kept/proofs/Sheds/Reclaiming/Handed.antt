@@ -37,9 +37,8 @@ use Rattle.run_waiting.specs.Lives.Handed.{IsToHand, IsHandedOver, ShowsHanded}
 use Rattle.run_waiting.specs.Lives.Waiting.{waits_behind}
 use Rattle.run_waiting.proofs.Lives.HandedOver.{came_listed}
 use Rattle.run_waiting.proofs.Lives.HandedTaken.{taking_keeps}
-use Rattle.run_waiting.proofs.Lives.Listed.{Listing, carries_lives, carries_some, runs_listed}
+use Rattle.run_waiting.proofs.Lives.Listed.{Listing, carries_some, runs_listed}
 use Rattle.run_waiting.proofs.Lives.Logs.{waits_no_more, waits_not, waits_on}
-use Rattle.run_waiting.proofs.Lives.RetiredEnds.{handed_lives}
 use Rattle.run_waiting.proofs.Lives.Worlds.{has_it, log_back}
 use Rattle.run_kept.proofs.Sheds.Reclaiming.Rows.{EmptiesRoot, reclaiming_tells}
 use Rattle.run_kept.proofs.Sheds.Reclaiming.Steps.{kept as kept_there, left, no_call, reached, root_none, nothing_there}
@@ -47,6 +46,8 @@ use Rattle.run_kept.proofs.Sheds.Reclaiming.Waits.{begun_log}
 use Rattle.run_shows.specs.Scenes.Held.{Held}
 use Rattle.run_shows.specs.Scenes.Scene.{HasCall, Scene}
 use Rattle.run_shows.proofs.Scenes.Leads.{happens}
+use Rattle.run_shows.proofs.Given.FinishesBeside.Makings.Outs.{handed_lives}
+use Rattle.run_shows.proofs.Given.SeizeAloneHistories.Waiting.{carries_lives}
 
 -- what rows on slots do to what waits
 module _ {K V : Type 0} (size i p : ℕ) where

@@ -34,7 +34,6 @@ use Rattle.run_waiting.specs.Lives.Order.{ShowsOrder}
 use Rattle.run_waiting.specs.Lives.Retired.{IsToRetire, ShowsRetired}
 use Rattle.run_waiting.proofs.Lives.Once.{once_fewer, row_fewer}
 use Rattle.run_waiting.proofs.Lives.Reclaimed.{stays_so}
-use Rattle.run_waiting.proofs.Lives.RetiredEnds.{handed_lives}
 use Rattle.run_waiting.proofs.Lives.Stages.{still_retired}
 use Rattle.run_waiting.proofs.Lives.Users.{left_lives}
 use Rattle.run_waiting.proofs.Lives.Worlds.{Kept}
@@ -45,6 +44,7 @@ use Rattle.run_kept.proofs.Sheds.Reclaiming.Steps.{kept as kept_there, left, no_
 use Rattle.run_kept.proofs.Sheds.Reclaiming.Waits.{kept_then, rows_leave_waiting}
 use Rattle.run_shows.specs.Scenes.Held.{Held}
 use Rattle.run_shows.specs.Scenes.Scene.{HasCall, Scene}
+use Rattle.run_shows.proofs.Given.FinishesBeside.Makings.Outs.{handed_lives}
 
 module _ {K V : Type 0} (same : K → K → Bool) (hash : ℕ → K → ℕ) (name : ℕ → List ℕ) (m : Moment K V) (known : Known) (s : Scene K V) (whole : ShowsWhole same name m known s)
     (waiting : ShowsWaiting m known s.world) (once : WaitsOnce m.deferred) (retired : ShowsRetired m known s) (lying : ShowsLying m known s.world) (order : ShowsOrder m known s.world) (no_table : NoTableLeft known s.world)

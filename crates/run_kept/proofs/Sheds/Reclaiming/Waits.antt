@@ -49,7 +49,6 @@ use Rattle.run_waiting.specs.Lives.Behind.{IsLeft, NoTableLeft, LiesBehind, Each
 use Rattle.run_waiting.specs.Lives.Waiting.{waits_behind}
 use Rattle.run_waiting.proofs.Lives.Each.{each_on, each_both, each_kept}
 use Rattle.run_waiting.proofs.Lives.Logs.{waits_on}
-use Rattle.run_waiting.proofs.Lives.RetiredEnds.{handed_lives}
 use Rattle.run_waiting.proofs.Lives.Taken.{there_still}
 use Rattle.run_waiting.proofs.Lives.Worlds.{Kept, log_back, runs_kept, start_kept, has_it}
 use Rattle.run_kept.proofs.Sheds.Reclaiming.Rows.{rows_kept}
@@ -57,6 +56,7 @@ use Rattle.run_kept.proofs.Sheds.Reclaiming.Steps.{reached}
 use Rattle.run_shows.specs.Scenes.Held.{Held}
 use Rattle.run_shows.specs.Scenes.Scene.{Scene}
 use Rattle.run_shows.proofs.Scenes.Leads.{happens}
+use Rattle.run_shows.proofs.Given.FinishesBeside.Makings.Outs.{handed_lives}
 
 module _ {K V : Type 0} (size : ℕ) where
   -- such a row tells nothing as it begins

@@ -5,8 +5,9 @@ use Rattle.run_schedules.specs.declared.holders.NamedGuard.{NamedGuard}
 use Rattle.run_schedules.specs.declared.holders.NamedRegistration.{NamedRegistration}
 use Rattle.run_schedules.specs.Runs.Present.{all_forgotten, guards_on, has_registration, living_on, registrations_on}
 use Rattle.run_names.specs.Presence.Crowd.{is_living, weigh}
-use Rattle.run_names.proofs.Presence.Crowds.Guards.{is_on, lives_on, living_weighed, on_weighed}
+use Rattle.run_names.proofs.Presence.Crowds.Guards.{is_on, lives_on, living_weighed, on_weighed, lives}
 use Rattle.run_names.proofs.Presence.Crowds.Weights.{weigh_few, weigh_more}
+use Rattle.seize_words.proofs.General.{equal_itself as same_slot}
 
 abbrev pub has_slot : ℕ → NamedRegistration → ℕ
 has_slot slot r = if r.slot == slot then 1 else 0
@@ -61,9 +62,6 @@ few_living slot guards = omega (arith, living_weighed slot guards, weigh_few (li
 pub few_all : (guards : List NamedGuard) → weigh is_living guards ≤ length guards
 few_all guards = weigh_few is_living (λ g. one_at_most_not g.forgotten) guards
 
-pub same_slot : (slot : ℕ) → (slot == slot) ≡ true
-same_slot slot = grind arith
-
 -- one more
 
 pub registered_more : (slot : ℕ) (registrations : List NamedRegistration) (r : NamedRegistration)
@@ -74,10 +72,6 @@ registered_more slot registrations r =
 
 pub held_more : (slot : ℕ) (guards : List NamedGuard) (g : NamedGuard) → guards_on slot (guards ++ g ∷ []) ≡ (if g.slot == slot then 1 else 0) + guards_on slot guards
 held_more slot guards g = on_weighed slot (guards ++ g ∷ []) ∙ weigh_more (is_on slot) guards g ∙ ap (λ n. is_on slot g + n) (sym (on_weighed slot guards))
-
--- what a guard counts that is on a slot or not, and was forgotten or not
-abbrev lives : Bool → Bool → ℕ
-lives same was = if same && not was then 1 else 0
 
 abbrev one_if : Bool → ℕ
 one_if b = if b then 1 else 0

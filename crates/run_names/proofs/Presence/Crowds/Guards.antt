@@ -24,7 +24,7 @@ abbrev pub forgotten : NamedGuard → NamedGuard
 forgotten g = record g { forgotten = true }
 
 -- what a guard weighs that is on a slot or not, and was forgotten or not
-abbrev lives : Bool → Bool → ℕ
+abbrev pub lives : Bool → Bool → ℕ
 lives same was = if same && not was then 1 else 0
 
 living_weight : (same was : Bool) (mine slot : ℕ) → (mine == slot) ≡ same → lives same was ≡ count_of slot (if was then None else Some mine)

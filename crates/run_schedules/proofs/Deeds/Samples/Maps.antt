@@ -11,13 +11,11 @@ use Rattle.run_schedules.specs.declared.effect.Effect.TheVariants.{Asked, Ended,
 use Rattle.run_schedules.specs.declared.effect.Growth.TheVariants.{ABlock}
 use Rattle.run_schedules.specs.declared.effect.TableId.{TableId}
 use Rattle.run_schedules.specs.declared.outcome.Outcome.TheVariants.{Answered, Done, Goes, Refused}
-use Rattle.run_schedules.specs.Schedules.Terms.{Terms}
 use Rattle.run_schedules.specs.Deeds.Deeds.{Begins, Ends, Entry, Makes, MapComes, MapFails, MapGoes, Opens, Steps}
 use Rattle.run_schedules.specs.Deeds.History.{MovesOn}
-use Rattle.run_schedules.proofs.Deeds.Samples.{entry, one_none, spot, yes_no}
-
-abbrev pub terms : Terms
-terms = record { batch_size = 1; processors = 1; roots = 1 }
+use Rattle.run_schedules.proofs.Deeds.Samples.{entry, one_none, spot}
+use Rattle.run_schedules.proofs.Schedules.Samples.Words.{small as terms}
+use Rattle.seize_words.proofs.General.{true_not_false as yes_no}
 
 abbrev first : TableId
 first = record { map = 0; turn = 0 }

@@ -7,8 +7,9 @@ use Rattle.run_schedules.specs.declared.effect.Thing.TheVariants.{APair}
 use Rattle.run_schedules.specs.declared.outcome.Outcome.TheVariants.{Goes}
 use Rattle.run_schedules.specs.Deeds.Deeds.{Entry, Leaves, Registers, Shuts, Tends}
 use Rattle.run_schedules.specs.Deeds.History.{MovesOn}
-use Rattle.run_schedules.proofs.Deeds.Samples.{either, entry, one_none, removed, yes_no}
-use Rattle.run_schedules.proofs.Deeds.Samples.Maps.{terms}
+use Rattle.run_schedules.proofs.Deeds.Samples.{entry, one_none, removed}
+use Rattle.run_schedules.proofs.Schedules.Samples.Words.{small as terms}
+use Rattle.seize_words.proofs.General.{either, true_not_false as yes_no}
 
 abbrev asks : Bool → ℕ → Entry ℕ ℕ
 asks refused slot = record { deed = Registers slot; outcome = Goes; effects = Asked ABucket ∷ []; refused = refused }

@@ -9,8 +9,10 @@ use Rattle.run_schedules.specs.declared.effect.Effect.TheVariants.{Removed}
 use Rattle.run_schedules.specs.declared.outcome.Outcome.TheVariants.{Answered, Asks, Goes, Ready, Refused, Shows}
 use Rattle.run_schedules.specs.Deeds.Deeds.{Begins, Entry, Replies, Steps}
 use Rattle.run_schedules.specs.Deeds.History.{IsSwept}
-use Rattle.run_schedules.proofs.Deeds.Samples.{either, entry, never, one_none, yes_no}
-use Rattle.run_schedules.proofs.Deeds.Samples.Maps.{filled, terms}
+use Rattle.run_schedules.proofs.Deeds.Samples.{entry, never, one_none}
+use Rattle.run_schedules.proofs.Deeds.Samples.Maps.{filled}
+use Rattle.run_schedules.proofs.Schedules.Samples.Words.{small as terms}
+use Rattle.seize_words.proofs.General.{either, true_not_false as yes_no}
 
 no_yes : false ≡ true → ⊥
 no_yes e = yes_no (sym e)

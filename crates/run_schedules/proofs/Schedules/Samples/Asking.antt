@@ -20,7 +20,8 @@ use Rattle.run_schedules.specs.Schedules.InTurn.{ComesRight}
 use Rattle.run_schedules.specs.Schedules.Steps.{TakesSteps}
 use Rattle.run_schedules.specs.Schedules.Linearizable.{IsLinearizable}
 use Rattle.run_schedules.specs.Schedules.Handing.{MovesOn}
-use Rattle.run_schedules.proofs.Schedules.Samples.Words.{no_yes, yes_no, found_none, wants_no, owes_one, puts_leaves, answers_refuses, AsksThere, asks_answered, Changed, goes_busy, one_shift, either, small, entry, spot, shape, makes_pair, makes_table, begin, go, call, entered, inserted}
+use Rattle.run_schedules.proofs.Schedules.Samples.Words.{no_yes, found_none, wants_no, owes_one, puts_leaves, answers_refuses, AsksThere, asks_answered, Changed, goes_busy, one_shift, small, entry, spot, shape, makes_pair, makes_table, begin, go, call, entered, inserted}
+use Rattle.seize_words.proofs.General.{either, true_not_false as yes_no}
 
 -- caller c begins a call, and gets a reply
 abbrev begun : Call ℕ ℕ → List (Entry ℕ ℕ)

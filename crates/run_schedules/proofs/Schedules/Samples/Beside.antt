@@ -21,8 +21,9 @@ use Rattle.run_schedules.specs.Schedules.Waiting.{WaitsLawfully}
 use Rattle.run_schedules.specs.Schedules.Linearizable.{IsLinearizable}
 use Rattle.run_schedules.specs.Schedules.Handing.{MovesOn}
 use Rattle.run_schedules.specs.Schedules.Reclaims.{IsProtected}
-use Rattle.run_schedules.proofs.Schedules.Samples.Words.{no_yes, yes_no, found, one_two, four_two, found_none, goes_busy, done_busy, behind_there, zero_next, nothing_below, nothing_between, either, small, entry, spot, table, shape, makes_pair, makes_table, call}
-use Rattle.run_schedules.proofs.Schedules.Samples.Filled.{made, put_there}
+use Rattle.run_schedules.proofs.Schedules.Samples.Words.{no_yes, found, one_two, four_two, found_none, goes_busy, done_busy, behind_there, zero_next, nothing_below, nothing_between, small, entry, spot, table, shape, makes_pair, makes_table, call, drop_guard as drop_g}
+use Rattle.run_schedules.proofs.Schedules.Samples.Filled.{made, put_there, one_two_tables as other_turn}
+use Rattle.seize_words.proofs.General.{either, true_not_false as yes_no}
 
 -- a map of two pairs; caller c asks about pair 1
 abbrev filled : List (Entry ℕ ℕ)
@@ -55,9 +56,6 @@ updates effects = go (Answered (answer.Updated 1 4)) (stores effects)
 
 abbrev updated : List (Entry ℕ ℕ)
 updated = updates (Deferred 1 (table 0) ∷ []) ∷ told
-
-abbrev drop_g : List Effect → Entry ℕ ℕ
-drop_g effects = entry (DropGuard (codes "g")) Done 0 effects
 
 -- what is wrong in making a map is told meanwhile, too
 fault_meanwhile : ComesRight small asked (entry (MakeMap (codes "z") (Incremental 0) 0) (Refused ZeroChunk) 0 [])
@@ -97,9 +95,6 @@ waits_for_another h = no_yes h
 -- wrong: the old pair is retired while the table that it was copied out of is the root, or put behind the one in which it lies
 retires_at_once : MovesOn small told (updates (Retired (APair 1) ∷ [])) → ⊥
 retires_at_once h = nothing_below (h.finds.1.1.1.1.1.0.1.1)
-
-other_turn : ◌≡◌ {A = ℕ} 1 2 → ⊥
-other_turn lies = cc
 
 waits_behind_newest : MovesOn small told (updates (Deferred 1 (table 1) ∷ [])) → ⊥
 waits_behind_newest h = other_turn (h.finds.1.1.1.1.1.0.1.1.1)

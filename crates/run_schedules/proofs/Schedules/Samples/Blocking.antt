@@ -7,9 +7,9 @@ use Rattle.map_tables.specs.declared.resize_mode.ResizeMode.TheVariants.{Blockin
 use Rattle.run_schedules.specs.declared.call.Call.TheVariants.{On}
 use Rattle.run_schedules.specs.declared.call.OneKey.TheVariants.{Get, Insert, Remove}
 use Rattle.run_schedules.specs.declared.call.Response.TheVariants as answer
-use Rattle.run_schedules.specs.declared.event.Event.TheVariants.{Enter, MakeMap, EndMap}
+use Rattle.run_schedules.specs.declared.event.Event.TheVariants.{Enter, MakeMap}
 use Rattle.run_schedules.specs.declared.effect.Effect.{Effect}
-use Rattle.run_schedules.specs.declared.effect.Effect.TheVariants.{Asked, PairGivenUp, Promoted, Copied, Stored, Removed, Counted, Retired, Ended, Taken}
+use Rattle.run_schedules.specs.declared.effect.Effect.TheVariants.{Asked, PairGivenUp, Promoted, Copied, Stored, Removed, Counted, Retired, Ended}
 use Rattle.run_schedules.specs.declared.effect.Growth.TheVariants.{ABlock}
 use Rattle.run_schedules.specs.declared.effect.Thing.TheVariants.{APair, ATable}
 use Rattle.run_schedules.specs.declared.outcome.Outcome.TheVariants.{Done, Answered, Refused}
@@ -17,7 +17,10 @@ use Rattle.run_schedules.specs.Schedules.Moment.{Place, InMap, GivenBack}
 use Rattle.run_schedules.specs.Schedules.Entry.{Entry}
 use Rattle.run_schedules.specs.Schedules.Steps.{TakesSteps}
 use Rattle.run_schedules.specs.Schedules.Handing.{MovesOn}
-use Rattle.run_schedules.proofs.Schedules.Samples.Words.{no_yes, either, some_thing, small, entry, spot, table, shape, makes_pair, makes_table, call, registered}
+use Rattle.run_schedules.proofs.Schedules.Samples.Words.{no_yes, some_thing, small, entry, spot, table, shape, makes_pair, makes_table, call, registered}
+use Rattle.run_schedules.proofs.Deeds.Samples.{one_none as other_turn}
+use Rattle.run_schedules.proofs.Schedules.Samples.Ends.{end_m}
+use Rattle.seize_words.proofs.General.{either}
 
 -- a map with a first table of 8 places, and a pair that comes in at the place of its key
 abbrev made : List (Entry ℕ ℕ)
@@ -179,9 +182,6 @@ resizes =
       leaves = (record { owes = refl; block = refl; table = refl; counted = refl }, refl);
     }
 
-other_turn : ◌≡◌ {A = ℕ} 1 0 → ⊥
-other_turn h = omega (arith, h)
-
 -- wrong: the table between is dropped out of sight
 drops_table : MovesOn small filled (put_three (Retired (ATable (table 0)) ∷ stores)) → ⊥
 drops_table h = some_thing (ATable (table 1)) [] h.leaves.0.owes
@@ -200,9 +200,6 @@ stores_ahead h = other_turn h.finds.1.1.1.1.1.1.0.1.3
 abbrev unfinished : List (Entry ℕ ℕ)
 unfinished =
     call (On (Insert 9 10)) (Refused Memory) 90 (makes_pair (makes_table 1 (shape 8 7) (Copied 2 (spot 1 0) ∷ Asked ABlock ∷ PairGivenUp ∷ []))) ∷ filled
-
-abbrev end_m : List Effect → Entry ℕ ℕ
-end_m effects = entry (EndMap (codes "m")) Done 0 (effects ++ Taken (table 0) ∷ Taken (table 1) ∷ [])
 
 ends_in_order : MovesOn small unfinished (end_m (Ended 1 ∷ Ended 2 ∷ []))
 ends_in_order =

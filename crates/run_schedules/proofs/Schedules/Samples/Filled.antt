@@ -24,7 +24,7 @@ made =
     ∷ registered
 
 -- wrong: it is made with two first tables, of which one is forgotten
-one_two_tables : ◌≡◌ {A = ℕ} 1 2 → ⊥
+pub one_two_tables : ◌≡◌ {A = ℕ} 1 2 → ⊥
 one_two_tables h = cc
 
 two_firsts :

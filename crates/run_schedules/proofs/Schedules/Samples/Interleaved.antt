@@ -3,7 +3,7 @@ use Rattle.std.specs.Prelude.{codes, drop, nat_eq}
 use Rattle.std.proofs.Common.{ℕ, false, List, [], ◌∷◌, inl, inr, refl, arith, Some}
 use Rattle.map_tables.specs.declared.lengths.Reason.TheVariants.{Full}
 use Rattle.run_schedules.specs.declared.call.Call.TheVariants.{On, Walk}
-use Rattle.run_schedules.specs.declared.call.OneKey.TheVariants.{Insert, Compute}
+use Rattle.run_schedules.specs.declared.call.OneKey.TheVariants.{Compute}
 use Rattle.run_schedules.specs.declared.call.Reply.TheVariants.{Gives}
 use Rattle.run_schedules.specs.declared.call.Response.TheVariants as answer
 use Rattle.run_schedules.specs.declared.event.Event.TheVariants.{Register, Enter, DropGuard, Begin, Go, Replied, OneCall, Stop}
@@ -15,9 +15,9 @@ use Rattle.run_schedules.specs.declared.outcome.Outcome.TheVariants.{Done, Slot,
 use Rattle.run_schedules.specs.Schedules.Sequential.{Puts}
 use Rattle.run_schedules.specs.Schedules.Entry.{Entry}
 use Rattle.run_schedules.specs.Schedules.Runs.{IsLegalLog}
-use Rattle.run_schedules.proofs.Schedules.Samples.Words.{small, entry, spot, table, makes_pair, call}
+use Rattle.run_schedules.proofs.Schedules.Samples.Words.{small, entry, spot, table, makes_pair}
 use Rattle.run_schedules.proofs.Schedules.Samples.Filled.{filled, filled_run}
-use Rattle.run_schedules.proofs.Schedules.Samples.Resized.{grows, passes}
+use Rattle.run_schedules.proofs.Schedules.Samples.Resized.{passes, put_nine}
 
 -- a second registration, with a guard h beside g
 abbrev beside : List (Entry ℕ ℕ)
@@ -32,10 +32,6 @@ go outcome effects = entry (Go (codes "c") false) outcome 30 effects
 
 abbrev asked : List (Entry ℕ ℕ)
 asked = go (Asks (Some 1)) [] ∷ begin ∷ beside
-
--- meanwhile the ninth pair comes in under g, and with it the next table, into which pair 1 is copied
-abbrev put_nine : Entry ℕ ℕ
-put_nine = call (On (Insert 8 10)) (Answered answer.Absent) 30 grows
 
 -- c is told to store 99, and does: the pair is the very one that it was told of
 abbrev told : List (Entry ℕ ℕ)

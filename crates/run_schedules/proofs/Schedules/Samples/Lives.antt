@@ -16,9 +16,10 @@ use Rattle.run_schedules.specs.Schedules.Handing.{MovesOn}
 use Rattle.run_schedules.specs.Schedules.Linearizable.{IsLinearizable}
 use Rattle.run_schedules.specs.Schedules.Model.{IsByModel}
 use Rattle.run_schedules.specs.Schedules.Reclaims.{IsProtected, LeavesLittle}
-use Rattle.run_schedules.proofs.Schedules.Samples.Words.{no_yes, yes_no, puts_leaves, absent_found, some_thing, some_table, zero_next, next_zero, nothing_below, nothing_between, either, small, entry, spot, table, shape, makes_pair, call, inserted, drop_guard}
+use Rattle.run_schedules.proofs.Schedules.Samples.Words.{no_yes, puts_leaves, absent_found, some_thing, some_table, zero_next, next_zero, nothing_below, nothing_between, small, entry, spot, table, shape, makes_pair, call, inserted, drop_guard}
 use Rattle.run_schedules.proofs.Schedules.Samples.Stored.{put_two, replaced, dropped}
 use Rattle.run_schedules.proofs.Schedules.Samples.Resized as resized
+use Rattle.seize_words.proofs.General.{either, true_not_false as yes_no}
 
 -- wrong: a pair is put behind a table that it was never copied past, or behind one that never was
 behind_newest : MovesOn small inserted (put_two (Answered (answer.Found 1)) (Deferred 1 (table 0) ∷ [])) → ⊥

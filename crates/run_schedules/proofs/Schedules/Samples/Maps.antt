@@ -7,7 +7,7 @@ use Rattle.run_schedules.specs.declared.call.Call.{Call}
 use Rattle.run_schedules.specs.declared.call.Call.TheVariants.{On}
 use Rattle.run_schedules.specs.declared.call.OneKey.TheVariants.{Get, Insert, Remove}
 use Rattle.run_schedules.specs.declared.call.Response.TheVariants as answer
-use Rattle.run_schedules.specs.declared.event.Event.TheVariants.{Enter, Own, Refresh, DropGuard, MakeMap, OneCall}
+use Rattle.run_schedules.specs.declared.event.Event.TheVariants.{Enter, Own, Refresh, MakeMap, OneCall}
 use Rattle.run_schedules.specs.declared.effect.Effect.{Effect}
 use Rattle.run_schedules.specs.declared.effect.Effect.TheVariants.{Asked, TableMade, Linked, Stored, Removed, Counted, Retired, Reclaimed}
 use Rattle.run_schedules.specs.declared.effect.Growth.TheVariants.{ABlock}
@@ -23,7 +23,8 @@ use Rattle.run_schedules.specs.Schedules.Linearizable.{IsLinearizable}
 use Rattle.run_schedules.specs.Schedules.Reclaims.{IsProtected}
 use Rattle.run_schedules.specs.Schedules.Model.{IsByModel}
 use Rattle.run_schedules.specs.Schedules.Runs.{IsLegalLog}
-use Rattle.run_schedules.proofs.Schedules.Samples.Words.{yes_no, one_two, either, entry, spot, shape, makes_pair, makes_table, registered}
+use Rattle.run_schedules.proofs.Schedules.Samples.Words.{one_two, entry, spot, shape, makes_pair, makes_table, registered, drop_guard as drop_g}
+use Rattle.seize_words.proofs.General.{either, true_not_false as yes_no}
 
 -- room for two maps, and calls one by one
 abbrev roomy : Terms
@@ -61,9 +62,6 @@ removed =
     ∷ on (codes "m") (codes "g") (On (Remove 1)) (Answered (answer.Found 1)) (Removed 1 ∷ Retired (APair 1) ∷ Counted 0 ∷ [])
     ∷ look (Answered (answer.Found 1))
     ∷ stored
-
-abbrev drop_g : List Effect → Entry ℕ ℕ
-drop_g effects = entry (DropGuard (codes "g")) Done 0 effects
 
 abbrev refresh : List Effect → Entry ℕ ℕ
 refresh effects = entry (Refresh (codes "o")) Done 0 effects

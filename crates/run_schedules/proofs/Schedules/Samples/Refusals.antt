@@ -27,7 +27,8 @@ use Rattle.run_schedules.specs.Schedules.After.{moments_from}
 use Rattle.run_schedules.specs.Schedules.InTurn.{ComesRight}
 use Rattle.run_schedules.specs.Schedules.Sweeps.{IsSwept, Fits, FindsRoom}
 use Rattle.run_schedules.specs.Schedules.Handing.{MovesOn}
-use Rattle.run_schedules.proofs.Schedules.Samples.Words.{no_yes, yes_no, next_zero, nothing_between, either, small, entry, spot, table, shape, makes_pair, makes_table, begin, call, inserted, entered}
+use Rattle.run_schedules.proofs.Schedules.Samples.Words.{no_yes, next_zero, nothing_between, small, entry, spot, table, shape, makes_pair, makes_table, begin, call, inserted, entered}
+use Rattle.seize_words.proofs.General.{either, true_not_false as yes_no}
 
 abbrev reserve : ℕ → Outcome ℕ → List Effect → Entry ℕ ℕ
 reserve more outcome effects = call (Reserve more) outcome 200 effects

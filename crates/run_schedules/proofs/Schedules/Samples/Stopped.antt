@@ -21,7 +21,8 @@ use Rattle.run_schedules.specs.Schedules.Steps.{TakesSteps}
 use Rattle.run_schedules.specs.Schedules.Linearizable.{IsLinearizable}
 use Rattle.run_schedules.specs.Schedules.Handing.{MovesOn}
 use Rattle.run_schedules.specs.Schedules.Runs.{TellsEnd}
-use Rattle.run_schedules.proofs.Schedules.Samples.Words.{one_two, owes_one, owes_still, puts_leaves, absent_found, done_busy, answered_busy, one_shift, some_thing, either, small, entry, spot, makes_pair, call, inserted}
+use Rattle.run_schedules.proofs.Schedules.Samples.Words.{one_two, owes_one, owes_still, puts_leaves, absent_found, done_busy, answered_busy, one_shift, some_thing, small, entry, spot, makes_pair, call, inserted}
+use Rattle.seize_words.proofs.General.{either}
 
 -- a call is stopped right after the step in which it stored pair 2 in the place of pair 1
 abbrev stop : List Effect → Entry ℕ ℕ

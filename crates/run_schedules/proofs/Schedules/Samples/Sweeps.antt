@@ -16,8 +16,9 @@ use Rattle.run_schedules.specs.Schedules.Entry.{Entry}
 use Rattle.run_schedules.specs.Schedules.Linearizable.{IsLinearizable}
 use Rattle.run_schedules.specs.Schedules.Steps.{TakesSteps}
 use Rattle.run_schedules.specs.Schedules.Sweeps.{IsSwept}
-use Rattle.run_schedules.proofs.Schedules.Samples.Words.{no_yes, yes_no, zero_next, either, small, entry, call}
+use Rattle.run_schedules.proofs.Schedules.Samples.Words.{no_yes, zero_next, small, entry, call}
 use Rattle.run_schedules.proofs.Schedules.Samples.Stored.{replaced}
+use Rattle.seize_words.proofs.General.{either, true_not_false as yes_no}
 
 abbrev swept : Call ℕ ℕ → Outcome ℕ → List Effect → Entry ℕ ℕ
 swept called outcome effects = call called outcome 40 effects

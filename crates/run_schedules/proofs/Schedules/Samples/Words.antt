@@ -1,6 +1,6 @@
 -- What the samples are told with: entries of logs, and a first log at each of its moments.
 use Rattle.std.specs.Prelude.{codes, ◌+◌, ◌&&◌, if◌then◌else◌}
-use Rattle.std.proofs.Common.{◌≡◌, ◌<◌, ◌≤◌, ℕ, zero, suc, Bool, true, false, refl, List, [], ◌∷◌, ◌⊎◌, inl, inr, arith, Option, Some, None}
+use Rattle.std.proofs.Common.{◌≡◌, ◌<◌, ◌≤◌, ℕ, zero, suc, Bool, true, false, refl, List, [], ◌∷◌, inl, arith, Option, Some, None}
 use Rattle.seize_words.specs.declared.fault.Fault.TheVariants.{Busy}
 use Rattle.map_tables.specs.declared.resize_mode.ResizeMode.TheVariants.{Incremental}
 use Rattle.run_schedules.specs.declared.shapes.TableShape.{TableShape}
@@ -24,18 +24,11 @@ use Rattle.run_schedules.specs.Schedules.Terms.{Terms}
 use Rattle.run_schedules.specs.Schedules.Moment.{Place, InMap, Behind, Moment}
 use Rattle.run_schedules.specs.Schedules.Entry.{Entry}
 use Rattle.run_schedules.specs.Schedules.Tries.{try_at, has_pair_at, is_taken_at, Meets}
-
--- neither of two is so
-pub either : {A B : Type 0} → (A → ⊥) → (B → ⊥) → A ⊎ B → ⊥
-either f g (inl a) = f a
-either f g (inr b) = g b
+use Rattle.seize_words.proofs.General.{either, true_not_false as yes_no}
 
 -- a test is not passed and failed
 pub no_yes : false ≡ true → ⊥
 no_yes h = cc
-
-pub yes_no : true ≡ false → ⊥
-yes_no h = cc
 
 -- that a call tells a pair and leaves it is not that it tells another one, or none
 abbrev pub found : ℕ → Meaning ℕ

@@ -39,14 +39,13 @@ use Rattle.many_maps.proofs.Ends.Memory.{list_kept, taken_gone}
 use Rattle.many_maps.proofs.Ends.Worlds.{away}
 use Rattle.run_shows.specs.Reclaims.Reclaims.{IsRootOf, RootLeads, LeftBut, LeftBehind, Opened, ReclaimingAt, AllStandIdle}
 use Rattle.run_shows.specs.Reclaims.Slots.{IsQuiet}
-use Rattle.run_shows.proofs.Reclaims.Behind.Kept.{same_still, leads_by}
+use Rattle.run_shows.proofs.Reclaims.Behind.Kept.{leads_by}
 use Rattle.run_shows.proofs.Reclaims.Behind.Lists.{less, less_here, less_other, gone_from, still_in, other_than, still_once, was_in, from_zero, from_some}
 use Rattle.run_shows.proofs.Reclaims.Behind.Maps.{Leaves', idle_stands}
 use Rattle.many_maps.proofs.Among.Own.Makings.{IsRoot}
 use Rattle.run_shows.proofs.Reclaims.Behind.Points.{LedTo, next_point, next_roots}
-
-some_of : {X : Type 0} (o : Option X) (x : X) → o ≡ Some x → IsSome o
-some_of {X} o x e = subst (λ (p : Option X). IsSome p) (sym e) refl
+use Rattle.many_maps.proofs.Among.Machines.{same_map as same_still}
+use Rattle.seize_words.proofs.General.{some_is as some_of}
 
 -- a setting with this root, and nothing else
 abbrev at_this : ℕ → Setting

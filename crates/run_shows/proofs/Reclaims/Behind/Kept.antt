@@ -11,7 +11,7 @@ use Rattle.seize_acts.proofs.Given.SeizeAloneHistories.NotTaken.{did}
 use Rattle.seize_acts.specs.Reclaims.Roots.{all_lists}
 use Rattle.run_effects.specs.Given.TablesNodes.{deferred_word}
 use Rattle.run_effects.specs.Given.TablesDeclared.node.Node.{Node}
-use Rattle.many_maps.proofs.Given.CallersSights.Parts.{part_same, part_then}
+use Rattle.many_maps.proofs.Given.CallersSights.Parts.{part_then}
 use Rattle.many_maps.specs.Given.CallersTogether.{UnderWay, CameAbout, IsOfSlots}
 use Rattle.many_maps.proofs.Given.CallersTogether.Came.{came_reached}
 use Rattle.many_maps.specs.Endings.{Finishing}
@@ -25,6 +25,7 @@ use Rattle.many_maps.proofs.Ends.CountedBlocks.{times-append, some_here}
 use Rattle.many_maps.proofs.Ends.Memory.{list_led}
 use Rattle.run_shows.specs.Reclaims.Reclaims.{IsRootOf, RootLeads, LeftBut, AllStandIdle}
 use Rattle.run_shows.specs.Reclaims.Slots.{IsForSlots, AreItsRows}
+use Rattle.many_maps.proofs.Among.Machines.{same_map as same_still}
 
 -- maps as they were, but for what may be looked at
 
@@ -32,10 +33,6 @@ pub same_then : {K : Type 0} (o a b : Option (Standing K)) → IsSameMap o a →
 same_then {K} None a b first then = subst (λ (x : Option (Standing K)). IsSameMap x b) first then
 same_then {K} (Some s) a b (blocks, sights, is, part) then =
     let k = subst (λ (x : Option (Standing K)). IsSameMap x b) is then in (k.0, k.1, k.2, part_then s.chart k.0 blocks s.blocks part k.3)
-
-pub same_still : {K : Type 0} (o : Option (Standing K)) → IsSameMap o o
-same_still None = refl
-same_still (Some s) = (s.blocks, s.sights, refl, part_same s.chart s.blocks)
 
 -- the setting of a map that was there
 still_setting : {K : Type 0} (o after : Option (Standing K)) → IsSameMap o after → (s : Standing K) → o ≡ Some s → (s2 : Standing K) × (after ≡ Some s2) × (s2.setting ≡ s.setting)
@@ -131,7 +128,7 @@ module _ {K V : Type 0} where
       once = left.once;
     }
 
-of_slots : (request : Request) → IsForSlots request → IsOfSlots request
+pub of_slots : (request : Request) → IsForSlots request → IsOfSlots request
 of_slots (Register' enters) is = tt
 of_slots (Leave' s) is = tt
 of_slots (Flush s) is = tt

@@ -32,14 +32,9 @@ use Rattle.many_maps.specs.Maps.{Standing}
 use Rattle.run_shows.specs.Reclaims.Reclaims.{IsRootOf, RootLeads, LeftBehind, Opened, ReclaimingAt, AllStandIdle, StepsOfReclaiming}
 use Rattle.run_shows.specs.Reclaims.Slots.{IsQuiet, DoesAt}
 use Rattle.run_shows.proofs.Reclaims.Behind.Deferred.{tables_carry}
-use Rattle.run_shows.proofs.Reclaims.Behind.Kept.{same_still}
 use Rattle.seize_acts.proofs.Quiet.Promised.{nothing_waits}
-
-same_some : {X : Type 0} (a b : X) → ◌≡◌ {A = Option X} (Some a) (Some b) → a ≡ b
-same_some a b e = cc e
-
-some_of : {X : Type 0} (o : Option X) (x : X) → o ≡ Some x → IsSome o
-some_of {X} o x e = subst (λ (p : Option X). IsSome p) (sym e) refl
+use Rattle.many_maps.proofs.Among.Machines.{same_map as same_still}
+use Rattle.seize_words.proofs.General.{same_some, some_is as some_of}
 
 -- the root of a map leads nowhere, or to a table
 pub root_of_map : {K V : Type 0} (same : K → K → Bool) (hash : K → ℕ) (setting : Setting) (w : World (Node K V)) (c : Chart K) (blocks : Blocks) → IsMapIn same hash setting w c blocks

@@ -1,5 +1,5 @@
 -- Each step of reclaiming all on roots leaves fewer points before it, or fewer blocks.
-use Rattle.std.specs.Prelude.{Option, Some, None, nat_lt, ◌==◌, if◌then◌else◌, IsSome}
+use Rattle.std.specs.Prelude.{Option, None, nat_lt, ◌==◌, if◌then◌else◌}
 use Rattle.std.proofs.Common.{◌≡◌, ℕ, ◌+◌, ◌-◌, ◌*◌, ◌<◌, ◌≤◌, Bool, true, false, ◌⊎◌, inl, inr, refl, arith, ap, sym, subst}
 use Rattle.seize_words.specs.declared.at.At.TheVariants as name
 use Rattle.seize_words.specs.OneMemory.Mem.{Mem, Took, value_at, with_block}
@@ -19,6 +19,7 @@ use Rattle.seize_acts.specs.Reclaims.AllReclaimed.{weight_at}
 use Rattle.seize_acts.proofs.Reclaims.AllReclaimed.Weights.{weight}
 use Rattle.run_effects.specs.Given.TablesNodes.{deferred_word, was_left}
 use Rattle.run_effects.specs.Given.TablesDeclared.node.Node.{Node}
+use Rattle.seize_words.proofs.General.{some_is as some_of}
 
 -- it works on this root, or is over
 abbrev pub IsOnRoots : ℕ → Reclaiming → Type 0
@@ -29,9 +30,6 @@ IsOnRoots roots (at.Empties root) = root < roots
 IsOnRoots roots (at.Unuses root) = root < roots
 IsOnRoots roots at.Over = Unit {0}
 IsOnRoots roots _ = ⊥
-
-some_of : {X : Type 0} (o : Option X) (x : X) → o ≡ Some x → IsSome o
-some_of {X} o x e = subst (λ (p : Option X). IsSome p) (sym e) refl
 
 next_lower : (c : ReclaimAll) (root k : ℕ) → root < c.roots → 6 * (c.roots - root) - 5 ≤ k → IsOnRoots (next_root c root).roots (next_root c root).stands × (weight (next_root c root) < k)
 next_lower c root k lt le = by (nat_lt root (c.roots - 1)) refl

@@ -27,13 +27,7 @@ use Rattle.many_maps.proofs.Ends.CountedBlocks.{times-append, some_here, some_la
 use Rattle.run_shows.specs.Reclaims.Left.{IsSomebodys, LeftAmong, EndingsBeginAndLeaveIt, GoesOnBy, EndingsLeaveIt}
 use Rattle.run_shows.specs.Reclaims.Reclaims.{RootLeads}
 use Rattle.run_shows.proofs.Reclaims.Behind.Kept.{in_all, leads_by}
-
-one_of : {X : Type 0} (x y : X) → ◌≡◌ {A = Option X} (Some x) (Some y) → x ≡ y
-one_of x y e = cc e
-
-none_of : (k : ℕ) → (0 < k → ⊥) → k ≡ 0
-none_of zero none = refl
-none_of (suc k) none = absurd (none (omega arith))
+use Rattle.seize_words.proofs.General.{same_some as one_of, none_less as none_of}
 
 -- with another list behind one root
 pub more_behind : (lists : ℕ → List ℕ) (root n x : ℕ) (l : List ℕ) → times x (all_lists (with_at lists root l) n) ≤ times x (all_lists lists n) + times x l

@@ -25,9 +25,7 @@ use Rattle.run_shows.specs.Reclaims.Left.{IsSomebodys, LeftAmong, MakingsBeginAn
 use Rattle.run_shows.specs.Reclaims.Reclaims.{IsRootOf, RootLeads}
 use Rattle.run_shows.proofs.Reclaims.Behind.Kept.{in_all, leads_by}
 use Rattle.run_shows.proofs.Reclaims.Behind.Points.{root_of_map}
-
-one_of : {X : Type 0} (x y : X) → ◌≡◌ {A = Option X} (Some x) (Some y) → x ≡ y
-one_of x y e = cc e
+use Rattle.seize_words.proofs.General.{same_some as one_of}
 
 module _ {K Q : Type 0} (V : Type 0) (same : K → K → Bool) (asks : Q → K → Bool) (batch_size roots : ℕ) (slot : ℕ → ℕ)
     (w : World (Node K V)) (maps : ℕ → Option (Standing K)) (calls : ℕ → ℕ → Option (UnderWay K V Q)) (makers : ℕ → Option (Beginning K)) (enders : ℕ → Option (Finishing K V)) where

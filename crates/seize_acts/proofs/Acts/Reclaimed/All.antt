@@ -1,12 +1,12 @@
 -- Everything can be reclaimed: slots settle, batches are flushed until none is open, and then all slots are given up.
 use Rattle.std.specs.Prelude.{Option}
-use Rattle.std.proofs.Common.{◌≡◌, ℕ, zero, suc, ◌+◌, ◌<◌, ◌≤◌, ◌^◌, false, List, [], ◌∷◌, length, inl, inr, refl, arith, ap, sym, subst, ◌∙◌}
+use Rattle.std.proofs.Common.{◌≡◌, ℕ, zero, suc, ◌+◌, ◌<◌, ◌≤◌, ◌^◌, false, [], length, inl, inr, refl, arith, ap, subst, ◌∙◌}
 use Rattle.std.proofs.lemmas.Bool.{cases_eq, cases_lt}
 use Rattle.seize.specs.declared.states.TheConstants.{LAST_SLOT}
 use Rattle.seize.specs.declared.rows.enter.Unregister.{Unregister}
 use Rattle.seize.specs.Law.{is_retired}
 use Rattle.seize.specs.WaitingSets.{Sets}
-use Rattle.seize.specs.World.{World, Use, Vacant, Outside, Changing, Frees, Unregister', IsOutside, with_row, with_use, at_start}
+use Rattle.seize.specs.World.{World, Vacant, Outside, Changing, Frees, Unregister', IsOutside, with_row, with_use, at_start}
 use Rattle.seize_model.proofs.Given.SeizeWaitingFlushes.{much}
 use Rattle.seize_model.proofs.Given.SeizeRuleWorld.Start.{start_good}
 use Rattle.seize_model.proofs.Ends.Batches.Rows.{HeldByRows, runs_held, start_held}
@@ -23,6 +23,8 @@ use Rattle.seize_acts.proofs.Acts.Reclaimed.Whole.{Calm, Reaches, reaches_on, ca
 use Rattle.seize_acts.proofs.Acts.Reclaimed.Quiet.{quiet_sets, quiet_shown, opened_below, opened_past}
 use Rattle.seize_acts.proofs.Acts.Reclaimed.Settled.{Settled, all_settle, settled_vacant}
 use Rattle.seize_acts.proofs.Acts.Reclaimed.Flushed.{Flushing, all_flush, batch_zero}
+use Rattle.seize_acts.proofs.Quiet.Slots.Facts.{vacant_outside, idle_outside}
+use Rattle.seize_words.proofs.General.{no_length, at_most_itself as no_more}
 
 module _ {T : Type 0} (defers : T → Option ℕ) (size i : ℕ) (word : size < 2 ^ 64) (slots : ℕ) (w : World T) (sets : Sets) where
   -- the slots below s are given up
@@ -63,15 +65,6 @@ module _ {T : Type 0} (defers : T → Option ℕ) (size i : ℕ) (word : size < 
   all_free (suc left) s v e f = let k = free_one s v (omega (arith, e)) f in all_free left (suc s) k.0 (omega (arith, e)) k.1
 
 module _ {T : Type 0} (defers : T → Option ℕ) (size i : ℕ) (word : size < 2 ^ 64) where
-  idle_outside : (u : Use) → u ≡ Outside 0 → IsOutside u
-  idle_outside u e = subst (λ (x : Use). IsOutside x) (sym e) tt
-
-  vacant_outside : (u : Use) → u ≡ Vacant → IsOutside u
-  vacant_outside u e = subst (λ (x : Use). IsOutside x) (sym e) tt
-
-  no_length : (l : List ℕ) → length l ≡ 0 → l ≡ []
-  no_length [] e = refl
-  no_length (b ∷ l) e = absurd (omega (arith, e))
 
   -- the batches of slots that have settled can be flushed
   begins : (w v : World T) (k : Settled defers size i w v)
@@ -119,9 +112,6 @@ module _ {T : Type 0} (defers : T → Option ℕ) (size i : ℕ) (word : size < 
 
       retired : (b : ℕ) → is_retired b v.log ≡ false
       retired b = none_retired defers (LAST_SLOT + 1) size refl v sets f.shown vacant none b
-
-  no_more : (k : ℕ) → k ≤ k
-  no_more k = omega arith
 
   pub all_can_be_reclaimed : (w : World T) → Calm defers size w → (n : World T) × Reaches defers size i w n × HasNothingLeft defers n
   all_can_be_reclaimed w calm =

@@ -13,9 +13,9 @@ use Rattle.seize_model.proofs.Given.SeizeMemoryWords.Named.{same_at-refl, words_
 use Rattle.seize_model.proofs.Given.SeizeMemoryWords.View.{view}
 use Rattle.seize_model.proofs.Sets.Slots.Kept.{leave_idles}
 use Rattle.seize_model.proofs.Sets.Slots.Retaken.{retaken, retaken_idle}
-use Rattle.seize_model.proofs.Sets.Turns.Heads.{WordOf, head_word, word_says, vacant_by, outside_by, zero_never}
-use Rattle.seize_acts.proofs.Acts.Slots.{head_none}
+use Rattle.seize_model.proofs.Sets.Turns.Heads.{WordOf, head_word, word_says, vacant_by, outside_by, never_zero as head_none}
 use Rattle.seize_acts.proofs.Acts.Reclaimed.Whole.{Calm, Reaches, stays, reaches_on, call_there, calls_calm, registers_reach, leaves_reach}
+use Rattle.seize_model.proofs.Given.SeizeRulePoints.Try.{never_word as zero_never}
 
 outside_zero : (u : Use) (v : ℕ) → WordOf u v → (j : ℕ) → u ≡ Outside j → u ≡ Outside 0
 outside_zero Vacant v w j e = absurd (cc e)

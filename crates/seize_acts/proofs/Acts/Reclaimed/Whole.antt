@@ -1,5 +1,5 @@
 -- A row that may begin while all others rest can come to its end, and that whole call is a list of its caller's acts.
-use Rattle.std.specs.Prelude.{Option, Some, None, if◌then◌else◌, ◌==◌, ◌++◌}
+use Rattle.std.specs.Prelude.{Option, Some, None, if◌then◌else◌, ◌++◌}
 use Rattle.std.proofs.Common.{◌≡◌, ℕ, zero, suc, ◌+◌, ◌≤◌, Bool, true, false, List, [], ◌∷◌, refl, arith, ap, sym, subst, ◌∙◌}
 use Rattle.seize_words.specs.OneMemory.Mem.{Mem}
 use Rattle.seize_words.specs.OneMemory.Plan.{Plan, Turn, Do}
@@ -27,16 +27,14 @@ use Rattle.seize_acts.proofs.Acts.Begun.{rests_is}
 use Rattle.seize_acts.proofs.Acts.Ends.{Alone, to_go, none_to_go, row_there, step_less, stepped_alone}
 use Rattle.seize_acts.proofs.Acts.Fine.{row_stepped}
 use Rattle.seize_acts.proofs.Acts.Steps.{given_so, row_so}
+use Rattle.seize_words.proofs.General.{equal_itself as same}
 
 -- no row is under way, and no batch is in hand
 pub record Calm {T : Type 0} (defers : T → Option ℕ) (size : ℕ) (w : World T) : Type 0 where
   pub rested : Rested defers (LAST_SLOT + 1) size w
   pub held : HeldByRows w
 
-same : (i : ℕ) → (i == i) ≡ true
-same i = grind arith
-
-taken_so : (u : Use) → IsTaken u → is_taken u ≡ true
+pub taken_so : (u : Use) → IsTaken u → is_taken u ≡ true
 taken_so Vacant t = absurd t
 taken_so (Outside n) t = refl
 taken_so (Inside n) t = refl

@@ -28,7 +28,8 @@ use Rattle.seize_model.proofs.Ends.Batches.Free.{Outcomes, PlanOutcomes, plan_ou
 use Rattle.seize_acts.specs.Acts.Answers.{Grant, then_on, answer, ends, stepped}
 use Rattle.seize_acts.specs.Acts.Acts.{row_answered}
 use Rattle.seize_acts.specs.Acts.Refused.{IsRegistering, Refuses}
-use Rattle.seize_acts.proofs.Acts.Answers.{some, same_some, answer_gives, ended, was_stepped}
+use Rattle.seize_acts.proofs.Acts.Answers.{some, answer_gives, ended, was_stepped}
+use Rattle.seize_words.proofs.General.{same_some}
 
 -- it is not refused
 abbrev IsNoFault : {A : Type 0} → Advance A → Type 0

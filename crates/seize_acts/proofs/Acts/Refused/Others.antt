@@ -19,10 +19,11 @@ use Rattle.seize_model.proofs.Ends.Batches.Rows.{registers_memory, settles_memor
 use Rattle.seize_model.proofs.Alone.Histories.Reached.{Reached}
 use Rattle.seize_acts.specs.Acts.Answers.{Grant, then_on, answer}
 use Rattle.seize_acts.specs.Acts.Acts.{Operate, Change, became, row_steps, turns, turned, steps, may_operate, operated, changed, is_own, is_left_link}
-use Rattle.seize_acts.proofs.Acts.Answers.{some, same_some}
+use Rattle.seize_acts.proofs.Acts.Answers.{some}
 use Rattle.seize_acts.proofs.Acts.Fine.{row_stepped, changed_below}
 use Rattle.seize_acts.proofs.Acts.Refused.Heads.{TakenOrSame, same_heads, by_memory, step_heads}
 use Rattle.seize_acts.proofs.Acts.Refused.Rows.{turn_memory}
+use Rattle.seize_words.proofs.General.{same_some}
 
 module _ {T : Type 0} (defers : T → Option ℕ) (size j : ℕ) where
   -- the steps of another caller that make no operation change neither a word nor this caller's row

@@ -22,11 +22,12 @@ use Rattle.seize_model.proofs.Given.SeizeMemoryWords.Named.{words_of}
 use Rattle.seize_model.proofs.Given.SeizeRuleRows.Others.{with_here}
 use Rattle.seize_acts.specs.Acts.Answers.{Grant, then_on, is_turn}
 use Rattle.seize_acts.specs.Acts.Acts.{row_steps, turns, turned, steps, Begin}
-use Rattle.seize_acts.specs.Acts.Refused.{IsRegistering, IsRegistration, IsRegistering, IsHad}
-use Rattle.seize_acts.proofs.Acts.Answers.{some, same_some}
+use Rattle.seize_acts.specs.Acts.Refused.{IsRegistering, IsRegistration, IsHad}
+use Rattle.seize_acts.proofs.Acts.Answers.{some}
 use Rattle.seize_acts.proofs.Acts.Fine.{row_stepped}
 use Rattle.seize_acts.proofs.Acts.Refused.Heads.{TakenOrSame}
 use Rattle.seize_acts.proofs.Acts.Refused.Points.{Known, KnownEnd, Found', had_is, ends_known}
+use Rattle.seize_words.proofs.General.{same_some}
 
 -- the row does not register
 abbrev pub Off : Row → Type 0

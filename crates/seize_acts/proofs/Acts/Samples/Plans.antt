@@ -25,8 +25,8 @@ use Rattle.seize_acts.specs.Acts.Answers.{stepped}
 use Rattle.seize_acts.specs.Acts.Acts.{Begin, Step, Operate, Links, Unlinks, Ends, LeavesOver, MayTake, NoRootNames, AllMayChange}
 use Rattle.seize_acts.specs.Acts.Laws.{IsNotLost}
 use Rattle.seize_acts.specs.Acts.Waits.{AnotherHasIt}
-use Rattle.seize_acts.proofs.Acts.Answers.{same_some}
 use Rattle.seize_acts.proofs.Acts.Samples.Base.{plain, lists, or_start, after, on, enters, links, settle_by, defer_by}
+use Rattle.seize_words.proofs.General.{same_some}
 
 -- A retirement that loses its exchange for the batch ends, and forgets its block: refused by `NothingIsLost`.
 

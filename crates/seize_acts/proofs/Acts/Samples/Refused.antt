@@ -16,8 +16,8 @@ use Rattle.seize_acts.specs.Acts.Answers.{stepped}
 use Rattle.seize_acts.specs.Acts.Acts.{Act, Begin, Step, AllDid, became}
 use Rattle.seize_acts.specs.Acts.Waits.{AnotherHasIt}
 use Rattle.seize_acts.specs.Acts.Refused.{IsRefused, FoundNoRoom, IsHadMeanwhile, Sometime, EachWasHad}
-use Rattle.seize_acts.proofs.Acts.Answers.{same_some}
 use Rattle.seize_acts.proofs.Acts.Samples.Base.{plain, after}
+use Rattle.seize_words.proofs.General.{same_some}
 
 -- Whoever loses one exchange is refused, as if no slot were left: refused by `UsedUpIfAllAreHad`.
 abbrev gave_up : Register → Out ℕ → Then ℕ (Register × Advance ℕ)

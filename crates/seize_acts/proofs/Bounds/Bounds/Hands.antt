@@ -8,7 +8,7 @@ use Rattle.seize.specs.declared.rows.settle.Settle.{Settle}
 use Rattle.seize.specs.declared.rows.leave.Leave.{Leave}
 use Rattle.seize.specs.declared.rows.leave.Leaving.{Leaving}
 use Rattle.seize.specs.declared.rows.leave.Leaving.TheVariants as leaving
-use Rattle.seize.specs.World.{World, Row, Settles, Leaves, Event, Begin, Step, Makes, Drops, Links, Parts, Unlinks, Rewrites, Operates, Ends, LeavesOver, Relinks, Clears, Chooses, Happens, Hand, NoBlock, Making, InUse, Parting, Cutting, Handed, LeftTo, Request, Register', Enter', Leave', LeaveOwned, Refresh, Unregister', Retire, Flush, Defer'}
+use Rattle.seize.specs.World.{World, Row, Settles, Leaves, Event, Begin, Step, Makes, Drops, Links, Parts, Unlinks, Rewrites, Operates, Ends, LeavesOver, Relinks, Clears, Chooses, Happens, Handed, LeftTo, Request, Register', Enter', Leave', LeaveOwned, Refresh, Unregister', Retire, Flush, Defer'}
 use Rattle.seize.specs.Sequence.{IsBetween}
 use Rattle.seize_model.specs.Given.SeizeWaitingHeld.{count}
 use Rattle.seize_model.proofs.Given.SeizeMovesState.Ghost.{State, Entry, Stage, Closing, Life, is_in}
@@ -19,7 +19,7 @@ use Rattle.seize_model.proofs.Given.SeizeMemoryWords.Chains.{Chain, blocks_of, c
 use Rattle.seize_model.proofs.Given.SeizeMemoryWords.Sums.{blocks_long}
 use Rattle.seize_model.proofs.Given.SeizeMemoryWords.View.{view}
 use Rattle.seize_model.proofs.Given.SeizeMemoryWords.Shows.{Extra, Spot, Nowhere, Unspent, On, InHands, SpotLife, LinkedIs, stands, is_in_hands}
-use Rattle.seize_model.proofs.Given.SeizeRulePoints.Aside.{HandFits, is_handed}
+use Rattle.seize_model.proofs.Given.SeizeRulePoints.Aside.{is_handed}
 use Rattle.seize_model.proofs.Given.SeizeRulePoints.Known.{Fits, list_word}
 use Rattle.seize_model.proofs.Given.SeizeRulePoints.Told.{Pushing, part}
 use Rattle.seize_model.proofs.Given.SeizeRuleRows.Known.{FitsRow, FitsLeave}
@@ -39,6 +39,7 @@ use Rattle.seize_acts.proofs.Bounds.Bounds.Opened.{works_there, row_opened}
 use Rattle.seize_acts.proofs.Bounds.Bounds.Values.{left_there}
 use Rattle.seize_acts.proofs.Bounds.Bounds.Passing.{event_row}
 use Rattle.seize_acts.proofs.Bounds.Bounds.Entries.{entry_of, SameEntries, users_entries, row_entries}
+use Rattle.seize_model.proofs.Alone.Histories.Waiting.{in_hand}
 
 -- words that agree on its blocks make the same chain
 pub chains_agree : (end : ℕ) → end < 2048 → (f g : ℕ → ℕ) (w : ℕ) (l k : List ℕ) → ((c : ℕ) → 0 < count c l → g c ≡ f c) → Chain end f w l → Chain end g w k
@@ -71,15 +72,6 @@ in_hands j b Nowhere l some is = absurd (omega (arith, some))
 in_hands j b (Unspent x) l some is = absurd (omega (arith, some))
 in_hands j b (On t x) l some is = absurd (omega (arith, some))
 in_hands j b (InHands i x) l some is = ap is_handed is
-
-pub in_hand : (h : Hand) (l : Life) → HandFits h l → is_handed l ≡ true → h ≡ Handed
-in_hand NoBlock l f e = absurd (let a = ap is_handed f in cc (a, e))
-in_hand (Making i) l f e = absurd (let a = ap is_handed f in cc (a, e))
-in_hand (InUse o) l f e = absurd (let a = ap is_handed f in cc (a, e))
-in_hand (Parting i) l f e = absurd (let a = ap is_handed f in cc (a, e))
-in_hand (Cutting i) l f e = absurd (let a = ap is_handed f in cc (a, e))
-in_hand Handed l f e = refl
-in_hand (LeftTo i) l f e = absurd (let a = ap is_handed f in cc (a, e))
 
 -- the batch that it closes has the same blocks
 pub record SameShut (j : ℕ) (m m2 : State) : Type 0 where

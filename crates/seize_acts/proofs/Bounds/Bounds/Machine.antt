@@ -10,7 +10,8 @@ use Rattle.seize_model.proofs.Given.SeizeMovesState.Ghost.{State, Entry, put}
 use Rattle.seize_model.proofs.Given.SeizeMovesState.Moves
 use Rattle.seize_model.proofs.Given.SeizeRulePoints.Passed.{passed_rest}
 use Rattle.seize_model.proofs.Given.SeizeRulePoints.Told.{Part, Plain, Pushing, Draining, part, batch_now, Told, Stays, Holds, HoldsNone, Gives, Begins, Appends, Fills, Skips, Passes, Finds, Marks, GivesUp, Closes, Pushes, Misses, Sums, SumsLast, Drains, DrainsNone, Takes, TakesLast, Joins, Counts, CountsLast}
-use Rattle.seize_acts.proofs.Bounds.Bounds.Moves.{put_here, taken_off}
+use Rattle.seize_acts.proofs.Bounds.Bounds.Moves.{taken_off}
+use Rattle.seize_model.proofs.Given.SeizeMemoryWords.Apart.{put_here}
 
 -- it counts its list, or reclaims, or is over
 abbrev pub IsCounting : Settling → Type 0

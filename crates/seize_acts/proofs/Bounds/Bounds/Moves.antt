@@ -4,9 +4,7 @@ use Rattle.seize.specs.declared.rows.settle.Settle.{Settle}
 use Rattle.seize_model.proofs.Given.SeizeMovesState.Ghost.{State, Entry, put}
 use Rattle.seize_model.proofs.Given.SeizeMovesState.Moves
 use Rattle.seize_model.proofs.Given.SeizeRulePoints.Told.{Part, Plain, Draining, part, Told, Stays, Holds, HoldsNone, Gives, Begins, Appends, Fills, Skips, Passes, Finds, Marks, GivesUp, Closes, Pushes, Misses, Sums, SumsLast, Drains, DrainsNone, Takes, TakesLast, Joins, Counts, CountsLast}
-
-pub put_here : {X : Type 0} (f : ℕ → X) (k : ℕ) (x : X) → put f k x k ≡ x
-put_here f k x = grind arith
+use Rattle.seize_model.proofs.Given.SeizeMemoryWords.Apart.{put_here}
 
 -- a block less is left to be taken
 pub record TakenOff (j : ℕ) (m m2 : State) : Type 0 where

@@ -1,6 +1,6 @@
 -- A row that settles, as it leaves a slot or only settles, and what a step of it tells.
 use Rattle.std.specs.Prelude.{Option}
-use Rattle.std.proofs.Common.{◌≡◌, ℕ, ◌+◌, Bool, true, false, refl, arith, ap, sym, subst, ◌∙◌}
+use Rattle.std.proofs.Common.{◌≡◌, ℕ, ◌+◌, Bool, true, false, refl, ap, sym, subst, ◌∙◌}
 use Rattle.seize_words.specs.OneMemory.Mem.{Mem, Took, value_at}
 use Rattle.seize_words.specs.OneMemory.Plan.{Steps}
 use Rattle.seize.specs.declared.states.TheConstants.{LAST_SLOT}
@@ -27,6 +27,7 @@ use Rattle.seize_model.proofs.Given.SeizeRuleWorld.Start.{words_good}
 use Rattle.seize_model.proofs.Alone.Histories.Reached.{Reached}
 use Rattle.seize_model.proofs.Ends.Batches.Rows.{settles_memory}
 use Rattle.seize_acts.proofs.Bounds.Bounds.Hands.{FitsIn, leaving_fits, settling_fits}
+use Rattle.seize_model.proofs.Given.SeizeRuleRows.Leave.{over_is}
 
 -- how a row settles
 pub data Form : Type 0 where
@@ -36,9 +37,6 @@ pub data Form : Type 0 where
 abbrev pub as_row : Form → Settle → Row
 as_row Only d = Settles d
 as_row (AsItLeaves c) d = Leaves (standing c (leaving.Settles d))
-
-over_is : (p : Settling) → is_over p ≡ true → p ≡ at.Over
-over_is p e = grind arith
 
 pub not_over : (p : Settling) → (p ≡ at.Over → ⊥) → is_over p ≡ false
 not_over p ne = by (is_over p) refl

@@ -10,7 +10,8 @@ use Rattle.seize_model.proofs.Given.SeizeMemoryWords.Chains.{waiting, count_firs
 use Rattle.seize_model.proofs.Given.SeizeRulePoints.Passed.{passed_rest}
 use Rattle.seize_model.proofs.Given.SeizeRulePoints.Told.{Part, Plain, Flushing, Trying, Marking, Pushing, Draining, part, batch_now, Told, Stays, Holds, HoldsNone, Gives, Begins, Appends, Fills, Skips, Passes, Finds, Marks, GivesUp, Closes, Pushes, Misses, Sums, SumsLast, Drains, DrainsNone, Takes, TakesLast, Joins, Counts, CountsLast}
 use Rattle.seize_acts.proofs.Bounds.Bounds.Machine.{MOST}
-use Rattle.seize_acts.proofs.Bounds.Bounds.Moves.{put_here}
+use Rattle.seize_model.proofs.Given.SeizeMemoryWords.Apart.{put_here}
+use Rattle.seize_words.proofs.General.{at_most_itself as same}
 
 -- what it costs to take the most blocks that there can be, and to push one entry, which loses no more exchanges than that
 
@@ -154,9 +155,6 @@ module _ (n j s : ℕ) (m : State) (inv : Inv n m) where
 
   abbrev k : ℕ → Bool
   k = m.carrier
-
-  same : (a : ℕ) → a ≤ a
-  same a = omega arith
 
   -- a block goes into the open batch
   appended : (b : ℕ) (bs : List ℕ) → m.pending j ≡ b ∷ bs → (p2 : Part) → is_draining p2 ≡ false

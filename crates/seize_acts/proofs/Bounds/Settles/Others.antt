@@ -15,11 +15,12 @@ use Rattle.seize_model.proofs.Given.SeizeMemoryWords.View.{list_in}
 use Rattle.seize_model.proofs.Given.SeizeRulePoints.Aside.{is_handed}
 use Rattle.seize_model.proofs.Given.SeizeRulePoints.Told.{Part, Pushing, part}
 use Rattle.seize_model.proofs.Alone.Histories.Reached.{Reached}
-use Rattle.seize_acts.proofs.Bounds.Bounds.Hands.{SameInHand, SameShut, in_batch, in_hand}
+use Rattle.seize_acts.proofs.Bounds.Bounds.Hands.{SameInHand, SameShut, in_batch}
 use Rattle.seize_acts.proofs.Bounds.Bounds.Knows.{behind_count, pending_handed, put_handed}
 use Rattle.seize_acts.proofs.Bounds.Bounds.Values.{value_kept}
 use Rattle.seize_acts.proofs.Bounds.Settles.Carried.{FILLING, DRAINING, carriers, carriers_same, carried, retiring, taking, owes, is_draining, shut, shut_at}
 use Rattle.seize_acts.proofs.Bounds.Settles.Measure.{here}
+use Rattle.seize_model.proofs.Alone.Histories.Waiting.{in_hand}
 
 -- what the collector has lives, and keeps a list if its value says so
 handed_lives : (l : Life) → is_handed l ≡ true → lives l ≡ true

@@ -41,6 +41,7 @@ use Rattle.seize_acts.proofs.Bounds.Settles.Others.{left_of, still_left}
 use Rattle.seize_acts.proofs.Bounds.Settles.Reclaims.{put_once}
 use Rattle.seize_acts.proofs.Bounds.Settles.Step.{Stepping}
 use Rattle.seize_model.proofs.Given.SeizeRulePoints.Told.{part}
+use Rattle.seize_model.proofs.Given.SeizeRuleRows.Leave.{over_is}
 
 -- a row that has a batch in hand settles on its slot
 batch_on : (n s : ℕ) (row : Row) → WorksThere n row → has_batch s row ≡ true → SettlesOn s row
@@ -76,9 +77,6 @@ slot_of n s (AsItLeaves c) d row is works on = ((subst (WorksThere n) is works) 
 has_held : (s : ℕ) (g : Form) (d : Settle) → has_batch s (as_row g d) ≡ true → d.held ≡ true
 has_held s Only d has = (has_on s d has).1
 has_held s (AsItLeaves c) d has = (has_on s d has).1
-
-over_is : (p : Settling) → is_over p ≡ true → p ≡ at.Over
-over_is p e = grind arith
 
 -- what a batch puts is no more than there can be
 few_puts : {T : Type 0} (defers : T → Option ℕ) (size j : ℕ) (w : World T) (good : Good defers (LAST_SLOT + 1) size w) → length (good.state.puts j) ≤ MOST

@@ -32,9 +32,7 @@ use Rattle.seize_acts.proofs.Quiet.Slots.Steps.{no_row}
 use Rattle.seize_acts.proofs.Quiet.Ends.Measures.{by_two}
 use Rattle.seize_acts.proofs.Quiet.Ends.Flushes.{IsBatch, rounds_on, flush_ends}
 use Rattle.seize_acts.proofs.Quiet.Ends.Frees.{IsFreeing, Point, Backward, frees_end}
-
-no_more : (k : ℕ) → k ≤ k
-no_more k = omega arith
+use Rattle.seize_words.proofs.General.{at_most_itself as no_more}
 
 module _ {T : Type 0} (defers : T → Option ℕ) (left_over : T → Bool) (size roots i : ℕ) (word : size < 2 ^ 64) (Q : World T → ReclaimAll → Type 0) (back : Backward defers left_over size roots i word Q) where
   abbrev At : Type 0

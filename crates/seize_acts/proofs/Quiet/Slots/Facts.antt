@@ -26,11 +26,12 @@ use Rattle.seize_acts.proofs.Acts.Reclaimed.Flushed.{batch_zero}
 use Rattle.seize_acts.proofs.Acts.Reclaimed.Quiet.{quiet_sets, quiet_shown, opened_below, opened_past}
 use Rattle.seize_acts.proofs.Quiet.Slots.Came.{came_reached}
 use Rattle.seize_acts.specs.Quiet.Slots.{Came, IsForSlots, AreItsRows, AllRest, HasNoBatch, IsQuiet}
+use Rattle.seize_words.proofs.General.{no_length}
 
-idle_outside : (u : Use) → u ≡ Outside 0 → IsOutside u
+pub idle_outside : (u : Use) → u ≡ Outside 0 → IsOutside u
 idle_outside u e = subst (λ (x : Use). IsOutside x) (sym e) tt
 
-vacant_outside : (u : Use) → u ≡ Vacant → IsOutside u
+pub vacant_outside : (u : Use) → u ≡ Vacant → IsOutside u
 vacant_outside u e = subst (λ (x : Use). IsOutside x) (sym e) tt
 
 -- of a slot that is idle below a number, and vacant from there on
@@ -39,10 +40,6 @@ outside_at slots uses idle vacant t = elim (cases_lt t slots) as (λ _. IsOutsid
   | inl l ↦ idle_outside (uses t) (idle t l)
   | inr l ↦ vacant_outside (uses t) (vacant t l)
 ]
-
-no_length : (l : List ℕ) → length l ≡ 0 → l ≡ []
-no_length [] e = refl
-no_length (b ∷ l) e = absurd (omega (arith, e))
 
 module _ {T : Type 0} (defers : T → Option ℕ) (size : ℕ) where
   runs_run : (i steps : ℕ) (w n : World T) → RunsOn defers steps i w n

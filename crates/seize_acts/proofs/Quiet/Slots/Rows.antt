@@ -1,5 +1,5 @@
 -- A row within reclaiming all takes its steps: it never waits, and what it hands out was retired.
-use Rattle.std.specs.Prelude.{Option, Some, IsSome}
+use Rattle.std.specs.Prelude.{Option}
 use Rattle.std.proofs.Common.{◌≡◌, ℕ, zero, suc, ◌+◌, true, List, [], ◌∷◌, ◌++◌, refl, ap, sym, subst, ◌∙◌}
 use Rattle.std.proofs.lemmas.List.{append-nil}
 use Rattle.seize_words.specs.OneMemory.Mem.{Mem, Took, value_at}
@@ -28,6 +28,7 @@ use Rattle.seize_acts.proofs.Acts.Waits.{row_waits}
 use Rattle.seize_acts.proofs.Quiet.Slots.Came.{came_reached, taken_gone}
 use Rattle.seize_acts.specs.Quiet.Slots.{Came, AllRest, Within, SlotsTold}
 use Rattle.seize_acts.proofs.Quiet.Slots.Facts.{rested_by, held_by}
+use Rattle.seize_words.proofs.General.{some_is}
 
 -- what is taken was retired
 one_taken : (effects log : List Effect) (b : ℕ) → IsOneStep effects → taken_in effects ≡ b ∷ [] → IsSound (effects ++ log) → is_retired b log ≡ true
@@ -35,9 +36,6 @@ one_taken [] log b one e sound = absurd (cc e)
 one_taken (Taken c ∷ []) log b one e sound = subst (λ (x : ℕ). is_retired x log ≡ true) (let k : c ≡ b = cc e in k) sound.0
 one_taken (e ∷ f ∷ effects) log b one k sound = absurd one
 one_taken (e ∷ []) log b one k sound = absurd (cc k)
-
-some_is : {X : Type 0} (o : Option X) (x : X) → o ≡ Some x → IsSome o
-some_is {X} o x e = subst (λ (p : Option X). IsSome p) (sym e) refl
 
 module _ {T : Type 0} (defers : T → Option ℕ) (size : ℕ) (w : World T) (m2 : Mem T) (effects : List Effect) (w2 : World T) (logged : w2.log ≡ effects ++ w.log) where
   -- it has taken no block

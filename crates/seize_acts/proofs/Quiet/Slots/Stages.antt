@@ -14,16 +14,11 @@ use Rattle.seize_model.proofs.Given.SeizeMemoryWords.Named.{words_of, word_found
 use Rattle.seize_model.proofs.Given.SeizeRuleWorld.Good.{Good}
 use Rattle.seize_model.proofs.Given.SeizeMemoryWords.View.{view}
 use Rattle.seize_model.proofs.Sets.Reclaims.Ends.{untaken_vacant}
-use Rattle.seize_model.proofs.Sets.Turns.Heads.{head_word, vacant_by, none_past, never_behind, taken_so, zero_never}
-use Rattle.seize_acts.proofs.Acts.Slots.{head_none}
+use Rattle.seize_model.proofs.Sets.Turns.Heads.{head_word, vacant_by, none_past, never_behind, taken_so, never_zero as head_none}
 use Rattle.seize_acts.specs.Quiet.Slots.{AllRest, HasNoBatch, IsQuiet, Settling, Flushing, Freeing, Came, Stage as StageOf}
 use Rattle.seize_acts.proofs.Quiet.Slots.Facts.{outside_at, rested_by, word_behind, never_none}
-
-lt_of : (a b : ℕ) → nat_lt a b ≡ true → a < b
-lt_of a b l = grind (arith, l)
-
-le_of : (a b : ℕ) → nat_lt a b ≡ false → b ≤ a
-le_of a b l = grind (arith, l)
+use Rattle.seize_model.proofs.Given.SeizeRulePoints.Try.{never_word as zero_never}
+use Rattle.seize_words.proofs.General.{less_not as le_of, less_so as lt_of}
 
 module _ {T : Type 0} (defers : T → Option ℕ) (size roots i : ℕ) where
   abbrev Stage : ReclaimAll → World T → Type 0

@@ -34,12 +34,7 @@ use Rattle.seize_acts.specs.Quiet.Slots.{AreItsRows, Came, Settling, Within, Sta
 use Rattle.seize_acts.proofs.Quiet.Slots.Facts.{rested_by, calls_run}
 use Rattle.seize_acts.proofs.Quiet.Slots.Rows.{goes_told, gave_told, lone_in, more_in, ends_in, leave_waits_not}
 use Rattle.seize_acts.proofs.Quiet.Slots.Stages.{next_slot, stops_here}
-
-is_two : (a : ℕ) → (a == NEVER) ≡ false → (a == FREE) ≡ false → nat_lt a ACTIVE ≡ true → a ≡ 2
-is_two a p q l = grind (arith, p, q, l)
-
-above_two : (a : ℕ) → nat_lt a ACTIVE ≡ false → 2 < a
-above_two a l = grind (arith, l)
+use Rattle.seize_model.proofs.Sets.Reclaims.Stages.{is_two, above_two}
 
 module _ {T : Type 0} (defers : T → Option ℕ) (left_over : T → Bool) (size roots i : ℕ) (word : size < 2 ^ 64) where
   module _ (w : World T) (came : Came defers size w) where

@@ -26,14 +26,11 @@ use Rattle.seize_acts.proofs.Reclaims.AllReclaimed.Steps.{Arrived}
 use Rattle.seize_model.proofs.Alone.Histories.Calls.{history_rested}
 use Rattle.seize_model.proofs.Alone.Histories.Sets.{active_now}
 use Rattle.seize_model.proofs.Alone.Whole.Begins.{flush_begins}
+use Rattle.seize_words.proofs.General.{no_length}
 
 first_none : (a c : List ℕ) → a ++ c ≡ [] → a ≡ []
 first_none [] c e = refl
 first_none (x ∷ a) c e = absurd (cc e)
-
-no_length : (a : List ℕ) → length a ≡ 0 → a ≡ []
-no_length [] e = refl
-no_length (x ∷ a) e = absurd (omega (arith, e))
 
 none_so : (p : ℕ → Bool) (k : ℕ) → ((t : ℕ) → t < k → p t ≡ false) → ascending p k ≡ []
 none_so p zero h = refl

@@ -16,21 +16,18 @@ use Rattle.seize.specs.Settle.{settle_plan}
 use Rattle.seize.specs.ReclaimAll.{standing, next_head, next_batch, within, plan_at, reclaim_all_plan}
 use Rattle.seize.specs.World.{Flush, Settles}
 use Rattle.seize_model.specs.Alone.Alone.{History, IsMidway, AreValues, blocks_in, given_back}
-use Rattle.seize_acts.specs.Reclaims.AllReclaimed.{IsReclaiming, IsAllReclaimed, all, is_within, is_flushing, weight_at}
+use Rattle.seize_acts.specs.Reclaims.AllReclaimed.{IsReclaiming, IsAllReclaimed, all, is_within, is_flushing}
 use Rattle.seize_acts.specs.Reclaims.Roots.{all_lists}
 use Rattle.seize_model.proofs.Given.SeizeRuleRows.LeavesTold.{leave_quiet}
 use Rattle.seize_model.proofs.Given.SeizeRuleWords.Kept.{IsQuietPlan, quiet_as, settle_quiet}
 use Rattle.seize_acts.proofs.Reclaims.AllReclaimed.Points.{values_then}
 use Rattle.seize_acts.proofs.Reclaims.AllReclaimed.Traces.{is_point, reclaim_may, reclaim_still, reclaim_gave, reclaim_done, flush_begun, flush_still}
-use Rattle.seize_acts.proofs.Reclaims.AllReclaimed.Weights.{row_to_go, point_lower, row_less, row_falls, row_not_done}
+use Rattle.seize_acts.proofs.Reclaims.AllReclaimed.Weights.{row_to_go, point_lower, row_less, row_falls, row_not_done, weight}
 use Rattle.seize_model.proofs.Alone.Whole.Rest.{steps_on}
 
 module _ {T : Type 0} (defers : T → Option ℕ) (left_over : T → Bool) (batch_size roots : ℕ) (m : Mem T) (h : History) (lists : ℕ → List ℕ) where
   abbrev Mid : ReclaimAll → Mem T → List T → Type 0
   Mid c m2 given = IsReclaiming defers left_over batch_size roots m h lists c m2 given
-
-  abbrev weight : ReclaimAll → ℕ
-  weight c = weight_at c c.stands
 
   -- it ends with these values, and more behind them
   abbrev EndsWith : List T → Type 0

@@ -30,9 +30,7 @@ use Rattle.seize_model.proofs.Given.SeizeRuleRows.Leaving.{steps_back}
 use Rattle.seize_acts.proofs.Reclaims.AllReclaimed.Points.{OnSlots, Point, AtSlots, AtRoots}
 use Rattle.seize_acts.proofs.Reclaims.Roots.Cleared.{clear_to_go, clear_still}
 use Rattle.seize_model.proofs.Alone.Whole.Ends.{call_ends}
-
-lt_of : (a b : ℕ) → nat_lt a b ≡ true → a < b
-lt_of a b l = grind (arith, l)
+use Rattle.seize_words.proofs.General.{less_so as lt_of}
 
 abbrev pub weight : ReclaimAll → ℕ
 weight c = weight_at c c.stands

@@ -26,6 +26,7 @@ use Rattle.seize_model.proofs.Alone.Histories.Uses.{none_held}
 use Rattle.seize_model.proofs.Alone.Spared.Fewer.{take_fewer}
 use Rattle.seize_acts.proofs.Reclaims.Roots.Listed.{times_append, lists_split, cleared_append, cleared_hand, next_some, next_none}
 use Rattle.seize_acts.proofs.Reclaims.Roots.Freed.{entry_some, kept_value, kept_next, frees_taken, frees_named, frees_unused, frees_passed}
+use Rattle.seize_words.proofs.General.{less_not as le_of, less_so as lt_of}
 
 -- how many steps it takes at most until it reclaims a value, or ends
 abbrev pub steps_at : ℕ → Reclaiming → ℕ
@@ -35,12 +36,6 @@ steps_at roots (at.Takes root block next) = 6 * (roots - root) - 2
 steps_at roots (at.Empties root) = 6 * (roots - root) - 3
 steps_at roots (at.Unuses root) = 6 * (roots - root) - 4
 steps_at roots _ = 0
-
-lt_of : (r n : ℕ) → nat_lt r n ≡ true → r < n
-lt_of r n e = grind (arith, e)
-
-le_of : (r n : ℕ) → nat_lt r n ≡ false → n ≤ r
-le_of r n e = grind (arith, e)
 
 zero_of : (w : ℕ) → (w == 0) ≡ true → w ≡ 0
 zero_of w e = grind (arith, e)

@@ -30,11 +30,12 @@ use Rattle.seize_seats.specs.Seats.Owned.{BaseId, strip_told}
 use Rattle.seize_seats.specs.contracts.kept.Kept as kept_of
 use Rattle.seize_atoms.specs.contracts.strip.Strip as strip
 use Rattle.seize_seats.specs.contracts.place.Address as address
-use Rattle.seize_atoms.proofs.Fields.{hand_of, one_of, one_good, StripData, strip_data_told, strip_opened, address_made}
+use Rattle.seize_atoms.proofs.Fields.{one_of, one_good, StripData, strip_data_told, strip_opened, address_made}
 use Rattle.seize_blocks.specs.contracts.part.words_in.{ended, clauses}
 use Rattle.seize_blocks.specs.contracts.part.words_in.Key.{name as #self}
 use Rattle.seize_blocks.proofs.part.words_in.Statement.{statement}
 use Rattle.seize_blocks.proofs.part.words_in.Code as code
+use Rattle.seize_words.proofs.OneMemory.Stored.{hand_of}
 
 pub words_in_spec : {M : Type 1} → statement M
 words_in_spec 𝓤 𝓛 𝓜 𝓡 wired T L =

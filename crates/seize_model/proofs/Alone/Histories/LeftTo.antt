@@ -39,7 +39,7 @@ orphan_kept b (Ended w ∷ []) log one = absurd one
 orphan_kept b (LeftOver c further ∷ []) log one = absurd one
 orphan_kept b (e ∷ f ∷ effects) log one = absurd one
 
-over_kept : (b : ℕ) (effects log : List Effect) → IsOneStep effects → is_over b (effects ++ log) ≡ is_over b log
+pub over_kept : (b : ℕ) (effects log : List Effect) → IsOneStep effects → is_over b (effects ++ log) ≡ is_over b log
 over_kept b [] log one = refl
 over_kept b (Entered c ∷ []) log one = refl
 over_kept b (Left c ∷ []) log one = refl

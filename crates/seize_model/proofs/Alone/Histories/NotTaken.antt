@@ -7,7 +7,7 @@ use Rattle.seize.specs.declared.states.TheConstants.{LAST_SLOT}
 use Rattle.seize.specs.Law.{Effect, Taken, is_somewhere, where_is, reachable, is_retired, holds, IsSound}
 use Rattle.seize.specs.World.{World, Steps', times, IsInside, IsOwn, Hand, NoBlock, Making, InUse, Parting, Cutting, Handed, LeftTo}
 use Rattle.seize.specs.Sequence.{taken_in}
-use Rattle.seize_rule.proofs.Given.SeizeMovesState.Ghost.{Debt, State, Life, IsFree, IsOwned, IsLinked, IsUnlinked, IsDeferring, IsDeferred, IsPending, IsIn, IsDoomed, IsLeft, is_given, place_of}
+use Rattle.seize_rule.proofs.Given.SeizeMovesState.Ghost.{State, Life, IsFree, IsOwned, IsLinked, IsUnlinked, IsDeferring, IsDeferred, IsPending, IsIn, IsDoomed, IsLeft, is_given, place_of}
 use Rattle.seize_rule.proofs.Given.SeizeMovesState.Rule.{IsGuarded}
 use Rattle.seize_rule.proofs.Given.SeizeMemoryWords.Shows.{lives}
 use Rattle.seize_rule.proofs.Given.SeizeMemoryWords.There.{value_there}
@@ -18,6 +18,7 @@ use Rattle.seize_model.proofs.Alone.Spared.Users.{own_kept}
 use Rattle.seize_rule.proofs.Rows.Effects.{one_not_taken, hand_kept, place_kept, taken_hand}
 use Rattle.seize_model.proofs.Alone.Spared.Rows.{RowStepped, row_stepped}
 use Rattle.seize_model.proofs.Alone.Histories.Reached.{Reached, steps_reached}
+use Rattle.seize_rule.proofs.Rows.KnownLasts.{guarded_live as guarded_lives}
 
 -- a block that can be reached lives, and the collector doesn't have it
 
@@ -44,19 +45,6 @@ reached_kept life (IsPending i) h = refl
 reached_kept life (IsIn x) h = absurd (cc h)
 reached_kept life (IsDoomed i) h = absurd (cc h)
 reached_kept life (IsLeft i) h = refl
-
--- and one that an open section holds
-guarded_lives : (l : Life) (debt : ℕ → ℕ → Debt) (t : ℕ) → IsGuarded l debt t → lives l ≡ true
-guarded_lives IsFree debt t h = absurd h
-guarded_lives (IsOwned i) debt t h = refl
-guarded_lives IsLinked debt t h = refl
-guarded_lives (IsUnlinked i) debt t h = refl
-guarded_lives (IsDeferring i s b) debt t h = refl
-guarded_lives (IsDeferred b) debt t h = refl
-guarded_lives (IsPending i) debt t h = refl
-guarded_lives (IsIn x) debt t h = refl
-guarded_lives (IsDoomed i) debt t h = refl
-guarded_lives (IsLeft i) debt t h = refl
 
 users_live : (h : Hand) (l : Life) → IsOfUsers h → HandFits h l → lives l ≡ true
 users_live NoBlock l u f = absurd u

@@ -55,7 +55,7 @@ register_uses n i t row row2 m m2 uses uses2 c is used apart (DeferEnds s d e e2
 inside_used : (u : Use) → IsInside u → u ≡ Vacant → ⊥
 inside_used u h e = subst (λ (v : Use). IsInside v) e h
 
-inside_shared : (u : Use) → IsInside u → is_shared u ≡ true
+pub inside_shared : (u : Use) → IsInside u → is_shared u ≡ true
 inside_shared Vacant h = absurd h
 inside_shared (Outside k) h = absurd h
 inside_shared (Inside k) h = refl

@@ -11,15 +11,15 @@ use Rattle.seize_rule.proofs.Given.SeizeWaitingBehind.{every_of, none_further}
 use Rattle.seize_rule.proofs.Given.SeizeWaitingCounts.{count-append}
 use Rattle.seize_model.specs.Alone.Alone.{History, IsHistory, at_rest}
 use Rattle.seize_rule.proofs.Points.Aside.{HandFits, is_handed}
-use Rattle.seize_rule.proofs.Given.SeizeMovesState.Ghost.{Debt, Stage, Unused, Open, Closing, Closed, Dead, Life, IsFree, IsOwned, IsLinked, IsUnlinked, IsDeferring, IsDeferred, IsPending, IsIn, IsDoomed, IsLeft, State, is_in, is_deferred, lies_with, can_carry}
+use Rattle.seize_rule.proofs.Given.SeizeMovesState.Ghost.{Debt, Dead, Life, IsFree, IsOwned, IsLinked, IsUnlinked, IsDeferring, IsDeferred, IsPending, IsIn, IsDoomed, IsLeft, State, is_in, is_deferred, lies_with, can_carry}
 use Rattle.seize_rule.proofs.Given.SeizeMovesSets.Shown.{batch_shown, is_shut, shut_in}
 use Rattle.seize_model.proofs.Sets.Reclaims.NeverTaken.{NonePast, turns_past}
-use Rattle.seize_rule.proofs.Given.SeizeMovesState.Rule.{SameUnlessDead}
 use Rattle.seize_rule.proofs.Given.SeizeMemoryWords.Shows.{CarrierIs, lives}
 use Rattle.seize_model.proofs.Sets.Turns.All.{turns_shown, start_shown}
 use Rattle.seize_model.proofs.Sets.Turns.Begins.{Shown}
 use Rattle.seize_rule.proofs.Given.SeizeMemoryWords.View.{list_in}
 use Rattle.seize_rule.proofs.Given.SeizeMemoryWords.There.{value_there}
+use Rattle.seize_rule.proofs.Given.SeizeMovesMoves.Tries.{same_box as alive}
 
 not_in : (x : ℕ) (l : Life) → is_handed l ≡ false → is_in x l ≡ 0
 not_in x IsFree e = refl
@@ -62,7 +62,7 @@ lies t (IsIn y) ne = absurd (ne refl)
 lies t (IsDoomed i) ne = absurd (ne refl)
 lies t (IsLeft i) ne = absurd (ne refl)
 
-carries_lives : (l : Life) → can_carry l ≡ true → lives l ≡ true
+pub carries_lives : (l : Life) → can_carry l ≡ true → lives l ≡ true
 carries_lives IsFree e = absurd (cc e)
 carries_lives (IsOwned i) e = refl
 carries_lives IsLinked e = refl
@@ -74,7 +74,7 @@ carries_lives (IsIn y) e = refl
 carries_lives (IsDoomed i) e = refl
 carries_lives (IsLeft i) e = refl
 
-in_hand : (h : Hand) (l : Life) → HandFits h l → is_handed l ≡ true → h ≡ Handed
+pub in_hand : (h : Hand) (l : Life) → HandFits h l → is_handed l ≡ true → h ≡ Handed
 in_hand NoBlock l f e = absurd (let a = ap is_handed f in cc (a, e))
 in_hand (Making i) l f e = absurd (let a = ap is_handed f in cc (a, e))
 in_hand (InUse o) l f e = absurd (let a = ap is_handed f in cc (a, e))
@@ -82,13 +82,6 @@ in_hand (Parting i) l f e = absurd (let a = ap is_handed f in cc (a, e))
 in_hand (Cutting i) l f e = absurd (let a = ap is_handed f in cc (a, e))
 in_hand Handed l f e = refl
 in_hand (LeftTo i) l f e = absurd (let a = ap is_handed f in cc (a, e))
-
-alive : (s : Stage) (a b : ℕ) → (s ≡ Dead → ⊥) → SameUnlessDead s a b → a ≡ b
-alive Unused a b ne e = e
-alive (Open s) a b ne e = e
-alive (Closing i) a b ne e = e
-alive Closed a b ne e = e
-alive Dead a b ne e = absurd (ne refl)
 
 -- a number that stands in none of the batches
 none_closed : (n b : ℕ) (blocks : ℕ → List ℕ) (debt : ℕ → ℕ → Debt) (order : List ℕ) → ((x : ℕ) → count x order ≢ 0 → count b (blocks x) ≡ 0)

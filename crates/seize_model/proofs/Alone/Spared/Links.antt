@@ -38,11 +38,11 @@ use Rattle.seize_rule.proofs.Given.SeizeMovesState.Ghost.{Life, IsDeferring, IsP
 use Rattle.seize_rule.proofs.Given.SeizeMovesState.Rule.{Inv}
 use Rattle.seize_rule.proofs.Given.SeizeMemoryWords.Chains.{last_of, last_from, count_last}
 use Rattle.seize_rule.proofs.Given.SeizeMemoryWords.View.{view}
-use Rattle.seize_rule.proofs.Given.SeizeMemoryWords.Named.{block_there, link, link-block}
+use Rattle.seize_rule.proofs.Given.SeizeMemoryWords.Named.{block_there, link}
 use Rattle.seize_rule.proofs.Given.SeizeMemoryWords.Shows.{Extra, Shows}
 use Rattle.seize_rule.proofs.Given.SeizeMemoryWords.Apart.{is_doomed_first, is_pending_first, is_pending_put}
 use Rattle.seize_rule.proofs.Points.Deferred.{next_left, puts_some}
-use Rattle.seize_rule.proofs.Points.Retire.{open_stage, some_last}
+use Rattle.seize_rule.proofs.Points.Retire.{open_stage, some_last, of_link as named}
 use Rattle.seize_rule.proofs.Given.SeizeMemoryWritten.Retire.{in_batch}
 use Rattle.seize_rule.proofs.Points.Known.{FitsAt, Ends, Appends, Backs, bare, open_blocks}
 use Rattle.seize_rule.proofs.Rows.Known.{FitsLeave, FitsDefer}
@@ -137,10 +137,6 @@ module _ {T : Type 0} (b : ℕ) where
   pub plan_apart : {R : Type 0} (m : Mem T) (plan : Plan T R) (m2 : Mem T) (end : R) → IsPlanApart plan → May Can Took value_at m plan → Steps Took value_at m plan m2 end → SameNext m m2
   plan_apart m (Turn rest) m2 end q may s = ap (λ (k : Mem T). word_at k (name.Entry b NEXT)) s.0
   plan_apart m (Do op rest) m2 end q may s = ap (λ (k : Mem T). word_at k (name.Entry b NEXT)) s.1.1 ∙ op_apart m op s.0 q may.0 s.1.0
-
--- the word of a block names it
-named : (w d : ℕ) → w ≡ link d → w / 2048 ≡ d
-named w d e = ap (λ k. k / 2048) e ∙ link-block d
 
 module _ {T : Type 0} (defers : T → Option ℕ) (n i : ℕ) (mem mem2 : Mem T) (m : State) (x : Extra) (inv : Inv n m) (v : Shows n (view defers mem) m x) (b j : ℕ) (left : m.life b ≡ IsLeft j) where
   -- a block that the collector has is another one

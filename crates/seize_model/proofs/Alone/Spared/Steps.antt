@@ -40,7 +40,7 @@ use Rattle.seize_model.proofs.Alone.Spared.Operations.{IsSparingPlan, plan_takes
 link_some : (a d : ℕ) → a ≡ link d → 0 < d → 0 < a
 link_some a d e lt = omega (arith, e, lt)
 
-word_some : (again : Bool) → 0 < word_of again
+pub word_some : (again : Bool) → 0 < word_of again
 word_some true = omega arith
 word_some false = omega arith
 

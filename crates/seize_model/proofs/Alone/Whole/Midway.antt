@@ -37,6 +37,7 @@ use Rattle.seize_model.proofs.Alone.Spared.Links.{SameNext, settle_next, leave_n
 use Rattle.seize_rule.proofs.Points.Aside.{HandFits}
 use Rattle.seize_rule.proofs.Given.SeizeMovesState.Ghost.{IsLeft}
 use Rattle.seize_rule.proofs.Rows.LeavesTold.{UsedAs, LeaveIs, leave_still, leave_quiet}
+use Rattle.seize_rule.proofs.Rows.Leave.{over_is}
 
 -- one row more works on the slot, and then one less
 pub less_more : (u : Use) → one_less (one_more u) ≡ u
@@ -108,9 +109,6 @@ pub record Did {T : Type 0} (w n : World T) : Type 0 where
   pub left : (b j : ℕ) → w.hand b ≡ LeftTo j → (n.hand b ≡ LeftTo j) × SameNext b w.memory n.memory
 
 module _ {T : Type 0} (defers : T → Option ℕ) (size : ℕ) (w : World T) (lone : Lone defers (LAST_SLOT + 1) size 0 w) where
-  over_is : (p : Settling) → is_over p ≡ true → p ≡ at.Over
-  over_is p e = grind arith
-
   fits_settle : (c : Settle) → w.row 0 ≡ Settles c → FitsAt (LAST_SLOT + 1) 0 (view defers w.memory) lone.good.state lone.good.extra (bare c) c.stands
   fits_settle c is = subst (λ (r : Row). FitsRow (LAST_SLOT + 1) 0 (view defers w.memory) lone.good.state lone.good.extra (length w.memory.slots) r) is (lone.good.rows 0)
 

@@ -1,5 +1,5 @@
 -- A call in its middle can be run on to its end.
-use Rattle.std.specs.Prelude.{Option, Some, None, IsSome, Ok, Err, map}
+use Rattle.std.specs.Prelude.{Option, Some, Ok, Err, map}
 use Rattle.std.proofs.Common.{◌≡◌, ℕ, zero, suc, ◌<◌, true, List, [], ◌∷◌, ◌++◌, inl, inr, refl, arith, sym, subst}
 use Rattle.std.proofs.lemmas.Bool.{cases_eq}
 use Rattle.std.proofs.lemmas.List.{append-nil, append_assoc}
@@ -19,12 +19,9 @@ use Rattle.seize_model.proofs.Ends.Settling.Most.{is_going}
 use Rattle.seize_rule.proofs.Rows.LeavesTold.{leave_quiet}
 use Rattle.seize_model.proofs.Alone.Whole.Steps.{call_may, call_told}
 use Rattle.seize_model.proofs.Alone.Whole.Ends.{call_to_go, call_falls}
+use Rattle.seize_words.proofs.General.{some_there as some_of}
 
 -- a step that may be taken comes to something
-
-some_of : {X : Type 0} (o : Option X) → IsSome o → (x : X) × (o ≡ Some x)
-some_of None h = absurd (cc h)
-some_of (Some x) h = (x, refl)
 
 module _ {T : Type 0} where
   sees_on : {R : Type 0} (shown : ℕ → Option T) (rest : Then T R) → MaySee shown rest → (end : R) × Ends shown rest end

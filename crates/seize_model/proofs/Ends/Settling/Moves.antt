@@ -14,6 +14,7 @@ use Rattle.seize_rule.proofs.Given.SeizeMemoryWords.Shows.{lives}
 use Rattle.seize_rule.proofs.Points.Told.{Part, Plain, Draining, part, batch_now, Told, Stays, Holds, HoldsNone, Gives, Begins, Appends, Fills, Skips, Passes, Finds, Marks, GivesUp, Closes, Pushes, Misses, Sums, SumsLast, Drains, DrainsNone, Takes, TakesLast, Joins, Counts, CountsLast}
 use Rattle.seize_model.proofs.Ends.Settling.Measure.{weight, weighs}
 use Rattle.seize_rule.proofs.Given.SeizeMemoryWords.Sums.{sum_le, sum_falls}
+use Rattle.seize_rule.proofs.Given.SeizeMemoryWords.Apart.{put_here}
 
 -- every block that lives is below this number
 abbrev pub Below : ℕ → (ℕ → Life) → Type 0
@@ -40,9 +41,6 @@ doomed_weight n i x l = grind arith
 
 undeferred_weight : (n i b : ℕ) (l : Life) → weight n (undeferred i b l) + is_deferred b l ≤ weight n l
 undeferred_weight n i b l = grind arith
-
-put_here : {X : Type 0} (g : ℕ → X) (k : ℕ) (u : X) → put g k u k ≡ u
-put_here g k u = grind arith
 
 first_same : (d b : ℕ) (ds bs : List ℕ) → d ∷ ds ≡ b ∷ bs → d ≡ b
 first_same d b ds bs h = cc h

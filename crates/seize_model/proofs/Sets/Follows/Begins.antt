@@ -11,7 +11,7 @@ use Rattle.seize_rule.proofs.Given.SeizeWaitingCounts.{filter_same}
 use Rattle.seize_rule.proofs.Given.SeizeWaitingWork.{counted_begins}
 use Rattle.seize_rule.proofs.Given.SeizeWaitingRetired.{retired_bound}
 use Rattle.seize_rule.proofs.Given.SeizeMovesState.Ghost.{Debt, Unscanned, Marked, Gone, Skipped, Owing, Loose, Counted, Closed, Entry, Active, State, list_of}
-use Rattle.seize_rule.proofs.Given.SeizeMovesState.Rule.{Inv, not_longer}
+use Rattle.seize_rule.proofs.Given.SeizeMovesState.Rule.{Inv}
 use Rattle.seize_rule.proofs.Given.SeizeMemoryWords.Shows.{Extra}
 use Rattle.seize_rule.proofs.Points.Known.{Empty}
 use Rattle.seize_rule.proofs.Given.SeizeMovesSets.Shown.{waits, is_owing, batch_shown, batches_in, Models, models_alike}
@@ -24,6 +24,7 @@ use Rattle.seize_model.proofs.Sets.Follows.Work.{Lined, Base, Plainly, Flushes, 
 use Rattle.seize_model.proofs.Sets.Follows.Kept.{behind_in, retires_plainly, plainly_retires}
 use Rattle.seize_model.proofs.Sets.Follows.Countdown.{all_closed, all_wait}
 use Rattle.seize_rule.proofs.Given.SeizeMovesState.Moves
+use Rattle.seize_words.proofs.General.{at_most_itself as not_longer}
 
 -- the row has nothing in its hands
 pub record AtRest (i : ℕ) (m : State) : Type 0 where

@@ -1,5 +1,5 @@
 -- What a row that runs alone keeps of the waiting sets where only its own batch changes, and where nothing does that they show.
-use Rattle.std.proofs.Common.{◌≡◌, ℕ, ◌≤◌, List, [], ◌∷◌, ◌++◌, refl, arith, ap, append_assoc, subst, sym}
+use Rattle.std.proofs.Common.{◌≡◌, ℕ, ◌≤◌, List, [], ◌++◌, arith, ap, append_assoc, subst, sym}
 use Rattle.std.proofs.lemmas.List.{append-nil}
 use Rattle.seize.specs.Sequence.{taken_in}
 use Rattle.seize.specs.WaitingSets.{Batch, Further, Sets, After, with_closed, further_of_all, retired_all}
@@ -12,6 +12,7 @@ use Rattle.seize_rule.proofs.Given.SeizeMovesState.Ghost.{Open, State}
 use Rattle.seize_rule.proofs.Given.SeizeMovesSets.Shown.{Models, shut_in}
 use Rattle.seize_rule.proofs.Points.Told.{NoneLeft}
 use Rattle.seize_model.proofs.Sets.Follows.Work.{Lined, Base, Plainly, base_kept}
+use Rattle.seize_rule.proofs.Given.SeizeWaitingBehind.{kept_nil}
 
 -- Only the open batch changes among the batches, and the row's entries stay; nothing is reclaimed.
 pub record OpenOnly (i x : ℕ) (m m2 : State) : Type 0 where
@@ -74,10 +75,6 @@ pub record Retires (batch_size n i s : ℕ) (m : State) (before : List ℕ) (tar
   pub bound : ℕ
   pub base : Base batch_size n i s m before target order sets (retired_all batch_size bound s numbers sets) []
   pub enough : rounds (sets.open_batch s) numbers sets.further ≤ bound
-
-pub kept_nil : (further : List Further) → kept [] further ≡ further
-kept_nil [] = refl
-kept_nil (x ∷ further) = ap (λ (l : List Further). x ∷ l) (kept_nil further)
 
 given_is : (batch_size bound s : ℕ) (left puts pending : List ℕ) (sets : Sets) → left ≡ [] → puts ≡ []
     → rest_given batch_size bound s left puts pending sets ≡ retired_all batch_size bound s pending sets

@@ -10,7 +10,7 @@ use Rattle.seize_rule.proofs.Given.SeizeWaitingBound.{rounds, rounds_given, roun
 use Rattle.seize_rule.proofs.Given.SeizeWaitingWork.{rest_given, given_begins}
 use Rattle.seize_rule.proofs.Given.SeizeWaitingRetired.{one_retired, flush_tried, given_bound}
 use Rattle.seize_rule.proofs.Given.SeizeMovesState.Ghost.{State}
-use Rattle.seize_rule.proofs.Given.SeizeMovesState.Rule.{not_longer, open_length}
+use Rattle.seize_rule.proofs.Given.SeizeMovesState.Rule.{open_length}
 use Rattle.seize_rule.proofs.Given.SeizeMovesSets.Shown.{Models}
 use Rattle.seize_rule.proofs.Given.SeizeMovesSets.Counters.{once_shown}
 use Rattle.seize_rule.proofs.Given.SeizeMovesSets.Moved.{appended_models}
@@ -20,6 +20,7 @@ use Rattle.seize_rule.proofs.Given.SeizeMovesState.Moves
 use Rattle.seize_rule.proofs.Points.Told.{Part, Plain, Flushing, Trying, Marking, Pushing, Draining, NoneLeft, NotScanned, length_word}
 use Rattle.seize_model.proofs.Sets.Follows.Work.{Base, Plainly, Flushes, rest_tried, TryBounds, Tries, Puts, Follows, Setting}
 use Rattle.seize_model.proofs.Sets.Follows.Kept.{OpenOnly, open_on, rest_on, Retires, plainly_retires, retires_plainly}
+use Rattle.seize_words.proofs.General.{at_most_itself as not_longer}
 
 -- no move
 pub stays_follows : (batch_size n i s : ℕ) (p p2 : Part) (m m2 : State) (before : List ℕ) (target : After) → Setting batch_size n i s p m

@@ -1,6 +1,6 @@
 -- A slot that was never taken has no open batch.
 use Rattle.std.specs.Prelude.{Option, Some, None}
-use Rattle.std.proofs.Common.{◌≡◌, ℕ, suc, ◌+◌, ◌<◌, ◌≤◌, ◌^◌, Bool, List, [], ◌∷◌, length, inl, inr, refl, arith, subst, sym, ap, ◌∙◌}
+use Rattle.std.proofs.Common.{◌≡◌, ℕ, suc, ◌+◌, ◌<◌, ◌≤◌, ◌^◌, List, [], ◌∷◌, length, inl, inr, refl, arith, subst, sym, ap, ◌∙◌}
 use Rattle.std.proofs.lemmas.Bool.{cases_lt}
 use Rattle.seize_words.specs.declared.at.At.TheVariants as name
 use Rattle.seize_words.specs.OneMemory.Mem.{word_at}
@@ -11,27 +11,16 @@ use Rattle.seize.specs.Sequence.{Turn, Whole, Between, Calls, TakesTurns, entere
 use Rattle.seize.specs.WaitingSets.{Change, Sets, all_changed, all_left, left, counted, flushed, retired, size as set_size}
 use Rattle.seize.specs.World.{World, Row, Use, Vacant, Outside, Inside, Changing, IsTaken, Request, Register', Enter', Leave', LeaveOwned, Refresh, Unregister', Retire, Flush, Defer', SlotsTaken, Event, Begin, Step, Makes, Drops, Links, Parts, Unlinks, Rewrites, Operates, LeavesOver, Relinks, Clears, Chooses, Ends}
 use Rattle.seize_rule.proofs.Given.SeizeWaitingFlushes.{retired_all_frame, flushed_frame, counted_frame, left_others, all_left_others}
-use Rattle.seize_rule.proofs.Given.SeizeMovesState.Ghost.{Head, Never, emptied}
-use Rattle.seize_model.proofs.Sets.Turns.Heads.{zero_never}
 use Rattle.seize_rule.proofs.World.Rested.{Rested, calls_rested, users_rested}
 use Rattle.seize_model.proofs.Sets.Reclaims.Sets.{slots_fit, settled_come, active_taken}
 use Rattle.seize_rule.proofs.Rows.Short.{tries_on}
-use Rattle.seize_rule.proofs.Rows.Teams.{UseFits, is_taken}
 use Rattle.seize_model.proofs.Sets.Turns.All.{changed_then}
 use Rattle.seize_model.proofs.Sets.Turns.Begins.{Shown}
 use Rattle.seize_rule.proofs.Given.SeizeMemoryWords.View.{view}
 use Rattle.seize_rule.proofs.Given.SeizeMemoryWords.Named.{words_of, word_found}
-
-no_length : (xs : List ℕ) → length xs ≡ 0 → xs ≡ []
-no_length [] e = refl
-no_length (x ∷ xs) e = absurd (omega (arith, e))
-
--- a slot with no head is vacant
-never_vacant : (u : Use) (h : Head) (k : ℕ) (open_now : Bool) → h ≡ Never → UseFits u (emptied h) k open_now → u ≡ Vacant
-never_vacant Vacant h k o e f = refl
-never_vacant (Outside j) h k o e f = absurd (let a = f.0 in let b = ap emptied e in cc (a, b))
-never_vacant (Inside j) h k o e f = absurd (let a = f.0 in let b = ap emptied e in cc (a, b))
-never_vacant Changing h k o e f = absurd (let a = f.0 in let b = ap (λ (x : Head). is_taken (emptied x)) e in cc (a, b))
+use Rattle.seize_model.proofs.Sets.Slots.Registers.{never_used as never_vacant}
+use Rattle.seize_rule.proofs.Points.Try.{never_word as zero_never}
+use Rattle.seize_words.proofs.General.{no_length}
 
 module _ (n size : ℕ) where
   -- no slot from n on has an open batch

@@ -1,6 +1,6 @@
 -- Rounds of flushes in the world are the model's: they go on until nothing waits, and its bound is not met before.
 use Rattle.std.specs.Prelude.{Option, Some, max, ◌==◌}
-use Rattle.std.proofs.Common.{◌≡◌, ℕ, zero, suc, ◌+◌, ◌<◌, ◌≤◌, ◌^◌, Bool, true, false, cond, eqb, ltb, List, [], ◌∷◌, ◌++◌, length, refl, ap, arith, subst, sym, ◌∙◌, eqb-true, append_assoc}
+use Rattle.std.proofs.Common.{◌≡◌, ℕ, zero, suc, ◌+◌, ◌<◌, ◌≤◌, ◌^◌, Bool, true, false, cond, eqb, ltb, List, [], ◌++◌, length, refl, ap, arith, subst, sym, ◌∙◌, eqb-true, append_assoc}
 use Rattle.std.proofs.lemmas.Bool.{eqb-false, ltb-true, ltb-false}
 use Rattle.seize_words.specs.declared.at.At.TheVariants as name
 use Rattle.seize_words.specs.OneMemory.Mem.{word_at}
@@ -14,6 +14,7 @@ use Rattle.seize_rule.proofs.Given.SeizeMovesSets.Counters.{once_shown}
 use Rattle.seize_model.proofs.Sets.Turns.Begins.{Shown, rest}
 use Rattle.seize_rule.proofs.Given.SeizeMemoryWords.Named.{word_found}
 use Rattle.seize_model.proofs.Sets.Reclaims.Sets.{Comes, slots_fit, active_taken, settled_come, reclaims_come, then_quiet, flush_quiet, emptied_times, flush_all, flush_rounds, open_none}
+use Rattle.seize_words.proofs.General.{no_length}
 
 abbrev after_as : Sets → List ℕ → After
 after_as s l = record { sets = s; reclaimed = l }
@@ -76,10 +77,6 @@ module _ (batch_size : ℕ) where
       at : (y : Bool) → y ≡ false → cond y (quietly w) (then_also (emptied batch_size w.slots w) (emptied_all batch_size bound)) ≡ then_also (emptied batch_size w.slots w) (emptied_all batch_size bound)
       at true f = absurd (cc f)
       at false f = refl
-
-no_length : (xs : List ℕ) → length xs ≡ 0 → xs ≡ []
-no_length [] e = refl
-no_length (x ∷ xs) e = absurd (omega (arith, e))
 
 -- nothing is open
 none_below : (k : ℕ) (f : ℕ → List ℕ) → len_below k f ≡ 0 → (s : ℕ) → s < k → f s ≡ []

@@ -25,18 +25,13 @@ use Rattle.seize_model.proofs.Sets.Turns.Heads.{word_says, vacant_by, outside_by
 use Rattle.seize_model.proofs.Sets.Slots.Retaken.{retaken_idle}
 use Rattle.seize_model.proofs.Sets.Reclaims.Ends.{flush_all_vacant, rounds_vacant, untaken_vacant}
 use Rattle.seize_model.proofs.Sets.Slots.Kept.{leave_idles, flush_outside, given_up_vacant}
+use Rattle.seize_words.proofs.General.{less_not as le_of, less_so as lt_of}
 
-is_two : (a : ℕ) → (a == NEVER) ≡ false → (a == FREE) ≡ false → nat_lt a ACTIVE ≡ true → a ≡ 2
+pub is_two : (a : ℕ) → (a == NEVER) ≡ false → (a == FREE) ≡ false → nat_lt a ACTIVE ≡ true → a ≡ 2
 is_two a p q l = grind (arith, p, q, l)
 
-above_two : (a : ℕ) → nat_lt a ACTIVE ≡ false → 2 < a
+pub above_two : (a : ℕ) → nat_lt a ACTIVE ≡ false → 2 < a
 above_two a l = grind (arith, l)
-
-lt_of : (a b : ℕ) → nat_lt a b ≡ true → a < b
-lt_of a b l = grind (arith, l)
-
-le_of : (a b : ℕ) → nat_lt a b ≡ false → b ≤ a
-le_of a b l = grind (arith, l)
 
 module _ {T : Type 0} (defers : T → Option ℕ) (n size roots : ℕ) (last : n ≡ LAST_SLOT + 1) (i : ℕ) (w : World T) where
   abbrev pub Idle : ℕ → World T → Type 0

@@ -13,7 +13,8 @@ use Rattle.seize_model.proofs.Sets.Slots.Vacant.{new_slot_vacant}
 use Rattle.seize_rule.proofs.Rows.Others.{with_here, with_other}
 use Rattle.seize_rule.proofs.World.Rested.{Lone, Rested, begins_lone, steps_lone, start_rested, rests_on, turns_rested}
 use Rattle.seize_model.proofs.Sets.Slots.Registers.{use_taken, RegistersOn, Comes, GoesOn, IsRefused, TakesFirst, registers_alone}
-use Rattle.seize_model.proofs.Sets.Slots.Others.{DoesNotRegister, begins_still, runs_still}
+use Rattle.seize_model.proofs.Sets.Slots.Others.{begins_still, runs_still}
+use Rattle.seize_model.proofs.Sets.Turns.Begins.{NoNewSlot as DoesNotRegister}
 
 -- It is refused, and all slots are used as before, or it has taken the first vacant one.
 abbrev pub Registered : (ℕ → Use) → Bool → (ℕ → Use) → Type 0

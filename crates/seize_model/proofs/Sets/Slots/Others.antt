@@ -21,6 +21,7 @@ use Rattle.seize.specs.World.{World, Row, Rests, Registers, Enters, Settles, Lea
 use Rattle.seize.specs.Sequence.{RunsOn}
 use Rattle.seize_rule.proofs.Rows.Leaving.{steps_back}
 use Rattle.seize_rule.proofs.Rows.Others.{with_here, with_other}
+use Rattle.seize_model.proofs.Sets.Turns.Begins.{NoNewSlot as DoesNotRegister}
 
 -- a leaving row keeps its slot
 
@@ -66,10 +67,6 @@ KeepsOff s (Settles c) = Unit {0}
 KeepsOff s (Leaves c) = c.slot ≡ s → ⊥
 KeepsOff s (Defers t c) = Unit {0}
 KeepsOff s (Frees c) = Unit {0}
-
-abbrev pub DoesNotRegister : Request → Type 0
-DoesNotRegister (Register' enters) = ⊥
-DoesNotRegister _ = Unit {0}
 
 -- uses of slots
 

@@ -1,6 +1,6 @@
 -- A row that registers while no other row takes or frees a slot takes the first vacant one, or none.
 use Rattle.std.specs.Prelude.{Option, Some, None, slice_get, if◌then◌else◌, nat_lt}
-use Rattle.std.proofs.Common.{◌≡◌, ℕ, ◌+◌, ◌<◌, ◌≤◌, Bool, true, false, cond, eqb, eqb-true, List, [], ◌∷◌, length, ◌⊎◌, inl, inr, refl, arith, sym, subst, ap, ◌∙◌}
+use Rattle.std.proofs.Common.{◌≡◌, ℕ, ◌+◌, ◌<◌, ◌≤◌, Bool, true, false, cond, eqb, eqb-true, List, [], length, ◌⊎◌, inl, inr, refl, arith, sym, subst, ap, ◌∙◌}
 use Rattle.std.proofs.lemmas.Bool.{cases_eq}
 use Rattle.std.proofs.Math.ListN.{get_or-eq_default}
 use Rattle.seize_words.specs.declared.at.At.TheVariants as at
@@ -21,18 +21,20 @@ use Rattle.seize.specs.Room.{NeedsRoom}
 use Rattle.seize.specs.Law.{is_open}
 use Rattle.seize.specs.World.{World, Row, Rests, Registers, Use, Vacant, Outside, Inside, Changing, with_at, registered_use, registered_as, registers_on}
 use Rattle.seize.specs.Sequence.{new_slot}
-use Rattle.seize_rule.specs.Given.SeizeWaitingHeld.{count, same}
+use Rattle.seize_rule.specs.Given.SeizeWaitingHeld.{same}
 use Rattle.seize_rule.proofs.Given.SeizeMovesState.Ghost.{Head, Never, Free, Idle, Active, is_never, emptied}
 use Rattle.seize_rule.proofs.Given.SeizeMemoryWords.Named.{words_of, word_found}
 use Rattle.seize_rule.proofs.Given.SeizeMemoryWords.View.{View, view}
 use Rattle.seize_rule.proofs.Given.SeizeMemoryWords.Shows.{HeadIs}
 use Rattle.seize_rule.proofs.Rows.Known.{works_on, registering_on, FitsRegister, FitsRow}
-use Rattle.seize_rule.proofs.Given.SeizeMemoryWords.Room.{begun_some, needed_is, needed_not}
+use Rattle.seize_rule.proofs.Given.SeizeMemoryWords.Room.{needed_is, needed_not}
 use Rattle.seize_rule.proofs.Rows.Teams.{UseFits, VacantHead}
 use Rattle.seize_rule.proofs.World.Good.{Good}
 use Rattle.seize_rule.proofs.Rows.Register.{room_view, taken_use}
 use Rattle.seize_rule.proofs.Rows.Others.{OthersRest, with_here}
 use Rattle.seize_model.proofs.Sets.Slots.Vacant.{NoneVacant, none_more, new_slot_is, new_slot_none}
+use Rattle.seize.proofs.Beginnings.{begun_is as begun_some}
+use Rattle.seize_model.proofs.Sets.Turns.Heads.{nobody as no_team}
 
 -- how a slot is used that a row has taken
 abbrev pub use_taken : Bool → Use
@@ -67,11 +69,6 @@ module _ {T : Type 0} where
     IsRefused : (c2 : Register) (fault : Fault) → end ≡ (c2, Refused fault) → w2.row i ≡ Rests → w2.uses ≡ uses → WhyRefused w2.memory uses fault → Comes uses enters i w2 end
     TakesFirst : (c2 : Register) (s : ℕ) → end ≡ (c2, Done s) → w2.row i ≡ Rests → new_slot uses ≡ Some s → w2.uses ≡ with_at uses s (use_taken enters) → Comes uses enters i w2 end
 
--- a team that nobody is in
-no_team : (l : List ℕ) → ((j : ℕ) → count j l ≡ 0) → length l ≡ 0
-no_team [] h = refl
-no_team (j ∷ l) h = absurd (let k = h j in grind (arith, k))
-
 not_free : (v a : ℕ) → v ≡ a → can_be_taken a ≡ true → can_be_taken v ≡ false → ⊥
 not_free v a e h f = let k : can_be_taken v ≡ true = ap can_be_taken e ∙ h in cc (k, f)
 
@@ -91,7 +88,7 @@ not_same a b ne = by (eqb a b) refl
     by false e = ap {B = ℕ} (λ (q : Bool). cond q 1 0) e
 
 -- a slot that was never taken is vacant
-never_used : (u : Use) (h : Head) (k : ℕ) (o : Bool) → h ≡ Never → UseFits u (emptied h) k o → u ≡ Vacant
+pub never_used : (u : Use) (h : Head) (k : ℕ) (o : Bool) → h ≡ Never → UseFits u (emptied h) k o → u ≡ Vacant
 never_used u h k o e f = by u (subst (λ (x : Head). UseFits u (emptied x) k o) e f)
   where
     by : (u : Use) → UseFits u Never k o → u ≡ Vacant

@@ -19,12 +19,13 @@ use Rattle.seize.specs.Law.{Effect}
 use Rattle.seize.specs.World.{World, Row, Rests, Registers, Use, Outside, Register', Steps', with_row, registers_on, register_effects, handed_by}
 use Rattle.seize.specs.Sequence.{RunsOn, Calls}
 use Rattle.seize_rule.proofs.Given.SeizeMemoryWords.Named.{words_of, word_found}
-use Rattle.seize_rule.proofs.Given.SeizeMemoryWords.Room.{begun_some, needed_is, needed_not}
+use Rattle.seize_rule.proofs.Given.SeizeMemoryWords.Room.{needed_is, needed_not}
 use Rattle.seize_rule.proofs.Rows.Others.{with_here}
 use Rattle.seize_rule.proofs.World.Rested.{Rested}
 use Rattle.seize_model.proofs.Sets.Slots.Registers.{use_taken}
 use Rattle.seize_model.proofs.Sets.Slots.Least.{calls_registered}
 use Rattle.seize_model.proofs.Sets.Turns.Heads.{idle_word, has_word, has_words}
+use Rattle.seize.proofs.Beginnings.{begun_is as begun_some}
 
 -- the row registers, at this slot, and stands here
 abbrev pub registering : ℕ → Registering → Register

@@ -16,6 +16,7 @@ use Rattle.seize_rule.proofs.Rows.Known.{works_on}
 use Rattle.seize_rule.proofs.Rows.Teams.{UseFits}
 use Rattle.seize_rule.proofs.Given.SeizeMemoryWords.Room.{slot_there}
 use Rattle.seize_rule.proofs.World.Rested.{Rested}
+use Rattle.seize_rule.proofs.Points.Try.{never_word as zero_never}
 
 -- a slot used like this has a head of this word
 abbrev pub WordOf : Use → ℕ → Type 0
@@ -43,7 +44,7 @@ word_of links v k (Inside j) Idle o none f w = absurd (let e = f.0 in cc e)
 word_of links v k (Inside j) (Active es) o none f w = (above links v (blocks_of es) w, sym f.1 ∙ none)
 word_of links v k Changing h o none f w = absurd (let e = f.1 in omega (arith, e, none))
 
-nobody : (l : List ℕ) → ((j : ℕ) → count j l ≡ 0) → length l ≡ 0
+pub nobody : (l : List ℕ) → ((j : ℕ) → count j l ≡ 0) → length l ≡ 0
 nobody [] h = refl
 nobody (j ∷ l) h = absurd (let k = h j in grind (arith, k))
 
@@ -73,17 +74,11 @@ idle_by (Outside j) v w e = w.0
 idle_by (Inside j) v w e = absurd (cc e)
 idle_by Changing v w e = absurd w
 
-never_zero : (links : ℕ → ℕ) (v : ℕ) (h : Head) → HeadIs links v h → is_never h ≡ true → v ≡ 0
+pub never_zero : (links : ℕ → ℕ) (v : ℕ) (h : Head) → HeadIs links v h → is_never h ≡ true → v ≡ 0
 never_zero links v Never w e = w
 never_zero links v Free w e = absurd (cc e)
 never_zero links v Idle w e = absurd (cc e)
 never_zero links v (Active es) w e = absurd (cc e)
-
-pub zero_never : (links : ℕ → ℕ) (v : ℕ) (h : Head) → HeadIs links v h → v ≡ 0 → is_never h ≡ true
-zero_never links v Never w e = refl
-zero_never links v Free w e = absurd (omega (arith, w, e))
-zero_never links v Idle w e = absurd (omega (arith, w, e))
-zero_never links v (Active es) w e = absurd (let k = above links v (blocks_of es) w in omega (arith, k, e))
 
 some_word : (o : Option ℕ) → IsSome o → (v : ℕ) × (o ≡ Some v)
 some_word None h = absurd (cc h)

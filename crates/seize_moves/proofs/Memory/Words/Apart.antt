@@ -7,6 +7,7 @@ use Rattle.seize_moves.proofs.Moves.State.Ghost.{put, is_in, is_pending, Stage, 
 use Rattle.seize_moves.proofs.Moves.State.Rule.{IsLive, SameUnlessDead, Places}
 use Rattle.seize_moves.proofs.Memory.Words.Chains.{chain_apart, waiting, first_or, blocks_of}
 use Rattle.seize_moves.proofs.Memory.Words.Shows.{LinkedIs, DeferredIs, NextIs, HeadIs, CountIs, stands}
+use Rattle.seize_moves.proofs.Moves.State.Sums.{put_one}
 
 pub count_waiting : (c : ℕ) (p : Bool) (l : List ℕ) → count c (waiting p l) ≤ count c l
 count_waiting c false l = omega arith
@@ -185,14 +186,6 @@ counted_apart counts c v k Dead (d ∷ l) h is = tt
 
 pub put_here : {X : Type 0} (f : ℕ → X) (k : ℕ) (v : X) → put f k v k ≡ v
 put_here f k v = ap (λ t. cond t v (f k)) (eq-eqb k k refl)
-
--- what holds of an array's places, after a write to one
-pub put_one : {X : Type 0} (P : ℕ → X → Type 0) (f : ℕ → X) (k : ℕ) (v : X) → P k v → ((j : ℕ) → P j (f j)) → (j : ℕ) → P j (put f k v j)
-put_one P f k v a h j = at (eqb j k) (eqb-true j k) (h j)
-  where
-    at : (b : Bool) → (b ≡ true → j ≡ k) → P j (f j) → P j (cond b v (f j))
-    at true e p = subst (λ (i : ℕ). P i v) (sym (e refl)) a
-    at false e p = p
 
 -- and where the others need their numbers to be others
 pub put_some : {X : Type 0} (P : ℕ → X → Type 0) (f : ℕ → X) (k : ℕ) (v : X) → P k v → ((j : ℕ) → (j ≡ k → ⊥) → P j (f j)) → (j : ℕ) → P j (put f k v j)

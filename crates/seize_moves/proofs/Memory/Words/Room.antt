@@ -16,6 +16,8 @@ use Rattle.seize.specs.Register.{begun_of, bucket_begun, bucket_needed}
 use Rattle.seize_moves.proofs.Moves.State.Ghost.{put, Head, is_never}
 use Rattle.seize_moves.proofs.Memory.Words.Named.{has, wrote}
 use Rattle.seize_moves.proofs.Memory.Words.There.{some_of}
+use Rattle.seize.proofs.Beginnings.{begun_is as begun_some}
+use Rattle.seize_words.proofs.General.{less_so as below_lt, less_true as below_true}
 
 -- the slots that have words have both, and are those of whole buckets
 pub record Bucketed {T : Type 0} (m : Mem T) : Type 0 where
@@ -169,26 +171,6 @@ begun_none (suc left) bucket slot k none le lt is =
 
     rest : slot + 32 ≢ capacity bucket → begun_of (suc left) bucket slot ≡ None → begun_of left (bucket + 1) slot ≡ None
     rest ne h = grind arith
-
-pub begun_some : (left bucket slot found : ℕ) → begun_of left bucket slot ≡ Some found → (slot + 32 ≡ capacity found) × (found < bucket + left)
-begun_some zero bucket slot found h = absurd (cc h)
-begun_some (suc left) bucket slot found h =
-    elim (cases_eq (slot + 32) (capacity bucket)) as (λ _. (slot + 32 ≡ capacity found) × (found < bucket + suc left)) [
-      | inl e ↦ (let same = here e h in (e ∙ ap capacity same, omega (arith, same)))
-      | inr ne ↦ (let k = begun_some left (bucket + 1) slot found (rest ne h) in (k.0, omega (arith, k.1)))
-    ]
-  where
-    here : slot + 32 ≡ capacity bucket → begun_of (suc left) bucket slot ≡ Some found → bucket ≡ found
-    here e k = grind (arith, eq-eqb _ _ e)
-
-    rest : slot + 32 ≢ capacity bucket → begun_of (suc left) bucket slot ≡ Some found → begun_of left (bucket + 1) slot ≡ Some found
-    rest ne k = grind arith
-
-below_true : (a b : ℕ) → a < b → nat_lt a b ≡ true
-below_true a b h = grind arith
-
-below_lt : (a b : ℕ) → nat_lt a b ≡ true → a < b
-below_lt a b h = grind arith
 
 chosen : (t : Bool) (a o : Option ℕ) → (if t then a else None) ≡ o → t ≡ true → a ≡ o
 chosen true a o h e = h

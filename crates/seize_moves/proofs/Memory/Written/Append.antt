@@ -6,12 +6,12 @@ use Rattle.seize_moves.proofs.Waiting.Counts.{count-append}
 use Rattle.seize_moves.proofs.Moves.State.Ghost.{put, is_in, State, Stage, Open, Life, IsIn, IsPending}
 use Rattle.seize_moves.proofs.Moves.State.Moves.{appended}
 use Rattle.seize_moves.proofs.Moves.State.Rule.{Inv, SameUnlessDead}
-use Rattle.seize_moves.proofs.Moves.State.Sums.{put_both}
+use Rattle.seize_moves.proofs.Moves.State.Sums.{put_both, put_one}
 use Rattle.seize_moves.proofs.Memory.Words.Named.{link}
 use Rattle.seize_moves.proofs.Memory.Words.Chains.{Chain, chain_append, waiting, first_or, Marks, marks-append}
 use Rattle.seize_moves.proofs.Memory.Words.View.{View}
 use Rattle.seize_moves.proofs.Memory.Words.Shows.{Spot, Nowhere, Unspent, SpotLife, Extra, Shows, Written, LinkedIs, EndIs, FirstIs, CountIs, ZeroIs, RestIs, NextIs, is_unspent}
-use Rattle.seize_moves.proofs.Memory.Words.Apart.{is_pending_first, boxed_none, counted_apart, put_one}
+use Rattle.seize_moves.proofs.Memory.Words.Apart.{is_pending_first, boxed_none, counted_apart}
 
 -- the first block of the batch that b is appended to
 abbrev pub head_or : ℕ → List ℕ → ℕ

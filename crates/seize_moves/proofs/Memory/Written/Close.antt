@@ -8,7 +8,8 @@ use Rattle.seize_moves.proofs.Moves.State.Rule.{Inv, IsLive, SameUnlessDead}
 use Rattle.seize_moves.proofs.Memory.Words.Chains.{Chain, count_first, first_or}
 use Rattle.seize_moves.proofs.Memory.Words.View.{View}
 use Rattle.seize_moves.proofs.Memory.Words.Shows.{Extra, Shows, Written, LinkedIs, EndIs, CountIs, ZeroIs, RestIs, batch_word, keeps_like}
-use Rattle.seize_moves.proofs.Memory.Words.Apart.{boxed_none, counted_apart, put_one}
+use Rattle.seize_moves.proofs.Memory.Words.Apart.{boxed_none, counted_apart}
+use Rattle.seize_moves.proofs.Moves.State.Sums.{put_one}
 
 -- the first block of a batch that lives is in it
 pub first_in : (n y c : ℕ) (l : List ℕ) (m : State) → Inv n m → IsLive (m.stage y) ≡ true → m.blocks y ≡ c ∷ l → m.life c ≡ IsIn y

@@ -6,11 +6,10 @@ use Rattle.seize_moves.specs.Waiting.Held.{count}
 use Rattle.seize_moves.proofs.Moves.State.Ghost.{put, entries, Entry, State, Closed, Dead, Life, Debt, is_loose, on_list, owes, list_of}
 use Rattle.seize_moves.proofs.Moves.State.Moves.{gives_up, doomed}
 use Rattle.seize_moves.proofs.Moves.State.Rule.{Inv, IsOf, SeenIs}
-use Rattle.seize_moves.proofs.Moves.State.Sums.{put_both, total_zero}
+use Rattle.seize_moves.proofs.Moves.State.Sums.{put_both, total_zero, put_one}
 use Rattle.seize_moves.proofs.Memory.Words.Chains.{Chain, waiting, first_or, Marks}
 use Rattle.seize_moves.proofs.Memory.Words.View.{View}
 use Rattle.seize_moves.proofs.Memory.Words.Shows.{Spot, Nowhere, Unspent, On, InHands, SpotLife, Extra, Shows, Written, LinkedIs, EndIs, FirstIs, CountIs, ZeroIs, RestIs, NextIs, DrainedIs, CarrierIs, is_on, is_in_hands, is_unspent, stands, lives, has_entry}
-use Rattle.seize_moves.proofs.Memory.Words.Apart.{put_one}
 
 abbrev pub dropped : ℕ → Spot → Spot
 dropped y Nowhere = Nowhere

@@ -9,7 +9,8 @@ use Rattle.seize_moves.proofs.Moves.State.Rule.{IsOf}
 use Rattle.seize_moves.proofs.Memory.Words.Chains.{chain_apart, count_first, waiting, blocks_of, Marks, marks_apart, marks_more}
 use Rattle.seize_moves.proofs.Memory.Words.View.{View}
 use Rattle.seize_moves.proofs.Memory.Words.Shows.{Spot, Unspent, Extra, Shows, Written, KeepsWords, RestIs, is_on, is_in_hands, is_unspent, stands, has_entry, keeps_like}
-use Rattle.seize_moves.proofs.Memory.Words.Apart.{head_apart, count_blocks, count_waiting, put_one, put_some}
+use Rattle.seize_moves.proofs.Memory.Words.Apart.{head_apart, count_blocks, count_waiting, put_some}
+use Rattle.seize_moves.proofs.Moves.State.Sums.{put_one}
 
 -- an unspent block of a batch
 pub is_unspent_one : (rest : ℕ → List ℕ) (spot : ℕ → Spot) (y c : ℕ) → count c (rest y) ≡ is_unspent y (spot c) → 0 < count c (rest y) → spot c ≡ Unspent y

@@ -7,8 +7,8 @@ use Rattle.seize_moves.proofs.Memory.Words.Named.{link}
 use Rattle.seize_moves.proofs.Memory.Words.Chains.{Chain}
 use Rattle.seize_moves.proofs.Memory.Words.View.{View, put_own}
 use Rattle.seize_moves.proofs.Memory.Words.Shows.{Extra, Shows, Written, DeferredIs, NextIs, DrainedIs, CarrierIs, lives, has_own}
-use Rattle.seize_moves.proofs.Memory.Words.Apart.{put_one}
 use Rattle.seize_moves.proofs.Memory.Written.Blocks.{entries_early, linkage_early, drains_early, nexts_at, lived_same, carriers_same}
+use Rattle.seize_moves.proofs.Moves.State.Sums.{put_one}
 
 -- a word of a block that is no other row's
 own_kept : (j t d w a e : ℕ) (f : View) (m : State) → (has_own j (m.life t) ≡ true → ⊥) → has_own j (m.life a) ≡ true → put_own f.own t d w a e ≡ f.own a e

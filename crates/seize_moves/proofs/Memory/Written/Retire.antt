@@ -3,12 +3,12 @@ use Rattle.std.proofs.Common.{◌≡◌, ℕ, ◌+◌, Bool, true, false, cond, 
 use Rattle.seize_moves.specs.Waiting.Held.{count}
 use Rattle.seize_moves.proofs.Moves.State.Ghost.{put, is_in, State, Stage, Open, Life, IsIn, IsPending}
 use Rattle.seize_moves.proofs.Moves.State.Rule.{Inv, IsOf, IsLive}
-use Rattle.seize_moves.proofs.Moves.State.Sums.{put_both}
+use Rattle.seize_moves.proofs.Moves.State.Sums.{put_both, put_one}
 use Rattle.seize_moves.proofs.Memory.Words.Named.{link}
 use Rattle.seize_moves.proofs.Memory.Words.Chains.{Chain, chain_apart, chain_end, count_last, waiting, first_or, last_from}
 use Rattle.seize_moves.proofs.Memory.Words.View.{View}
 use Rattle.seize_moves.proofs.Memory.Words.Shows.{Spot, Nowhere, Unspent, On, InHands, SpotLife, Extra, Shows, Written, LinkedIs, EndIs, has_next, has_first}
-use Rattle.seize_moves.proofs.Memory.Words.Apart.{Unlisted, unlisted_in, boxed_none, linked_apart, deferred_apart, is_listed, next_put, next_put_of, put_one, put_some}
+use Rattle.seize_moves.proofs.Memory.Words.Apart.{Unlisted, unlisted_in, boxed_none, linked_apart, deferred_apart, is_listed, next_put, next_put_of, put_some}
 
 -- the first block to be retired is on its way: the word is of the ones behind it
 abbrev pub popped : View → Extra → ℕ → ℕ → Extra

@@ -4,12 +4,13 @@ use Rattle.std.proofs.lemmas.Bool.{eqb-false}
 use Rattle.seize.specs.Law.{Effect}
 use Rattle.seize_moves.specs.Waiting.Held.{count, same}
 use Rattle.seize_moves.proofs.Moves.State.Ghost.{put, Entry, Active, Debt, Unscanned, Marked, Gone, Skipped, Owing, Loose, Counted, Head, list_of, is_active, Stage, Unused, Open, Closing, Closed, Dead, Life, IsFree, IsOwned, IsLinked, IsUnlinked, IsDeferring, IsDeferred, IsPending, IsIn, IsDoomed, IsLeft, State, is_loose, on_list, is_marked, owes, counts, was_put, total, is_in, entries}
-use Rattle.seize_moves.proofs.Moves.State.Rule.{Listed, AllLoose, AllMarked, Boxed, Housed, IsLive, SameUnlessDead, SeenIs, Scanned, AtStage, Tally, Guarded, IsGuarded, Waits, HasLeft, Inv, Moved, same_row, row_of, same_slot, slot_of, not_longer}
+use Rattle.seize_moves.proofs.Moves.State.Rule.{Listed, AllLoose, AllMarked, Boxed, Housed, IsLive, SameUnlessDead, SeenIs, Scanned, AtStage, Tally, Guarded, IsGuarded, Waits, HasLeft, Inv, Moved, same_row, row_of, same_slot, slot_of}
 use Rattle.seize_moves.proofs.Moves.State.Sums.{total-put, total_same, total_le, put_parts, put_le, put_both}
 use Rattle.seize_moves.proofs.Moves.Moves.Tries.{put_alike, loose_put, same_box}
 use Rattle.seize_moves.proofs.Moves.State.Logs.{held_open}
 use Rattle.seize_moves.proofs.Moves.State.Grown.{one_grown, other_marked}
 use Rattle.seize_moves.proofs.Moves.State.Moves
+use Rattle.seize_words.proofs.General.{at_most_itself as not_longer}
 
 -- the first slot to do is marked, whether it has left since or not
 pub first_marked : (todo : ℕ → List ℕ) (debt : ℕ → ℕ → Debt) (x t : ℕ) (rest : List ℕ)

@@ -2,19 +2,14 @@
 use Rattle.std.proofs.Common.{◌≡◌, ℕ, ◌+◌, ◌<◌, Bool, true, false, cond, eqb, List, [], refl, arith, eqb-true, ap}
 use Rattle.std.proofs.lemmas.Bool.{eqb-false}
 use Rattle.seize.specs.Law.{is_open}
-use Rattle.seize_moves.proofs.Moves.State.Ghost.{put, Entry, Head, Never, Free, Idle, Active, list_of, Debt, Stage, Unused, Open, Closing, Closed, Dead, State, is_active, is_never, on_list, is_loose, owes, counts, was_put, total, entries}
-use Rattle.seize_moves.proofs.Moves.State.Rule.{Listed, AllLoose, AtStage, Tally, Inv, Moved, same_row, row_of, same_slot, slot_of, same_batch, batch_of, not_longer}
+use Rattle.seize_moves.proofs.Moves.State.Ghost.{put, Entry, Head, Idle, Active, list_of, Debt, Stage, Unused, Open, Closing, Closed, Dead, State, is_active, is_never, on_list, is_loose, owes, counts, was_put, total, entries}
+use Rattle.seize_moves.proofs.Moves.State.Rule.{Listed, AllLoose, AtStage, Tally, Inv, Moved, same_row, row_of, same_slot, slot_of, same_batch, batch_of}
 use Rattle.seize_moves.proofs.Moves.State.Sums.{total_same}
 use Rattle.seize_moves.proofs.Moves.State.Grown.{left_grown, none_grown}
 use Rattle.seize_moves.proofs.Moves.State.Moves.{loosened, loosened_at}
 use Rattle.seize_moves.proofs.Moves.State.Moves
-
--- a slot that isn't active has no list
-no_list : (h : Head) → is_active h ≡ false → list_of h ≡ []
-no_list Never e = refl
-no_list Free e = refl
-no_list Idle e = refl
-no_list (Active es) e = absurd (cc e)
+use Rattle.seize_moves.proofs.Moves.Sets.Unmoved.{inactive_list as no_list}
+use Rattle.seize_words.proofs.General.{at_most_itself as not_longer}
 
 -- a slot that isn't active is taken; those below it were taken before
 pub registered_moves : (n i s : ℕ) (m : State)

@@ -5,12 +5,13 @@ use Rattle.seize.specs.Law.{holds}
 use Rattle.seize_moves.specs.Waiting.Held.{count}
 use Rattle.seize_moves.proofs.Waiting.Counts.{count-append}
 use Rattle.seize_moves.proofs.Moves.State.Ghost.{put, Debt, Stage, Closed, Dead, Life, IsFree, IsOwned, IsLinked, IsUnlinked, IsDeferring, IsDeferred, IsPending, IsIn, IsDoomed, IsLeft, State, owes, total, lies_with, is_in, is_doomed}
-use Rattle.seize_moves.proofs.Moves.State.Rule.{SameUnlessDead, Boxed, ToTake, Waits, Inv, Moved, same_slot, slot_of, same_batch, batch_of, not_longer}
+use Rattle.seize_moves.proofs.Moves.State.Rule.{SameUnlessDead, Boxed, ToTake, Waits, Inv, Moved, same_slot, slot_of, same_batch, batch_of}
 use Rattle.seize_moves.proofs.Moves.State.Logs.{held_open}
 use Rattle.seize_moves.proofs.Moves.State.Sums.{total_zero}
 use Rattle.seize_moves.proofs.Moves.Moves.Tries.{same_box}
 use Rattle.seize_moves.proofs.Moves.State.Moves.{doomed}
 use Rattle.seize_moves.proofs.Moves.State.Moves
+use Rattle.seize_words.proofs.General.{at_most_itself as not_longer}
 
 -- a closed batch at zero waits for no section
 pub unguarded : (n : ℕ) (m : State) (x t c : ℕ)

@@ -5,12 +5,13 @@ use Rattle.seize.specs.Law.{Effect}
 use Rattle.seize_moves.specs.Waiting.Held.{count}
 use Rattle.seize_moves.proofs.Waiting.Counts.{count-append}
 use Rattle.seize_moves.proofs.Moves.State.Ghost.{put, Entry, Head, Debt, Unscanned, Stage, Unused, Open, Closing, Closed, Dead, Life, IsPending, State, is_active, is_never, is_loose, counts, was_put, total, is_in}
-use Rattle.seize_moves.proofs.Moves.State.Rule.{Housed, IsLive, Boxed, SameUnlessDead, AllLoose, SeenIs, Scanned, AtStage, Tally, Guarded, Opens, Inv, Moved, same_row, row_of, same_slot, slot_of, not_longer, open_length, retirals}
+use Rattle.seize_moves.proofs.Moves.State.Rule.{Housed, IsLive, Boxed, SameUnlessDead, AllLoose, SeenIs, Scanned, AtStage, Tally, Guarded, Opens, Inv, Moved, same_row, row_of, same_slot, slot_of, open_length, retirals}
 use Rattle.seize_moves.proofs.Moves.State.Logs.{held_open}
 use Rattle.seize_moves.proofs.Moves.State.Sums.{total-put, total_zero, total_none, total_same, put_parts}
 use Rattle.seize_moves.proofs.Moves.State.Grown.{other_marked}
 use Rattle.seize_moves.proofs.Moves.State.Moves.{passed, passed_all}
 use Rattle.seize_moves.proofs.Moves.State.Moves
+use Rattle.seize_words.proofs.General.{length_and_one as last_length, at_most_itself as not_longer}
 
 -- the next slot to be scanned isn't scanned
 pub unscanned : (seen : ℕ → ℕ) (debt : ℕ → ℕ → Debt) (x t : ℕ) → Scanned seen debt → seen x ≡ t → debt x t ≡ Unscanned
@@ -336,10 +337,6 @@ closed_moves n i s m x inv hs hh none rest = record {
 -- the first of what is to be retired
 pub first_pending : (n i : ℕ) (m : State) (b : ℕ) (bs : List ℕ) → Inv n m → m.pending i ≡ b ∷ bs → m.life b ≡ IsPending i
 first_pending n i m b bs inv h = grind (arith, inv.places.to_retire i b)
-
-last_length : (l : List ℕ) (b : ℕ) → length (l ++ b ∷ []) ≡ length l + 1
-last_length [] b = refl
-last_length (c ∷ l) b = let k = last_length l b in omega (arith, k)
 
 -- no other slot has the batch open
 appended_length : (n s t : ℕ) (m : State) (b x : ℕ) → m.stage x ≡ Open s → t < n → Inv n m

@@ -53,7 +53,7 @@ pub unmoved_same : (n : ℕ) (m : State) → Unmoved n m m
 unmoved_same n m = unmoved_kept n m m refl refl refl refl refl refl refl (λ c e. refl) refl
 
 -- a slot that isn't active has no list, whatever else its head says
-inactive_list : (h : Head) → is_active h ≡ false → list_of h ≡ []
+pub inactive_list : (h : Head) → is_active h ≡ false → list_of h ≡ []
 inactive_list h e = grind (arith, e)
 
 inactive_unmoved : (n s : ℕ) (m : State) (top : Head) → is_active (m.head s) ≡ false → is_active top ≡ false → Unmoved n m (record m { head = put m.head s top })

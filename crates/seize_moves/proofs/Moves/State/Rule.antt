@@ -1,8 +1,9 @@
 -- The rule: what holds of the state between any two moves, and what a move of one row leaves to the others.
-use Rattle.std.proofs.Common.{◌≡◌, ℕ, ◌+◌, ◌%◌, ◌^◌, ◌<◌, ◌≤◌, Bool, true, false, cond, eqb, List, [], ◌∷◌, ◌++◌, length, ◌⊎◌, refl, arith}
+use Rattle.std.proofs.Common.{◌≡◌, ℕ, ◌+◌, ◌%◌, ◌^◌, ◌<◌, ◌≤◌, Bool, true, false, cond, eqb, List, [], ◌∷◌, ◌++◌, length, ◌⊎◌, refl}
 use Rattle.seize.specs.Law.{Effect, Retired, where_is, is_open, holds, was_linked, is_retired, IsSound}
 use Rattle.seize_moves.specs.Waiting.Held.{count}
 use Rattle.seize_moves.proofs.Moves.State.Ghost.{Entry, Head, Never, Debt, Unscanned, Marked, Gone, Skipped, Owing, Loose, Counted, Stage, Unused, Open, Closing, Closed, Dead, Life, IsFree, IsOwned, IsLinked, IsUnlinked, IsDeferring, IsDeferred, IsPending, IsIn, IsDoomed, IsLeft, State, entries, list_of, is_active, is_never, emptied, is_marked, on_list, is_loose, owes, counts, was_put, total, is_in, is_doomed, is_pending, is_deferred, is_given, is_used, of_row, lies_with, can_carry, place_of}
+use Rattle.seize_words.proofs.General.{at_most_itself as not_longer}
 
 -- a slot's list has just the entries that it owes, each once
 abbrev pub Listed : (ℕ → Head) → (ℕ → ℕ → Debt) → Type 0
@@ -269,9 +270,6 @@ HasLeft m x t = (is_active (m.head t) ≡ false) ⊎ (m.debt x t ≡ Gone)
 -- a list of which nothing was taken: whatever is new stands before the rest
 abbrev pub Grows : List Entry → List Entry → Type 0
 Grows es es2 = (front : List Entry) × (es2 ≡ front ++ es)
-
-pub not_longer : (k : ℕ) → k ≤ k
-not_longer k = omega arith
 
 -- what a move of row i, which works on slot s, leaves to the others; an open batch grows only as a block is retired under its slot
 pub record Keeps (n i s : ℕ) (m m2 : State) : Type 0 where

@@ -1,5 +1,5 @@
 -- Which step on a word each operation is.
-use Rattle.std.specs.Prelude.{◌≡◌, ◌≢◌, ℕ, zero, suc, ◌+◌, ◌-◌, ◌%◌, ◌^◌, ◌==◌, Bool, List, [], ◌∷◌, Option, Some, None, IsSome, Result, Ok, Err, bit_or, slice_get, slice_set, slice_index_or, if◌then◌else◌}
+use Rattle.std.specs.Prelude.{◌≡◌, ◌≢◌, ℕ, zero, suc, ◌+◌, ◌-◌, ◌%◌, ◌^◌, ◌==◌, Bool, List, [], ◌∷◌, Option, Some, None, IsSome, Result, Ok, Err, bit_or, slice_set, slice_index_or, if◌then◌else◌}
 use Rattle.std.proofs.Common.{refl, sym, ap, ◌∙◌, subst, inl, inr, ◌⊎◌}
 use Rattle.std.proofs.lemmas.Bool.{cases_eq, eq-eqb, ne_eqb}
 use prog.Atomic.{either}
@@ -15,6 +15,7 @@ use denote.RawPtr.{Ptr}
 use Rattle.seize_seats.specs.Seats.Lines.{IsWord}
 use Rattle.seize_seats.specs.Seats.Owned.{BaseId, place_in, IsIn}
 use Rattle.seize_seats.specs.Seats.Steps.{IsWordStep, IsStepOf, exchanged}
+use Rattle.seize_words.proofs.General.{set_same}
 
 pub answered : (old : ℕ) (r : Result ℕ ℕ) → MatchResult r (λ n. n ≡ old) (λ n. n ≢ old) → exchanged old (word_found r) ≡ r
 answered old (Ok n) is = ap (λ (y : Bool). if y then Ok n else Err n) (eq-eqb n old is)
@@ -23,12 +24,6 @@ answered old (Err n) is = ap (λ (y : Bool). if y then Ok n else Err n) (ne_eqb 
 some_word : (x : Option ℕ) → IsSome x → (w : ℕ) × (x ≡ Some w)
 some_word None is = absurd (cc is)
 some_word (Some w) is = (w, refl)
-
--- the word that is there, once more, changes nothing
-pub set_same : {A : Type 0} (xs : List A) (i : ℕ) (x : A) → slice_get xs i ≡ Some x → slice_set xs i x ≡ xs
-set_same [] i x e = refl
-set_same (y ∷ ys) zero x e = let same : y ≡ x = cc e in ap (λ z. z ∷ ys) (sym same)
-set_same (y ∷ ys) (suc i) x e = ap (λ l. y ∷ l) (set_same ys i x e)
 
 slot_same : (slots : List (List ℕ)) (s f w : ℕ) → slot_word slots s f ≡ Some w → with_slot_word slots s f w ≡ slots
 slot_same [] s f w e = refl

@@ -14,8 +14,8 @@ use Rattle.seize_seats.specs.Seats.Lendings.{Shown, ShownToBoth, Alone, IsValueO
 use Rattle.seize_seats.specs.Seats.Visits.{Spot, Visit, fresh, onward, onward_at, plain_memory, plain_op, plain_out, plain, AreFound, HoldsKept, keeps_kept, then_kept}
 use Rattle.seize_seats.proofs.Seats.Views.Ledgers.{other_view}
 use Rattle.seize_seats.proofs.Seats.Blocks.Rewrites.{emptied, owns_alone}
-use Rattle.seize_seats.proofs.Seats.Stepping.Steps.{set_same}
 use Rattle.seize_seats.proofs.Seats.Places.Plain.{block_at, value_plain, set_plain, value_of_block, after_plain, gives_plain, can_plain, IsOnWord, value_after, made_apart, taken_apart, rewritten_apart}
+use Rattle.seize_words.proofs.General.{some_there as some_value, set_same}
 
 pub own_view : {A : Type 0} (xs : List A) (i : ℕ) (x y : A) → slice_get (slice_set xs i x) i ≡ Some y → x ≡ y
 own_view [] i x y e = absurd (cc e)
@@ -148,10 +148,6 @@ module _ {D T V W : Type 0} (value : D → T) (own : D → Spot) (holds : State 
   -- what a seat's view shows it shows where the seat visits a block, too
   pub shown_kept : (id : ℕ) (v : V) (y : Visit) (b : ℕ) → Shown holds id v b → Shown Hold id (v, y) b
   shown_kept id v y b shown s h at = there s id v b h (view_plain s id (v, y) at) shown
-
-  some_value : {A : Type 0} (x : Option A) → IsSome x → (a : A) × (x ≡ Some a)
-  some_value None some = absurd (cc some)
-  some_value (Some a) some = (a, refl)
 
   -- a seat whose view shows a block may begin to visit it
   pub visits : (id : ℕ) (v : V) (y : Visit) (b : ℕ) → Shown holds id v b → Turns Hold Keep id (v, y) (λ u. (u.0 ≡ v) × ((p : Spot) × (u.1 ≡ onward_at y b p)))

@@ -21,6 +21,7 @@ use types.Logic.{Logic, sem}
 use types.Kit.{‵, raw, ◌⊛◌, given, ◌$◌, ◌∵◌, !, qed, move, split, split3, join, fsplit, fjoin, learn, check, frame, each, assume, suffices, settle, use1, use2, use3, rewrite, done}
 use ghost.Rules.{Halves}
 use Rattle.seize_seats.specs.Seats.Owned.{itself, shared_view, seen, unborn, quarters, ledger}
+use Rattle.seize_words.proofs.General.{set_same as set_same_here}
 
 -- the views of others stay
 pub other_view : {V : Type 0} (vs : List V) (i j : ℕ) (w : V) → j ≢ i → slice_get (set vs i w) j ≡ slice_get vs j
@@ -29,11 +30,6 @@ other_view (v ∷ vs) zero zero w ne = absurd (ne refl)
 other_view (v ∷ vs) zero (suc j) w ne = refl
 other_view (v ∷ vs) (suc i) zero w ne = refl
 other_view (v ∷ vs) (suc i) (suc j) w ne = other_view vs i j w (λ e. ne (ap suc e))
-
-set_same_here : {V : Type 0} (vs : List V) (i : ℕ) (v : V) → slice_get vs i ≡ Some v → set vs i v ≡ vs
-set_same_here [] i v at = refl
-set_same_here {V} (x ∷ vs) zero v at = let same : x ≡ v = cc at in ap (λ (y : V). y ∷ vs) (sym same)
-set_same_here {V} (x ∷ vs) (suc i) v at = ap (λ (us : List V). x ∷ us) (set_same_here vs i v at)
 
 module _ {M : Type 1} {𝓤 : Ura M} (𝓛 : Logic 𝓤) {V : Type 0} (cv : Coded V) (γ : ℕ) where
   abbrev Pr : Type 2

@@ -6,9 +6,10 @@ use Rattle.run_names.proofs.Presence.Crowds.Homes.{OthersLead, stands_read, stan
 use Rattle.run_executor.specs.Named.Roll.{AreKept, IsTrimmedAt, called, name_of, newest}
 use Rattle.run_executor.specs.Named.Seen.{is_named}
 use Rattle.run_executor.proofs.Named.Roll.Comes.{left_kept, some_count, some_on, some_under, trimmed_kept}
-use Rattle.run_executor.proofs.Named.Roll.Found.{absent_none, called_here, called_none, gone_here, stands_here, the_one}
+use Rattle.run_executor.proofs.Named.Roll.Found.{absent_none, called_here, called_none, gone_here, stands_here}
 use Rattle.run_executor.proofs.Named.Roll.Trims.{take_kept, take_newest, take_stands}
 use Rattle.run_executor.proofs.callers.Callers.remove.Goals as goal
+use Rattle.seize_words.proofs.General.{same_some as the_one}
 
 pub returns-in_err-place-clause-who : goal.returns-in_err-place-clause-who
 returns-in_err-place-clause-who g c =

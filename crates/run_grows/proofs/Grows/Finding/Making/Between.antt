@@ -13,7 +13,6 @@ use Rattle.run_executor.specs.Given.CallersRooms.{CallForRoom}
 use Rattle.run_executor.specs.Given.CallersTogether.{Computes, Counting, ForRoom, Gets, Inserts, IsBegun, OnKey, OverAll, Removes, RemovesIf, TriesToInsert, TriesToInsertWith, UnderWay, Updates, UpdatesOrInserts}
 use Rattle.run_executor.specs.Given.FinishesMachines.{machine_of}
 use Rattle.run_executor.specs.Given.FinishesMaps.{Standing}
-use Rattle.run_executor.proofs.Given.FollowsSteps.{one_of}
 use Rattle.run_executor.proofs.Given.HandsAsking.{which}
 use Rattle.run_grows.specs.Grows.Further.{CallMakes, IsFurther, MachineMakes, RoomMakes, ShowsFurther, SweepMakes, lengths_of}
 use Rattle.run_grows.proofs.Grows.Finding.Making.Lengths.{KeepsLengths}
@@ -22,6 +21,7 @@ use Rattle.run_grows.proofs.Grows.Finding.Making.Steps.{later}
 use Rattle.run_executor.specs.Given.ScenesBeginning.{Begins}
 use Rattle.run_executor.specs.Given.ScenesReplying.{scene_with}
 use Rattle.run_executor.specs.Given.ScenesScene.{Scene, slot_of}
+use Rattle.run_executor.proofs.Given.General.{same_some as one_of}
 
 -- where calls are as they were, or under way no more
 pub further_stays : {K V : Type 0} (m v : Moment K V) (s t : Scene K V) → ShowsFurther m s → KeepsLengths m v

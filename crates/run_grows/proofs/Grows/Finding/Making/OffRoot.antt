@@ -59,7 +59,6 @@ use Rattle.run_executor.specs.Given.EffectsDeclared.changed.Changed.TheVariants 
 use Rattle.run_executor.specs.Given.TellsSeen.{seen_of}
 use Rattle.run_executor.proofs.Given.RuleKeys.Always.{Always, AlwaysOf, always_ends, always_steps}
 use Rattle.run_executor.proofs.Given.OthersOutcomes.{told_in}
-use Rattle.run_sweeps.proofs.Given.FindsGrown.{number_is}
 use Rattle.run_grows.specs.Grows.Further.{CallMakes, CopierMakes, MachineMakes, RoomMakes, SweepMakes}
 use Rattle.run_grows.proofs.Grows.Finding.Making.Calls as calls
 use Rattle.run_grows.proofs.Grows.Finding.Making.Calls.{CallEnds}
@@ -71,6 +70,7 @@ use Rattle.run_grows.proofs.Grows.Finding.Making.Sweeps as sweeps
 use Rattle.run_grows.proofs.Grows.Finding.Making.Sweeps.{SweepEnds}
 use Rattle.run_grows.proofs.Grows.Finding.Making.Unpromoted.{OffRoot}
 use Rattle.run_executor.proofs.Given.ScenesTold.{as_step}
+use Rattle.run_executor.proofs.Given.General.{equal_so as number_is}
 
 -- the copier of a machine
 abbrev pub CallCopier : Calling → Copier → Type 0

@@ -27,7 +27,6 @@ use Rattle.run_executor.specs.Given.FinishesMaps.{Standing}
 use Rattle.run_executor.proofs.Given.FollowsSteps.{WentTo, went_to}
 use Rattle.run_executor.proofs.Given.HandsAsking.{which}
 use Rattle.run_executor.specs.Given.MomentsWhole.{ShowsWhole}
-use Rattle.run_logged.proofs.Given.OwesCalls.{goes_as_one}
 use Rattle.run_grows.specs.Grows.Further.{IsFurther, MachineMakes, ShowsFurther, lengths_of}
 use Rattle.run_grows.proofs.Grows.Finding.Making.Behind.{begins_behind}
 use Rattle.run_grows.proofs.Grows.Finding.Making.Lengths.{KeepsLengths, effects_keep_lengths, table_length}
@@ -37,6 +36,7 @@ use Rattle.run_executor.proofs.Given.ScenesTold.{as_step}
 use Rattle.run_executor.specs.Given.ScenesHeld.{Held, IsAt}
 use Rattle.run_executor.specs.Given.ScenesScene.{Scene, slot_of}
 use Rattle.run_executor.specs.Given.ScenesStepping.{StepLeads, scene_after}
+use Rattle.run_logged.proofs.Given.SettlesCalls.{goes_as_one}
 
 -- where a map has had further tables
 pub later : {K V Q : Type 0} (m v : Moment K V) → KeepsLengths m v → (map : ℕ) (machine : Machine K V Q) → MachineMakes (IsFurther (lengths_of map m)) machine → MachineMakes (IsFurther (lengths_of map v)) machine

@@ -1,11 +1,11 @@
 -- Which table a copier makes: so it goes on, so it begins, and so it is where a map has had further tables.
-use Rattle.std.specs.Prelude.{◌≡◌, ℕ, suc, ◌+◌, ◌*◌, ◌^◌, nat_le, nat_lt, max, Bool, true, false, List, Some, Result, Ok, Err, if◌then◌else◌}
-use Rattle.std.proofs.Common.{refl, ap, sym, subst, ◌∙◌, arith}
+use Rattle.std.specs.Prelude.{◌≡◌, ℕ, suc, ◌*◌, ◌^◌, nat_le, max, Bool, true, false, List, Some, Result, Ok, Err, if◌then◌else◌}
+use Rattle.std.proofs.Common.{refl, ap, sym, subst, ◌∙◌}
 use Rattle.run_executor.specs.Given.SeizeWordsPlan.{Do, Now, Plan, Seeing, Sure, Then, Turn}
 use Rattle.run_executor.specs.Given.SeizeWordsDeclared.fault.Fault.{Fault}
 use Rattle.run_executor.specs.Given.SeizeWordsDeclared.fault.Fault.TheVariants.{Capacity}
 use Rattle.papaya_raw.specs.Given.SeizeDeclared.advance.Advance.{Advance}
-use Rattle.papaya_raw.specs.Given.TablesLengths.{if_few, next_len, next_limit, next_turn}
+use Rattle.papaya_raw.specs.Given.TablesLengths.{next_len, next_limit, next_turn}
 use Rattle.papaya_raw.specs.Given.TablesDeclared.lengths.Reason.{Reason}
 use Rattle.papaya_raw.specs.Given.TablesDeclared.lengths.Reason.TheVariants.{NoPlace}
 use Rattle.papaya_raw.specs.Given.TablesDeclared.setting.Setting.{Setting}
@@ -27,8 +27,9 @@ use Rattle.papaya_raw.specs.declared.machines.machine.Machine.TheVariants as kin
 use Rattle.run_schedules.specs.Schedules.Growing.{Has}
 use Rattle.run_executor.proofs.Given.RuleKeys.Always.{Always, AlwaysOf}
 use Rattle.run_sweeps.specs.Given.FindsShaping.{ShapedAt}
-use Rattle.run_sweeps.proofs.Given.FindsShaping.{goes_shaped}
+use Rattle.run_sweeps.proofs.Given.FindsShaping.{goes_shaped, few_is, at_least_eight}
 use Rattle.run_grows.specs.Grows.Further.{CallMakes, CopierMakes, IsBehind, IsFurther, MachineMakes, RoomMakes, SweepMakes, at_turn}
+use Rattle.run_sweeps.proofs.Purposes.Needs.{next_of as turn_is}
 
 -- what is so of each outcome of a plan is so as what follows from that
 module _ {T A : Type 0} (Q P : A → Type 0) (all : (a : A) → Q a → P a) where
@@ -52,23 +53,6 @@ module _ (lengths : List ℕ) where
       (new_table_plan {K = K} {V = V} n) (goes_shaped NoSum (IsBehind lengths) (λ t b is. is) n (λ before reason count none. absurd none) K V so)
 
   -- where it begins behind a table of the map
-
-  at_least_eight : (x len : ℕ) → len ≡ max x 8 → max len 8 ≡ len
-  at_least_eight x len e = omega (arith, e)
-
-  few_is : (x len : ℕ) → if_few x x ≡ Ok len → len ≡ x
-  few_is x len e = by (nat_le x (2 ^ 48)) e
-    where
-      by : (q : Bool) → ◌≡◌ {A = Result ℕ Fault} (if q then Ok x else Err Capacity) (Ok len) → len ≡ x
-      by true is = (let one : x ≡ len = cc is in sym one)
-      by false is = absurd (cc is)
-
-  turn_is : (before turn : ℕ) → next_turn before ≡ Ok turn → turn ≡ suc before
-  turn_is before turn e = by (nat_lt before (2 ^ 63)) e
-    where
-      by : (q : Bool) → ◌≡◌ {A = Result ℕ Fault} (if q then Ok (before + 1) else Err Capacity) (Ok turn) → turn ≡ suc before
-      by true is = (let one : before + 1 ≡ turn = cc is in omega (arith, one))
-      by false is = absurd (cc is)
 
   module _ (t : ℕ) (before : Table) (there : before.turn ≡ t) (length_is : at_turn lengths t ≡ Some before.len) where
     abbrev Such : Making → Type 0

@@ -41,7 +41,7 @@ use Rattle.seize_seats.specs.Seats.Owned.{BaseId, IsLike, words_own}
 use Rattle.seize_seats.proofs.Seats.Renewal.{goes_on, shows_nothing, seat_of, WasFound}
 use Rattle.seize_atoms.specs.contracts.words.StripWords as words
 use Rattle.seize_atoms.specs.contracts.seat.Seat as seat
-use Rattle.seize_atoms.proofs.Fields.{Data, Token, token, token_made, told, hand_of, hand_made, hand_good, had_good}
+use Rattle.seize_atoms.proofs.Fields.{Data, Token, token, token_made, told, hand_made, hand_good, had_good}
 use Rattle.seize_atoms.specs.contracts.words.StripWords.alone.{ended, clauses}
 use Rattle.seize_atoms.specs.contracts.words.StripWords.alone.Key.{name as #self}
 use Rattle.seize_atoms.proofs.words.StripWords.alone.Statement.{statement}
@@ -53,6 +53,7 @@ use Rattle.seize_atoms.proofs.Lives.{kept_lives}
 use Rattle.seize_seats.specs.contracts.kept.Kept as kept_of
 use Rattle.seize_seats.proofs.kept.Kept.TheLaws.{the_row_laws as kept_laws}
 use Rattle.seize_seats.specs.Plots.Pieces.{kept_words, value_of}
+use Rattle.seize_words.proofs.OneMemory.Stored.{hand_of}
 
 pub alone_spec : {M : Type 1} → statement M
 alone_spec 𝓤 𝓛 𝓜 𝓡 wired X P U F N V G LX LP LU LF LN LV LG g d g' d' _ _ =

@@ -41,13 +41,14 @@ use Rattle.seize_seats.proofs.Seats.Blocks.Makings.{claims}
 use Rattle.seize_atoms.specs.Placed.{IsItsSign}
 use Rattle.seize_atoms.specs.contracts.words.StripWords as words
 use Rattle.seize_atoms.specs.contracts.claim.Claim as claim
-use Rattle.seize_atoms.proofs.Fields.{hand_of, Data, told, opened, ClaimData, claim_of, claim_made}
+use Rattle.seize_atoms.proofs.Fields.{Data, told, opened, ClaimData, claim_of, claim_made}
 use Rattle.seize_atoms.specs.contracts.words.StripWords.claim.{ended, clauses}
 use Rattle.seize_atoms.specs.contracts.words.StripWords.claim.Key.{name as #self}
 use Rattle.seize_atoms.proofs.words.StripWords.claim.Statement.{statement}
 use Rattle.seize_atoms.proofs.words.StripWords.claim.Code as code
 use Rattle.seize_seats.specs.contracts.kept.Kept as kept_of
 use Rattle.seize_seats.specs.Plots.Pieces.{kept_words}
+use Rattle.seize_words.proofs.OneMemory.Stored.{hand_of}
 
 pub claim_spec : {M : Type 1} → statement M
 claim_spec 𝓤 𝓛 𝓜 𝓡 wired X P U F LX LP LU LF g d _ =

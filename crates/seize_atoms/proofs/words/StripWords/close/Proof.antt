@@ -38,7 +38,7 @@ use Rattle.seize_atoms.specs.contracts.words.StripWords as words
 use Rattle.seize_seats.specs.contracts.row.Row as row
 use Rattle.seize_seats.specs.contracts.plot.OwnedStrips as alone
 use Rattle.seize_seats.specs.contracts.pieces.Pieces as pieces_of
-use Rattle.seize_atoms.proofs.Fields.{token, hand_of, told, hand_good, one_of, one_good, closed_good, Mark, mark_made, Places, places_made}
+use Rattle.seize_atoms.proofs.Fields.{token, told, hand_good, one_of, one_good, closed_good, Mark, mark_made, Places, places_made}
 use Rattle.seize_seats.proofs.Seats.Places.Slotted.{are_full, whole_in, Values, values_in, doorway_in}
 use Rattle.seize_seats.proofs.Seats.Places.Slotted as Placing
 use Rattle.seize_seats.proofs.Seats.Opening.{AreClosed, closes}
@@ -50,6 +50,7 @@ use Rattle.seize_seats.specs.contracts.kept.Kept as kept_of
 use Rattle.std.specs.Prelude.{map, Some, take}
 use Rattle.seize_seats.specs.Plots.Pieces.{kept_words, all_pieces, spot_of, bucket_spot, AreBucketsBehind}
 use Rattle.seize_seats.proofs.Plots.Spots.{spots, bucket_spots}
+use Rattle.seize_words.proofs.OneMemory.Stored.{hand_of}
 
 pub close_spec : {M : Type 1} → statement M
 close_spec 𝓤 𝓛 𝓜 𝓡 wired X P U F LX LP LU LF g d _ =

@@ -38,10 +38,6 @@ use Rattle.core.proofs.atomic.Steps.{tail, Ptr-Good}
 use Rattle.core.specs.Sync.RawAtomic.{word_found}
 use Rattle.std.specs.Prelude.{Result}
 use Rattle.core.proofs.result.Result.TheLaws.{the_row_laws as result_laws}
-use denote.Struct.Field.{u64-field}
-use denote.Struct.Laws.{u64-laws, u64-copy}
-use denote.Param.Laws.{Laws, of_field}
-use denote.Param.Shared.{copy_shared}
 use Rattle.std.specs.contracts.marker.PhantomData as marker
 use Rattle.std.proofs.raw_atomic.Walks.{proved, leaves}
 use Rattle.std.proofs.raw_atomic.Calls.{fm, seq_cst}
@@ -61,16 +57,13 @@ use Rattle.seize_atoms.specs.contracts.words.StripWords as words
 use Rattle.seize_atoms.specs.contracts.seat.Seat as seat
 use Rattle.seize_seats.specs.contracts.kept.Kept as kept_of
 use Rattle.seize_seats.specs.Plots.Pieces.{kept_words, value_of}
-use Rattle.seize_atoms.proofs.Fields.{Data}
+use Rattle.seize_atoms.proofs.Fields.{Data, word_laws}
 use Rattle.seize_atoms.specs.contracts.words.StripWords.exchange.{ended, clauses}
 use Rattle.seize_atoms.specs.contracts.words.StripWords.exchange.Key.{name as #self}
 use Rattle.seize_atoms.proofs.words.StripWords.exchange.Statement.{statement}
 use Rattle.seize_atoms.proofs.words.StripWords.exchange.Code as code
 use Rattle.seize_seats.specs.Seats.Stretches.{seat_owns}
 use Rattle.seize_seats.proofs.Seats.Views.Stretches.{ends, begins}
-
-word_laws : Laws u64
-word_laws = of_field u64-field u64-laws refl (copy_shared u64-field u64-copy)
 
 pub exchange_spec : {M : Type 1} → statement M
 exchange_spec 𝓤 𝓛 𝓜 𝓡 wired X P U F LX LP LU LF g d _ =

@@ -47,13 +47,14 @@ use Rattle.seize_seats.proofs.Seats.Growing.Finds.{met, finds as finds_strip}
 use Rattle.seize_atoms.specs.contracts.words.StripWords as words
 use Rattle.seize_atoms.specs.contracts.seat.Seat as seat
 use Rattle.seize_atoms.specs.contracts.strip.Strip as strip
-use Rattle.seize_atoms.proofs.Fields.{word_laws, hand_of, hand_good, Data, Token, StripData, strip_made}
+use Rattle.seize_atoms.proofs.Fields.{word_laws, hand_good, Data, Token, StripData, strip_made}
 use Rattle.seize_atoms.specs.contracts.words.StripWords.find.{ended, clauses}
 use Rattle.seize_atoms.specs.contracts.words.StripWords.find.Key.{name as #self}
 use Rattle.seize_atoms.proofs.words.StripWords.find.Statement.{statement}
 use Rattle.seize_atoms.proofs.words.StripWords.find.Code as code
 use Rattle.seize_seats.specs.contracts.kept.Kept as kept_of
 use Rattle.seize_seats.specs.Plots.Pieces.{kept_words}
+use Rattle.seize_words.proofs.OneMemory.Stored.{hand_of}
 
 pub find_spec : {M : Type 1} → statement M
 find_spec 𝓤 𝓛 𝓜 𝓡 wired X P U F LX LP LU LF g d _ =

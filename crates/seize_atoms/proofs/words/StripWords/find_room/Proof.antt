@@ -54,13 +54,14 @@ use Rattle.seize_atoms.specs.contracts.words.StripWords as words
 use Rattle.seize_atoms.specs.contracts.seat.Seat as seat
 use Rattle.seize_atoms.specs.contracts.strip.Strip as strip
 use Rattle.seize_seats.specs.contracts.place.Address as address
-use Rattle.seize_atoms.proofs.Fields.{word_laws, hand_of, hand_good, one_of, one_good, Data, told as stored, opened, Token, StripData, strip_made, address_made, found_room_good}
+use Rattle.seize_atoms.proofs.Fields.{word_laws, hand_good, one_of, one_good, Data, told as stored, opened, Token, StripData, strip_made, address_made, found_room_good}
 use Rattle.seize_atoms.specs.contracts.words.StripWords.find_room.{ended, clauses}
 use Rattle.seize_atoms.specs.contracts.words.StripWords.find_room.Key.{name as #self}
 use Rattle.seize_atoms.proofs.words.StripWords.find_room.Statement.{statement}
 use Rattle.seize_atoms.proofs.words.StripWords.find_room.Code as code
 use Rattle.seize_seats.specs.contracts.kept.Kept as kept_of
 use Rattle.seize_seats.specs.Plots.Pieces.{kept_words}
+use Rattle.seize_words.proofs.OneMemory.Stored.{hand_of}
 
 pub find_room_spec : {M : Type 1} → statement M
 find_room_spec 𝓤 𝓛 𝓜 𝓡 wired X P U F LX LP LU LF g d _ =

@@ -40,13 +40,14 @@ use Rattle.seize_seats.proofs.Seats.Views.Shown.{placed}
 use Rattle.seize_seats.proofs.Seats.Growing.Looks.{glimpse, Fits, looks, at_door, tells_more}
 use Rattle.seize_atoms.specs.contracts.words.StripWords as words
 use Rattle.seize_atoms.specs.contracts.strip.Strip as strip
-use Rattle.seize_atoms.proofs.Fields.{word_laws, hand_of, hand_good, Data, StripData, strip_made}
+use Rattle.seize_atoms.proofs.Fields.{word_laws, hand_good, Data, StripData, strip_made}
 use Rattle.seize_atoms.specs.contracts.words.StripWords.look.{ended, clauses}
 use Rattle.seize_atoms.specs.contracts.words.StripWords.look.Key.{name as #self}
 use Rattle.seize_atoms.proofs.words.StripWords.look.Statement.{statement}
 use Rattle.seize_atoms.proofs.words.StripWords.look.Code as code
 use Rattle.seize_seats.specs.contracts.kept.Kept as kept_of
 use Rattle.seize_seats.specs.Plots.Pieces.{kept_words}
+use Rattle.seize_words.proofs.OneMemory.Stored.{hand_of}
 
 pub look_spec : {M : Type 1} → statement M
 look_spec 𝓤 𝓛 𝓜 𝓡 wired X P U F LX LP LU LF g d _ =

@@ -40,7 +40,7 @@ use Rattle.seize_atoms.specs.contracts.words.StripWords as words
 use Rattle.seize_seats.specs.contracts.row.Row as row
 use Rattle.seize_seats.specs.contracts.place.ValuePlaces as place
 use Rattle.seize_seats.specs.contracts.place.Doors as doors
-use Rattle.seize_atoms.proofs.Fields.{hand_of, hand_good, hand_made, one_of, one_good, places_told, place_made, doors_made, opened_good, Data}
+use Rattle.seize_atoms.proofs.Fields.{hand_good, hand_made, one_of, one_good, places_told, place_made, doors_made, opened_good, Data}
 use Rattle.core.specs.Mem.Slots.Ownership.{owned, Filled}
 use Rattle.seize_seats.proofs.Seats.Places.Slotted.{full_is, Fits, whole_out, Roomy, values_out, nones_are, doorway_out, nulls_are}
 use Rattle.seize_seats.specs.Seats.State.{Starts}
@@ -52,6 +52,7 @@ use Rattle.seize_atoms.proofs.words.StripWords.open.Statement.{statement}
 use Rattle.seize_atoms.proofs.words.StripWords.open.Code as code
 use Rattle.seize_seats.specs.contracts.kept.Kept as kept_of
 use Rattle.seize_seats.specs.Plots.Pieces.{kept_words}
+use Rattle.seize_words.proofs.OneMemory.Stored.{hand_of}
 
 pub open_spec : {M : Type 1} → statement M
 open_spec 𝓤 𝓛 𝓜 𝓡 wired X P U F LX LP LU LF g d _ =

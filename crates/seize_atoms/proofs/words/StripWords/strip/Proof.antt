@@ -33,13 +33,14 @@ use Rattle.seize_seats.specs.Seats.Owned.{BaseId, IsPlaced, common, words_share}
 use Rattle.seize_seats.proofs.Seats.Views.Shown.{placed, told_there}
 use Rattle.seize_atoms.specs.contracts.words.StripWords as words
 use Rattle.seize_atoms.specs.contracts.strip.Strip as strip
-use Rattle.seize_atoms.proofs.Fields.{hand_of, hand_good, Data, told, opened, StripData, strip_made}
+use Rattle.seize_atoms.proofs.Fields.{hand_good, Data, told, opened, StripData, strip_made}
 use Rattle.seize_atoms.specs.contracts.words.StripWords.strip.{ended, clauses}
 use Rattle.seize_atoms.specs.contracts.words.StripWords.strip.Key.{name as #self}
 use Rattle.seize_atoms.proofs.words.StripWords.strip.Statement.{statement}
 use Rattle.seize_atoms.proofs.words.StripWords.strip.Code as code
 use Rattle.seize_seats.specs.contracts.kept.Kept as kept_of
 use Rattle.seize_seats.specs.Plots.Pieces.{kept_words}
+use Rattle.seize_words.proofs.OneMemory.Stored.{hand_of}
 
 pub strip_spec : {M : Type 1} → statement M
 strip_spec 𝓤 𝓛 𝓜 𝓡 wired X P U F LX LP LU LF g d _ =

@@ -61,7 +61,7 @@ use Rattle.seize_seats.proofs.Seats.Blocks.Makings.{leaves as goes_out, Taking, 
 use Rattle.seize_atoms.specs.Placed.{IsItsIndex}
 use Rattle.seize_atoms.specs.contracts.words.StripWords as words
 use Rattle.seize_atoms.specs.contracts.seat.Seat as seat
-use Rattle.seize_atoms.proofs.Fields.{hand_of, Data, told, opened, token, Mark, mark_made}
+use Rattle.seize_atoms.proofs.Fields.{Data, told, opened, token, Mark, mark_made}
 use Rattle.seize_seats.proofs.Seats.Places.Values.{uncapped, indexed, four_of}
 use Rattle.seize_atoms.specs.contracts.words.StripWords.take.{ended, clauses}
 use Rattle.seize_atoms.specs.contracts.words.StripWords.take.Key.{name as #self}
@@ -76,6 +76,7 @@ use Rattle.seize_seats.specs.contracts.kept.Kept as kept_of
 use Rattle.seize_seats.proofs.kept.Kept.TheLaws.{the_row_laws as kept_laws}
 use Rattle.seize_seats.specs.Plots.Pieces.{kept_words, value_of, piece_at}
 use Rattle.seize_seats.specs.contracts.piece.Piece as piece_of
+use Rattle.seize_words.proofs.OneMemory.Stored.{hand_of}
 
 pub take_spec : {M : Type 1} → statement M
 take_spec 𝓤 𝓛 𝓜 𝓡 wired X P U F LX LP LU LF g d _ =

@@ -1,8 +1,8 @@
 use Rattle.threads_rule.proofs.Views.Laws.{seats_come}
 use Rattle.threads_rule.specs.Views.Looks.{shown_in}
 use Rattle.threads_errands.proofs.Shown.{is_shown}
-use Rattle.threads_callers.proofs.Passing.{what}
 use Rattle.threads_callers.proofs.caller.pass.pair_by.Goals as goal
+use Rattle.seize_words.proofs.General.{some_there as what}
 
 pub value_by-requires-clause-own : goal.value_by-requires-clause-own
 value_by-requires-clause-own g c = (c.requires.own.0, c.requires.own.1, c.requires.own.1)

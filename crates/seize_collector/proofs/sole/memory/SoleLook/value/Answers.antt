@@ -2,8 +2,8 @@ use Rattle.seize.specs.ReclaimAll.{none_left}
 use Rattle.std.proofs.Common.{sym, ap, ◌∙◌}
 use Rattle.std.specs.Prelude.{Some}
 use Rattle.seize_collector.specs.Renews.One.{shown_to_one}
-use Rattle.seize_collector.proofs.Empties.Steps.{is_told}
 use Rattle.seize_collector.proofs.sole.memory.SoleLook.value.Goals as goal
+use Rattle.seize_words.proofs.General.{some_there as is_told}
 
 pub value-requires-clause-shown : goal.value-requires-clause-shown
 value-requires-clause-shown g c =
