@@ -25,7 +25,6 @@ module _ {K V : Type 0} (same : K → K → Bool) (hash : K → ℕ) (lawful : A
     (map : IsMapIn same hash setting w c blocks) (map2 : IsMapIn same hash setting w2 c2 blocks2) (keys : K → Bool) (k : K) (keys_are : (j : K) → keys j ≡ same k j)
     (keeps : (o : ℕ) → o < c.stored → c2.current o ≡ true → value_at w2.memory (blocks2.pair o) ≡ value_at w.memory (blocks.pair o))
     (xs : List (K × V)) (are : AreContents w.memory c blocks xs) where
-
   put_there : (f : ℕ → Bool) (n o : ℕ) (v : Bool) → o ≢ n → put_at f n v o ≡ f o
   put_there f n o v ne = ap (λ (b : Bool). cond b v (f o)) (ne_eqb o n ne)
 

@@ -65,7 +65,6 @@ module _ {T : Type 0} (defers : T → Option ℕ) (size i : ℕ) (word : size < 
   all_free (suc left) s v e f = let k = free_one s v (omega (arith, e)) f in all_free left (suc s) k.0 (omega (arith, e)) k.1
 
 module _ {T : Type 0} (defers : T → Option ℕ) (size i : ℕ) (word : size < 2 ^ 64) where
-
   -- the batches of slots that have settled can be flushed
   begins : (w v : World T) (k : Settled defers size i w v)
       → Flushing defers size i word k.slots k.few w v (quiet_sets (LAST_SLOT + 1) (length v.memory.blocks + 1) k.settling.calm.rested.good.state)
