@@ -35,7 +35,7 @@ fn in_order(alloc: Global, items: Map<String, Value>) -> Result<Vec<Value>, Allo
     items.into_values().collect(alloc)
 }
 
-/// The array that these elements are written as: each once, in the order of the bytes of their compact texts.
+/// Returns the array that these elements are written as: each once, in the order of the bytes of their compact texts.
 pub fn array_of<'a, K: JsonForm + 'a, I: Iterator<Item = &'a K>>(
     alloc: Global,
     elements: I,

@@ -12,7 +12,7 @@ fn is_plain(text: &[u8]) -> bool
     !matches!(text, [b'+', ..] | [b'0', _, ..] | [b'-', b'0', ..])
 }
 
-/// The number without a sign that this is the text of.
+/// Returns the number without a sign that this is the text of.
 pub fn unsigned_of(text: &str) -> Option<u64>
     ensures { MatchOption result ((number : ℕ) → number < 2 ^ 64 → decimal number ≢ text.now) (λ number. decimal number ≡ text.now) }
 {
@@ -22,7 +22,7 @@ pub fn unsigned_of(text: &str) -> Option<u64>
     text.parse().ok()
 }
 
-/// The number that this is the text of.
+/// Returns the number that this is the text of.
 pub fn signed_of(text: &str) -> Option<i64>
     ensures { MatchOption result ((number : ℤ) → FitsSigned w64 number → signed_decimal number ≢ text.now)
         (λ number. signed_decimal number ≡ text.now) }

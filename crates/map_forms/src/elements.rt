@@ -46,7 +46,7 @@ fn elements_among<K: JsonForm, C: Gathers<K> + Drop>(
     Ok(found)
 }
 
-/// The elements of an array, in whatever order it has them; one that it has repeatedly counts once. Items are read in the array's order, and the first
+/// Returns the elements of an array, in whatever order it has them; one that it has repeatedly counts once. Items are read in the array's order, and the first
 /// fault counts: `BadElement`, or `Refused`, where memory or the length of a table was refused. What is no array is `NotAnArray`.
 pub fn elements_of<K: JsonForm, C: Gathers<K> + Drop>(
     alloc: Global,

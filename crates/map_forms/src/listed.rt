@@ -14,7 +14,7 @@ pub struct Listed<K> {
 }
 
 impl<K> Listed<K> {
-    /// The elements, in that order.
+    /// Returns the elements, in that order.
     pub fn iter(&self) -> Iter<'_, K>
         ensures { iter_rest result ≡ self.now.elements.items }
     {

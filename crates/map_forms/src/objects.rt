@@ -28,7 +28,7 @@ fn put_member<K: JsonKey, V: JsonForm>(
     Ok(())
 }
 
-/// The object that these pairs are written as.
+/// Returns the object that these pairs are written as.
 pub fn object_of<'a, K: JsonKey + 'a, V: JsonForm + 'a, I: Iterator<Item = (&'a K, &'a V)>>(
     alloc: Global,
     pairs: I,

@@ -37,7 +37,7 @@ impl Model for Text {
 }
 
 impl Text {
-    /// A copy of this text.
+    /// Makes a copy of this text.
     pub fn new(alloc: Global, text: &str) -> Result<Self, AllocError>
         ensures { IfOk result (λ copy. copy ≡ text.now) }
     {
@@ -46,7 +46,7 @@ impl Text {
         })
     }
 
-    /// The text.
+    /// Returns the text.
     pub fn as_str(&self) -> &str
         ensures { result.now ≡ self.now }
     {

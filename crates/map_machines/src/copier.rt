@@ -231,7 +231,7 @@ impl Copier {
         self.next_place();
     }
 
-    /// One step: at most one operation. The hasher gives the hash of the key of each pair that is copied.
+    /// Takes one step: at most one operation. The hasher gives the hash of the key of each pair that is copied.
     #[inline(always)]
     pub fn step<K: Drop, V: Drop, S: Hashes<K>, M: Memory<Node<K, V>>>(
         &mut self,

@@ -43,8 +43,8 @@ pub struct Dispose {
 }
 
 impl Dispose {
-    /// A word was taken out of a table, and names a pair. The pair is retired at once, unless the map is incremental and the
-    /// pair stands in an older table, too.
+    /// Begins the disposal of a pair that a word names which was taken out of a table. The pair is retired at once, unless the map is incremental and the pair
+    /// stands in an older table, too.
     #[inline(always)]
     pub fn begin(setting: Setting, word: u64, table: Table) -> Self
         ensures { result ≡ disposing setting word table }

@@ -45,7 +45,7 @@ pub struct Lookup {
     pub stands: Looking,
 }
 
-/// Whether a node is a pair whose key this stands for.
+/// Returns whether a node is a pair whose key this stands for.
 pub fn asks_for<K: Eq + Hash, V, Q: Equivalent<K>>(asked: &Q, node: &Node<K, V>) -> bool
     ensures { result ≡ names_pair (Q.Equivalent.equivalent asked.now) node.now }
 {
@@ -68,7 +68,7 @@ impl Lookup {
         }
     }
 
-    /// One step: at most one operation. It answers the link of the pair found.
+    /// Takes one step: at most one operation. It answers the link of the pair found.
     pub fn step<K: Eq + Hash, V, Q: Equivalent<K>, M: Look<Node<K, V>>>(
         &mut self,
         memory: &mut M,

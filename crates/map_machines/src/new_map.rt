@@ -43,7 +43,7 @@ pub struct NewMap {
 }
 
 impl NewMap {
-    /// A map that begins. Root and counter of the setting are not known yet.
+    /// Begins a map. Root and counter of the setting are not known yet.
     pub fn new(setting: Setting, roots: u64, len: u64) -> Self
         ensures { result ≡ opening setting roots len }
     {

@@ -56,7 +56,7 @@ pub struct NewTable {
 }
 
 impl NewTable {
-    /// The first table of a map, with so many places, but eight at least.
+    /// Returns the first table of a map, with so many places, but eight at least.
     pub fn first(setting: Setting, len: u64) -> Self
         ensures { result ≡ first_table setting len }
     {
@@ -67,7 +67,7 @@ impl NewTable {
         }
     }
 
-    /// The table after another one. Where a copied pair found no place there, no count is needed.
+    /// Returns the table after another one. Where a copied pair found no place there, no count is needed.
     pub fn after(setting: Setting, before: Table, reason: Reason) -> Self
         ensures { result ≡ table_after setting before reason }
     {
@@ -90,7 +90,7 @@ impl NewTable {
         }
     }
 
-    /// The table after another one that has so many places, but eight at least.
+    /// Returns the table after another one that has so many places, but eight at least.
     pub fn reserved(setting: Setting, before: Table, len: u64) -> Self
         ensures { result ≡ table_reserved setting before len }
     {

@@ -31,7 +31,7 @@ pub struct Sum {
 }
 
 impl Sum {
-    /// A counting that begins.
+    /// Begins a counting.
     pub fn new(setting: Setting) -> Self
         ensures { result ≡ summing setting }
     {

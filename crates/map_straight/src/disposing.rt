@@ -70,7 +70,7 @@ pub fn dispose<K, V, M: Memory<Node<K, V>>>(
     retire_pair(memory, setting, word, table)
 }
 
-/// The disposal at the point where it has stopped.
+/// Returns the disposal at the point where it has stopped.
 pub fn dispose_of(setting: Setting, word: u64, table: Table, disposed: Disposed) -> Dispose
     ensures { result ≡ dispose_at setting word table disposed }
 {

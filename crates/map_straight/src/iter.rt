@@ -34,7 +34,7 @@ impl<'a, K, V> Pairs<'a, K, V> {
     }
 }
 
-/// The pairs of a map on which no call is under way, each once. It makes no operation on the memory but loads, and completes no resize.
+/// Returns the pairs of a map on which no call is under way, each once. It makes no operation on the memory but loads, and completes no resize.
 pub fn pairs_of<K, V>(memory: &Plain<Node<K, V>>, setting: Setting) -> Pairs<'_, K, V>
     requires { (eq : K → K → Bool) × (hash : K → ℕ) × (c : Chart K) × (blocks : Blocks) × Stands eq hash memory.now setting c blocks }
     ensures can { can_go_on result }

@@ -36,7 +36,7 @@ fn pair_at<'a, K, V>(
     }
 }
 
-/// The first pair that counts from a place on in a table, and the place behind it.
+/// Returns the first pair that counts from a place on in a table, and the place behind it.
 pub fn next_in<'a, K, V>(
     memory: &'a Plain<Node<K, V>>,
     setting: Setting,
@@ -57,7 +57,7 @@ pub fn next_in<'a, K, V>(
     None
 }
 
-/// How many places the table at this link has.
+/// Returns how many places the table at this link has.
 pub fn len_at<K, V>(memory: &Plain<Node<K, V>>, link: u64) -> u64
     requires { link ≢ 0 → IsTableAt memory.now link }
     ensures { result ≡ (if link == 0 then 0 else places_of (value_at memory.now (block_in link))) }

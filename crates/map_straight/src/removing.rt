@@ -270,7 +270,7 @@ fn removing_at(setting: Setting, trial: Trial, removal: Removal) -> Calling
     }
 }
 
-/// The call at the point where it has stopped.
+/// Returns the call at the point where it has stopped.
 pub fn removal_of<K: Drop, V: Drop, Q: Drop>(
     setting: Setting,
     hash: u64,

@@ -271,7 +271,7 @@ fn no_trial() -> Trial
     }
 }
 
-/// The call at the point where it has stopped.
+/// Returns the call at the point where it has stopped.
 pub fn call_of<K, V, Q>(
     setting: Setting,
     hash: u64,

@@ -24,7 +24,7 @@ fn table_at<K, V>(memory: &Plain<Node<K, V>>, link: u64) -> Option<Table>
     Some(Table::seen(link, memory.value(Link::block_of(link))))
 }
 
-/// The root of a map, if it has a table.
+/// Returns the root of a map, if it has a table.
 pub fn root_of<K, V>(memory: &Plain<Node<K, V>>, setting: Setting) -> Option<Table>
     requires { (eq : K → K → Bool) × (hash : K → ℕ) × (c : Chart K) × (blocks : Blocks) × Stands eq hash memory.now setting c blocks }
     ensures { (eq : K → K → Bool) (hash : K → ℕ) (c : Chart K) (blocks : Blocks) → Stands eq hash memory.now setting c blocks → result ≡ table_at c blocks c.first }
@@ -33,7 +33,7 @@ pub fn root_of<K, V>(memory: &Plain<Node<K, V>>, setting: Setting) -> Option<Tab
     table_at(memory, link)
 }
 
-/// The table behind one, if there is one.
+/// Returns the table behind one, if there is one.
 pub fn table_behind<K, V>(
     memory: &Plain<Node<K, V>>,
     setting: Setting,

@@ -63,7 +63,7 @@ pub struct Reserve {
 }
 
 impl Reserve {
-    /// A reservation for so many further pairs.
+    /// Makes a reservation for so many further pairs.
     pub fn new(setting: Setting, additional: u64) -> Self
         ensures { result ≡ reserving setting additional }
     {
@@ -294,7 +294,7 @@ impl Reserve {
         }
     }
 
-    /// One step: at most one operation. The hasher gives the hash of the key of each pair that is copied.
+    /// Takes one step: at most one operation. The hasher gives the hash of the key of each pair that is copied.
     pub fn step<K: Drop, V: Drop, S: Hashes<K>, M: Memory<Node<K, V>>>(
         &mut self,
         memory: &mut M,

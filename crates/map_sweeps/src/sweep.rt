@@ -217,7 +217,7 @@ impl Sweep {
         }
     }
 
-    /// One step: at most one operation. The hasher gives the hash of the key of each pair that is copied.
+    /// Takes one step: at most one operation. The hasher gives the hash of the key of each pair that is copied.
     pub fn step<K: Drop, V: Drop, S: Hashes<K>, M: Memory<Node<K, V>>>(
         &mut self,
         memory: &mut M,

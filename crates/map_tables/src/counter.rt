@@ -12,7 +12,7 @@ pub struct Counter {
 }
 
 impl Counter {
-    /// A counter for so many processors, at most 2^63: its shards are the next power of two.
+    /// Makes a counter for so many processors, at most 2^63: its shards are the next power of two.
     pub fn new(processors: u64) -> Counter
         requires { processors ≤ 2 ^ 63 }
         ensures { IsNextPowerOfTwo processors (result.mask + 1) }
@@ -22,14 +22,14 @@ impl Counter {
         }
     }
 
-    /// The number of shards.
+    /// Returns the number of shards.
     pub fn shards(self) -> u64
         ensures { result ≡ (self.mask + 1) % 2 ^ 64 }
     {
         self.mask.wrapping_add(1)
     }
 
-    /// The shard of a slot: the slot's number masked.
+    /// Returns the shard of a slot: the slot's number masked.
     pub fn get(self, slot: u64) -> u64
         ensures masked { result ≡ bit_and slot self.mask }
         ensures in_words { (bits : ℕ) → self.mask + 1 ≡ 2 ^ bits → result ≡ slot % 2 ^ bits }
@@ -37,7 +37,7 @@ impl Counter {
         slot & self.mask
     }
 
-    /// The count that the words of all shards give.
+    /// Returns the count that the words of all shards give.
     pub fn sum(words: &[u64]) -> u64
         ensures { result ≡ count_in (sum words.now % 2 ^ 64) }
     {
@@ -48,7 +48,7 @@ impl Counter {
         Counter::read(total)
     }
 
-    /// The count that a sum of all shards says, as a number with a sign: 0 where it is negative.
+    /// Returns the count that a sum of all shards says, as a number with a sign: 0 where it is negative.
     pub fn read(total: u64) -> u64
         ensures { result ≡ count_in total }
     {

@@ -33,7 +33,7 @@ pub enum Finding {
     There,
 }
 
-/// What a word says. `same` tells whether it names a pair of the key.
+/// Returns what a word says. `same` tells whether it names a pair of the key.
 pub fn seen(mode: ResizeMode, aim: Aim, word: u64, same: bool) -> Finding
     ensures { result ≡ finding mode aim word same }
 {
@@ -66,7 +66,7 @@ pub fn seen(mode: ResizeMode, aim: Aim, word: u64, same: bool) -> Finding
     }
 }
 
-/// Whether a word may name a pair of a key with this hash: it names a block, and has the byte of the hash.
+/// Returns whether a word may name a pair of a key with this hash: it names a block, and has the byte of the hash.
 pub fn may_be(hash: u64, word: u64) -> bool
     ensures { result ≡ may_name hash word }
 {

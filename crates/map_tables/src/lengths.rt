@@ -34,7 +34,7 @@ pub enum Reason {
     NoPlace,
 }
 
-/// How many places so many pairs need: a third more, as the next power of two. The fault is Capacity.
+/// Returns how many places so many pairs need: a third more, as the next power of two. The fault is Capacity.
 pub fn entries_for(pairs: u64) -> Result<u64, Fault>
     ensures formula { result ≡ entries_of pairs }
     ensures in_words { IfOk result (λ entries. IsNextPowerOfTwo (places_for pairs) entries × (entries ≤ 2 ^ 48)) }
@@ -45,15 +45,15 @@ pub fn entries_for(pairs: u64) -> Result<u64, Fault>
     }
 }
 
-/// The length of a table that is made for so many pairs. The fault is Capacity.
+/// Returns the length of a table that is made for so many pairs. The fault is Capacity.
 pub fn len_for(pairs: u64) -> Result<u64, Fault>
     ensures { result ≡ len_of pairs }
 {
     Ok(entries_for(pairs)?.max(LEAST_LEN))
 }
 
-/// The length of the table after one of this length, for a map with this many pairs by its counter that was made with
-/// `initial` places. A call that met more pairs than that knows better. The fault is Capacity.
+/// Returns the length of the table after one of this length, for a map with this many pairs by its counter that was made with `initial` places. A call that met
+/// more pairs than that knows better. The fault is Capacity.
 pub fn len_after(reason: Reason, len: u64, count: u64, initial: u64) -> Result<u64, Fault>
     ensures { result ≡ next_len reason len count initial }
 {
@@ -74,7 +74,7 @@ fn is_crowded(met: u64, limit: u64) -> bool
     u128::from(met) * 8 >= (u128::from(limit) + 1) * 7
 }
 
-/// The limit of a table of length `len` that is made after one of length `before`, which has the limit `tried`.
+/// Returns the limit of a table of length `len` that is made after one of length `before`, which has the limit `tried`.
 pub fn limit_after(reason: Reason, before: u64, tried: u64, len: u64) -> u64
     requires { 1 ≤ len }
     ensures { result ≡ next_limit reason before tried len }
@@ -86,7 +86,7 @@ pub fn limit_after(reason: Reason, before: u64, tried: u64, len: u64) -> u64
     }
 }
 
-/// The turn of the table after one with this turn. The fault is Capacity.
+/// Returns the turn of the table after one with this turn. The fault is Capacity.
 pub fn turn_after(turn: u64) -> Result<u64, Fault>
     ensures { result ≡ next_turn turn }
 {

@@ -22,21 +22,21 @@ pub const MARKS_BITS: u64 = 3;
 /// How many bits above them are the byte.
 pub const BYTE_BITS: u64 = 8;
 
-/// The link to the block that a word names, with no byte and no mark.
+/// Returns the link to the block that a word names, with no byte and no mark.
 pub fn link_of(word: u64) -> u64
     ensures { result ≡ link_in word }
 {
     Link::to(Link::block_of(word))
 }
 
-/// The word with no mark.
+/// Returns the word with no mark.
 pub fn unmarked(word: u64) -> u64
     ensures { result ≡ unmarked_in word }
 {
     word / 8 * 8
 }
 
-/// Whether a mark is set in a word, or one of several.
+/// Returns whether a mark is set in a word, or one of several.
 pub fn has(word: u64, mark: u64) -> bool
     ensures { result ≡ has_mark word mark }
 {

@@ -12,7 +12,7 @@ pub struct Probe {
 }
 
 impl Probe {
-    /// The first try for a hash. The mask is the length of the table, a power of two, less one.
+    /// Returns the first try for a hash. The mask is the length of the table, a power of two, less one.
     pub fn start(hash: u64, mask: u64) -> Probe
         ensures begins { result ≡ probe_from hash mask }
         ensures place { (bits : ℕ) → mask ≡ 2 ^ bits - 1 → IsAt result hash bits }
@@ -23,7 +23,7 @@ impl Probe {
         }
     }
 
-    /// The next try, under the same mask: the j-th one goes j places on.
+    /// Returns the next try, under the same mask: the j-th one goes j places on.
     pub fn next(&mut self, mask: u64)
         ensures goes_on { self.new ≡ probe_after self.old mask }
         // however the sums wrap
@@ -45,8 +45,8 @@ pub fn every_place_is_tried()
     ensures { (hash bits : ℕ) → HasAllPlaces hash bits }
 {}
 
-/// The number of the last try at a table of this length, from 1 on: five times its logarithm to the base two,
-/// rounded down, but at most the length less one.
+/// Returns the number of the last try at a table of this length, from 1 on: five times its logarithm to the base two, rounded down, but at most the length less
+/// one.
 pub fn limit(len: u64) -> u64
     requires { 1 ≤ len }
     ensures formula { result ≡ limit_of len }

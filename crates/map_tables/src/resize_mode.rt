@@ -13,7 +13,7 @@ pub enum ResizeMode {
 }
 
 impl ResizeMode {
-    /// How many places of a table of this length a caller claims at once for copying.
+    /// Returns how many places of a table of this length a caller claims at once for copying.
     pub fn chunk(self, len: u64) -> u64
         ensures { result ≡ chunk_of self len }
     {
@@ -23,7 +23,7 @@ impl ResizeMode {
         }
     }
 
-    /// Whether it is copied in chunks, while calls go on in both tables.
+    /// Returns whether it is copied in chunks, while calls go on in both tables.
     pub fn is_incremental(self) -> bool
         ensures { result ≡ is_incremental self }
     {

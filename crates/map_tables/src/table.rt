@@ -18,7 +18,7 @@ pub struct Table {
 }
 
 impl Table {
-    /// The table of a link to a block with this value. A value of another kind is taken for a table of no places.
+    /// Returns the table of a link to a block with this value. A value of another kind is taken for a table of no places.
     pub fn seen<K, V>(link: u64, value: &Node<K, V>) -> Table
         ensures { result ≡ table_seen link value.now }
     {
@@ -38,7 +38,7 @@ impl Table {
         }
     }
 
-    /// The mask of its places: its length less one.
+    /// Returns the mask of its places: its length less one.
     pub fn mask(self) -> u64
         ensures { result ≡ self.len - 1 }
     {

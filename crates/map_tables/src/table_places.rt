@@ -7,14 +7,14 @@ use crate::table_words::PLACES;
 use seize::named::{At, Link};
 
 impl Table {
-    /// The name of one of its words that is no place.
+    /// Returns the name of one of its words that is no place.
     pub fn word(self, number: u64) -> At
         ensures { result ≡ at_word self number }
     {
         At::Word(Link::block_of(self.link), number)
     }
 
-    /// The name of the word of a place.
+    /// Returns the name of the word of a place.
     pub fn at(self, place: u64) -> At
         ensures { result ≡ at_place self place }
     {

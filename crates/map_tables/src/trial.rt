@@ -21,7 +21,7 @@ pub struct Trial {
 }
 
 impl Trial {
-    /// The first try for a hash at a table.
+    /// Returns the first try for a hash at a table.
     pub fn first(table: Table, hash: u64) -> Trial
         ensures { result ≡ first_trial table hash }
     {
@@ -33,7 +33,7 @@ impl Trial {
         }
     }
 
-    /// The first try for a hash at another table. What was met where all was full is kept.
+    /// Returns the first try for a hash at another table. What was met where all was full is kept.
     pub fn on(self, table: Table, hash: u64) -> Trial
         ensures { result ≡ trial_on self table hash }
     {
@@ -43,14 +43,14 @@ impl Trial {
         }
     }
 
-    /// The name of the word of its place.
+    /// Returns the name of the word of its place.
     pub fn at(self) -> At
         ensures { result ≡ place_tried self }
     {
         self.table.at(self.probe.i)
     }
 
-    /// The same try, once the word of its place is counted: it has met a pair if that names one.
+    /// Returns the same try, once the word of its place is counted: it has met a pair if that names one.
     pub fn meets(self, word: u64) -> Trial
         ensures { result ≡ with_met self word }
     {
@@ -62,7 +62,7 @@ impl Trial {
         Trial { met, ..self }
     }
 
-    /// The same try, once its table was found full: what was met there is kept.
+    /// Returns the same try, once its table was found full: what was met there is kept.
     pub fn found_full(self) -> Trial
         ensures { result ≡ found_full self }
     {
@@ -72,7 +72,7 @@ impl Trial {
         }
     }
 
-    /// The next try, up to the last one of the table.
+    /// Returns the next try, up to the last one of the table.
     pub fn next(self) -> Option<Trial>
         ensures { result ≡ next_trial self }
     {

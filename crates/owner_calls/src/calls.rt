@@ -36,7 +36,7 @@ fn next_try<K: Eq + Hash + Drop, V: Drop, Q: Equivalent<K>, S: Hashes<K>>(
     }
 }
 
-/// The try from this one on up to which all pass such words.
+/// Returns the try from this one on up to which all pass such words.
 pub fn last_try<K: Eq + Hash + Drop, V: Drop, Q: Equivalent<K>, S: Hashes<K>>(
     memory: &Plain<Node<K, V>>,
     hash: u64,

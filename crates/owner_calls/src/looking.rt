@@ -69,7 +69,7 @@ pub fn find<'a, K: Eq + Hash, V, Q: Equivalent<K>>(
     }
 }
 
-/// The pair of a word, where there is one.
+/// Returns the pair of a word, where there is one.
 pub fn shown_at<K, V>(memory: &Plain<Node<K, V>>, word: Option<u64>) -> Option<(&K, &V)>
     requires { (shown : Option (K × V)) × IsShownAt memory.now word shown }
     ensures { IsShownAt memory.now word (option_map (λ x. (x.0.now, x.1.now)) result) }
@@ -80,7 +80,7 @@ pub fn shown_at<K, V>(memory: &Plain<Node<K, V>>, word: Option<u64>) -> Option<(
     }
 }
 
-/// The pair of a word.
+/// Returns the pair of a word.
 pub fn pair_at<K, V>(memory: &Plain<Node<K, V>>, word: u64) -> (&K, &V)
     requires { NamesAPair memory.now word }
     ensures { (k : K) (v : V) → value_at memory.now (block_in word) ≡ Some (node.Pair k v) → (result.0.now ≡ k) × (result.1.now ≡ v) }

@@ -14,7 +14,7 @@ pub struct Replaced<'a, K: Eq + Hash, V, S: BuildHasher, R: Receiver<(K, V)> = D
 }
 
 impl<'a, K: Eq + Hash, V, S: BuildHasher, R: Receiver<(K, V)>> Replaced<'a, K, V, S, R> {
-    /// The value that was replaced, if the key was there.
+    /// Returns the value that was replaced, if the key was there.
     pub fn value(&self) -> Option<&V>
         ensures { option_copied result ≡ option_map (λ x. x.1) self.now.map.now.taken }
     {
@@ -32,7 +32,7 @@ pub struct Updated<'a, K: Eq + Hash, V, S: BuildHasher, R: Receiver<(K, V)> = Dr
 }
 
 impl<'a, K: Eq + Hash, V, S: BuildHasher, R: Receiver<(K, V)>> Updated<'a, K, V, S, R> {
-    /// The new value, if the key is there.
+    /// Returns the new value, if the key is there.
     pub fn value(&self) -> Option<&V>
         ensures { option_copied result ≡ option_map (λ x. x.1) self.now.map.now.met }
     {
@@ -42,7 +42,7 @@ impl<'a, K: Eq + Hash, V, S: BuildHasher, R: Receiver<(K, V)>> Updated<'a, K, V,
         }
     }
 
-    /// The value that it replaced.
+    /// Returns the value that it replaced.
     pub fn old(&self) -> Option<&V>
         ensures { option_copied result ≡ option_map (λ x. x.1) self.now.map.now.taken }
     {
@@ -60,7 +60,7 @@ pub struct Present<'a, K: Eq + Hash, V, S: BuildHasher, R: Receiver<(K, V)> = Dr
 }
 
 impl<'a, K: Eq + Hash, V, S: BuildHasher, R: Receiver<(K, V)>> Present<'a, K, V, S, R> {
-    /// Its value.
+    /// Returns its value.
     pub fn value(&self) -> &V
         requires { IsTrue (is_some self.now.map.now.met) }
         ensures { Some result.now ≡ option_map (λ x. x.1) self.now.map.now.met }
@@ -91,7 +91,7 @@ impl<K: Eq + Hash, V: Drop, S: BuildHasher, R: Receiver<(K, V)>> Drop
 }
 
 impl<'a, K: Eq + Hash, V: Drop, S: BuildHasher, R: Receiver<(K, V)>> OccupiedError<'a, K, V, S, R> {
-    /// The value that the key has.
+    /// Returns the value that the key has.
     pub fn current(&self) -> &V
         requires { IsTrue (is_some self.now.map.now.met) }
         ensures { Some result.now ≡ option_map (λ x. x.1) self.now.map.now.met }
@@ -102,7 +102,7 @@ impl<'a, K: Eq + Hash, V: Drop, S: BuildHasher, R: Receiver<(K, V)>> OccupiedErr
         }
     }
 
-    /// The value that was not stored, if it was not taken back before.
+    /// Returns the value that was not stored, if it was not taken back before.
     pub fn take_back(&mut self) -> Option<V>
         ensures same { (self.new.map.ghost_name ≡ self.old.map.ghost_name) × (self.new.map.now ≡ self.old.map.now) }
         ensures back { result ≡ self.old.not_inserted }
@@ -118,7 +118,7 @@ pub struct Removed<'a, K: Eq + Hash, V, S: BuildHasher, R: Receiver<(K, V)> = Dr
 }
 
 impl<'a, K: Eq + Hash, V, S: BuildHasher, R: Receiver<(K, V)>> Removed<'a, K, V, S, R> {
-    /// Its value.
+    /// Returns its value.
     pub fn value(&self) -> &V
         requires { IsTrue (is_some self.now.map.now.taken) }
         ensures { Some result.now ≡ option_map (λ x. x.1) self.now.map.now.taken }
@@ -146,7 +146,7 @@ impl<K: Eq + Hash, V, S: BuildHasher, R: Receiver<(K, V)>, T: Drop> Drop
 }
 
 impl<'a, K: Eq + Hash, V, S: BuildHasher, R: Receiver<(K, V)>, T: Drop> Aborted<'a, K, V, S, T, R> {
-    /// The reason, if it was not taken before.
+    /// Returns the reason, if it was not taken before.
     pub fn take(&mut self) -> Option<T>
         ensures same { (self.new.map.ghost_name ≡ self.old.map.ghost_name) × (self.new.map.now ≡ self.old.map.now) }
         ensures why { result ≡ self.old.why }

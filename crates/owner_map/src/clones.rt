@@ -29,9 +29,8 @@ fn put_clone<K: Eq + Hash + Clone, V: Clone, S: BuildHasher>(
 }
 
 impl<K: Eq + Hash + Clone, V: Clone, S: BuildHasher + Clone> HashMap<K, V, S> {
-    /// A map with a clone of each pair, of the hasher too, and with a memory of its own. The faults are `Fault::Capacity` and `Fault::Memory`;
-    /// then there is no map. Where a key's clone equals another key, that counts once; where each clone equals its original, so does the map, and has as many
-    /// pairs.
+    /// Makes a map with a clone of each pair, of the hasher too, and with a memory of its own. The faults are `Fault::Capacity` and `Fault::Memory`; then there
+    /// is no map. Where a key's clone equals another key, that counts once; where each clone equals its original, so does the map, and has as many pairs.
     pub fn clone(&self, alloc: Global) -> Result<Self, Fault>
         ensures clones { IfOk result (λ map. IsMadeOfClones K.eq K.is_clone V.is_clone self.now.pairs map) }
         ensures same { ClonesAreSame K.is_clone → ClonesAreSame V.is_clone → IfOk result (λ map. IsPermutation map.pairs self.now.pairs) }
@@ -49,7 +48,7 @@ impl<K: Eq + Hash + Clone, V: Clone, S: BuildHasher + Clone> HashMap<K, V, S> {
 }
 
 impl<K: Eq + Hash + Clone, V: Clone, S: BuildHasher + Default + Drop> HashMap<K, V, S> {
-    /// A map with clones of these pairs, the last one of each key. The faults are `Fault::Capacity` and `Fault::Memory`; then there is no map.
+    /// Makes a map with clones of these pairs, the last one of each key. The faults are `Fault::Capacity` and `Fault::Memory`; then there is no map.
     pub fn from_array(alloc: Global, items: &[(K, V)]) -> Result<Self, Fault>
         ensures clones { IfOk result (λ map. IsMadeOfClones K.eq K.is_clone V.is_clone items.now map) }
         ensures same { ClonesAreSame K.is_clone → ClonesAreSame V.is_clone → IfOk result (λ map. IsPermutation map.pairs (put_all K.eq [] items.now)) }

@@ -9,7 +9,7 @@ use seize_words::Receiver;
 use std::hash::{BuildHasher, Hash};
 
 impl<K: Eq + Hash, V, S: BuildHasher, R: Receiver<(K, V)>> HashMap<K, V, S, R> {
-    /// How many pairs it has. No two of them have equal keys, and all are held, beside those that wait.
+    /// Returns how many pairs it has. No two of them have equal keys, and all are held, beside those that wait.
     pub fn len(&self) -> u64
         ensures len { result ≡ length self.now.pairs }
         ensures apart { IsDistinct K.eq (keys_of self.now.pairs) }
@@ -18,7 +18,7 @@ impl<K: Eq + Hash, V, S: BuildHasher, R: Receiver<(K, V)>> HashMap<K, V, S, R> {
         owner_rests::count(&self.resting.memory, self.resting.setting, &self.hasher)
     }
 
-    /// Whether it has no pair.
+    /// Returns whether it has no pair.
     pub fn is_empty(&self) -> bool
         ensures { result ≡ (length self.now.pairs == 0) }
     {

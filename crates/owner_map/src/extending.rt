@@ -35,7 +35,7 @@ impl<K: Eq + Hash + Drop, V: Drop, S: BuildHasher, R: Receiver<(K, V)>> HashMap<
 }
 
 impl<K: Eq + Hash + Drop, V: Drop, S: BuildHasher + Default + Drop> HashMap<K, V, S> {
-    /// A map with what an iterator gives, the last pair of each key. The faults are `Fault::Capacity` and `Fault::Memory`; then there is no map.
+    /// Makes a map with what an iterator gives, the last pair of each key. The faults are `Fault::Capacity` and `Fault::Memory`; then there is no map.
     pub fn try_collect<I: IntoIterator<Item = (K, V)>>(
         alloc: Global,
         items: I,

@@ -12,7 +12,7 @@ use std::hash::{BuildHasher, Hash};
 use std::ops::Index;
 
 impl<K: Eq + Hash, V, S: BuildHasher, R: Receiver<(K, V)>> HashMap<K, V, S, R> {
-    /// The value of a key, if the key is in the map.
+    /// Returns the value of a key, if the key is in the map.
     pub fn get<Q: Equivalent<K>>(&self, asked: &Q) -> Option<&V>
         ensures value { option_copied result ≡ option_map (λ x. x.1) (found_by (Q.Equivalent.equivalent asked.now) self.now.pairs) }
         ensures in_any_order { (xs : List (K × V)) → IsPermutation self.now.pairs xs → option_copied result ≡ option_map (λ x. x.1) (found_by (Q.Equivalent.equivalent asked.now) xs) }
@@ -23,7 +23,7 @@ impl<K: Eq + Hash, V, S: BuildHasher, R: Receiver<(K, V)>> HashMap<K, V, S, R> {
         }
     }
 
-    /// The stored key and its value, if the key is in the map.
+    /// Returns the stored key and its value, if the key is in the map.
     pub fn get_key_value<Q: Equivalent<K>>(&self, asked: &Q) -> Option<(&K, &V)>
         ensures pair { option_map (λ x. (x.0.now, x.1.now)) result ≡ found_by (Q.Equivalent.equivalent asked.now) self.now.pairs }
         ensures in_any_order { (xs : List (K × V)) → IsPermutation self.now.pairs xs → option_map (λ x. (x.0.now, x.1.now)) result ≡ found_by (Q.Equivalent.equivalent asked.now) xs }
@@ -32,7 +32,7 @@ impl<K: Eq + Hash, V, S: BuildHasher, R: Receiver<(K, V)>> HashMap<K, V, S, R> {
         pair_of(memory, self.resting.setting, &self.hasher, asked)
     }
 
-    /// Whether the key is in the map.
+    /// Returns whether the key is in the map.
     pub fn contains_key<Q: Equivalent<K>>(&self, asked: &Q) -> bool
         ensures there { result ≡ is_some (found_by (Q.Equivalent.equivalent asked.now) self.now.pairs) }
         ensures in_any_order { (xs : List (K × V)) → IsPermutation self.now.pairs xs → result ≡ is_some (found_by (Q.Equivalent.equivalent asked.now) xs) }

@@ -14,7 +14,7 @@ use std::hash::{BuildHasher, Hash};
 use std::marker::PhantomData;
 
 impl<K: Eq + Hash + Drop, V: Drop, S: BuildHasher + Default + Drop> HashMap<K, V, S> {
-    /// A map with no pair, and with no table yet. The only fault is `Fault::Memory`.
+    /// Makes a map with no pair, and with no table yet. The only fault is `Fault::Memory`.
     pub fn new(alloc: Global) -> Result<Self, Fault>
         ensures pairs { IfOk result (λ map. map.pairs ≡ []) }
         ensures last { IfOk result (λ map. LastTook map None None) }
@@ -26,7 +26,7 @@ impl<K: Eq + Hash + Drop, V: Drop, S: BuildHasher + Default + Drop> HashMap<K, V
         HashMap::with_hasher(alloc, S::default())
     }
 
-    /// A map with no pair, and with a first table that has the places for so many. The faults are `Fault::Capacity`, just where that is too many, and
+    /// Makes a map with no pair, and with a first table that has the places for so many. The faults are `Fault::Capacity`, just where that is too many, and
     /// `Fault::Memory`.
     pub fn with_capacity(alloc: Global, capacity: u64) -> Result<Self, Fault>
         ensures pairs { IfOk result (λ map. map.pairs ≡ []) }
@@ -42,7 +42,7 @@ impl<K: Eq + Hash + Drop, V: Drop, S: BuildHasher + Default + Drop> HashMap<K, V
 }
 
 impl<K: Eq + Hash + Drop, V: Drop, S: BuildHasher + Drop> HashMap<K, V, S> {
-    /// A map with no pair, with no table yet, and with this hasher. The only fault is `Fault::Memory`.
+    /// Makes a map with no pair, with no table yet, and with this hasher. The only fault is `Fault::Memory`.
     pub fn with_hasher(alloc: Global, hasher: S) -> Result<Self, Fault>
         ensures pairs { IfOk result (λ map. map.pairs ≡ []) }
         ensures last { IfOk result (λ map. LastTook map None None) }
@@ -54,8 +54,8 @@ impl<K: Eq + Hash + Drop, V: Drop, S: BuildHasher + Drop> HashMap<K, V, S> {
         HashMap::with_capacity_and_hasher(alloc, 0, hasher)
     }
 
-    /// A map with no pair, with a first table that has the places for so many, and with this hasher. The faults are `Fault::Capacity`, just where
-    /// that is too many, and `Fault::Memory`.
+    /// Makes a map with no pair, with a first table that has the places for so many, and with this hasher. The faults are `Fault::Capacity`, just where that is
+    /// too many, and `Fault::Memory`.
     pub fn with_capacity_and_hasher(alloc: Global, capacity: u64, hasher: S) -> Result<Self, Fault>
         ensures pairs { IfOk result (λ map. map.pairs ≡ []) }
         ensures last { IfOk result (λ map. LastTook map None None) }

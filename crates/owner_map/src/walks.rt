@@ -11,7 +11,7 @@ use seize_words::Receiver;
 use std::hash::{BuildHasher, Hash};
 
 impl<K: Eq + Hash, V, S: BuildHasher, R: Receiver<(K, V)>> HashMap<K, V, S, R> {
-    /// The pairs, each once: every key with its value. In which order is not said, but no two have equal keys.
+    /// Returns the pairs, each once: every key with its value. In which order is not said, but no two have equal keys.
     pub fn iter(&self) -> Pairs<'_, K, V>
         ensures can { can_go_on result }
         ensures pairs { pairs_to_come result ≡ self.now.pairs }
@@ -20,7 +20,7 @@ impl<K: Eq + Hash, V, S: BuildHasher, R: Receiver<(K, V)>> HashMap<K, V, S, R> {
         pairs_of(&self.resting.memory, self.resting.setting)
     }
 
-    /// The keys, each once, in the order of `iter`. No two are equal.
+    /// Returns the keys, each once, in the order of `iter`. No two are equal.
     pub fn keys(&self) -> Keys<'_, K, V>
         ensures can { can_go_on result.pairs }
         ensures keys { keys_to_come result ≡ keys_of self.now.pairs }
@@ -30,7 +30,7 @@ impl<K: Eq + Hash, V, S: BuildHasher, R: Receiver<(K, V)>> HashMap<K, V, S, R> {
         Keys { pairs: self.iter() }
     }
 
-    /// The values, in the order of `iter`: that of each pair once, also where they are equal.
+    /// Returns the values, in the order of `iter`: that of each pair once, also where they are equal.
     pub fn values(&self) -> Values<'_, K, V>
         ensures can { can_go_on result.pairs }
         ensures values { values_to_come result ≡ values_of self.now.pairs }

@@ -6,7 +6,7 @@ use map_tables::{Counter, Node, Setting};
 use seize_words::{At, Look, Plain};
 use std::hash::{BuildHasher, Hash};
 
-/// How many pairs a map in this memory has.
+/// Returns how many pairs a map in this memory has.
 pub fn count<K: Eq + Hash, V, S: BuildHasher>(
     memory: &Plain<Node<K, V>>,
     setting: Setting,

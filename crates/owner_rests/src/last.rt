@@ -55,7 +55,7 @@ pub(crate) fn told_at(stop: Stop) -> Last
     }
 }
 
-/// The pair of a word, if there is one.
+/// Returns the pair of a word, if there is one.
 pub fn shown<K, V>(memory: &Plain<Node<K, V>>, word: Option<u64>) -> Option<(&K, &V)>
     requires { is_named memory.now word ≡ true }
     ensures { option_map (λ x. (x.0.now, x.1.now)) result ≡ pair_in memory.now word }

@@ -8,7 +8,7 @@ use papaya_raw::machines::Lookup;
 use seize_words::Plain;
 use std::hash::{BuildHasher, Hash};
 
-/// The pair that this asks for, in a map in this memory.
+/// Returns the pair that this asks for, in a map in this memory.
 pub fn pair_of<'a, K: Eq + Hash, V, S: BuildHasher, Q: Equivalent<K>>(
     memory: &'a Plain<Node<K, V>>,
     setting: Setting,

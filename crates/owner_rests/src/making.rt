@@ -24,7 +24,7 @@ const CHUNK: u64 = 64;
 /// From this length on a batch of pairs and tables that are out of the map is tried.
 const BATCH_SIZE: u64 = 32;
 
-/// The places of the first table for so many pairs, 0 for no table. The only fault is `Fault::Capacity`, just where they are too many.
+/// Returns the places of the first table for so many pairs, 0 for no table. The only fault is `Fault::Capacity`, just where they are too many.
 pub fn places_for(capacity: u64) -> Result<u64, Fault>
     ensures initial { IfOk result (λ places. IsPowerOfTwo (max places 1)) }
     ensures table { IfOk result (λ places. IsTableLen (max places 8)) }

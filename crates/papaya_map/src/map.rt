@@ -71,7 +71,7 @@ fn begun<K: Eq + Hash + Drop, V: Drop, S: Hashes<K>>(
 }
 
 impl<K: Eq + Hash + Drop, V: Drop> HashMap<K, V> {
-    /// A map with no pair, and with no table yet, with this hasher, whose keys are random. After `Fault::CollectorsUsedUp` the source is as it was; after
+    /// Makes a map with no pair, and with no table yet, with this hasher, whose keys are random. After `Fault::CollectorsUsedUp` the source is as it was; after
     /// `Fault::Memory` its number is spent.
     pub fn new(alloc: Global, ids: &mut IdSource, hasher: RandomState) -> Result<Self, Fault>
         ensures number { IfOk result (λ map. given ids.old ≡ Ok map.collector.number) }
@@ -85,7 +85,8 @@ impl<K: Eq + Hash + Drop, V: Drop> HashMap<K, V> {
 }
 
 impl<K: Eq + Hash + Drop, V: Drop, S: BuildHasher + Drop> HashMap<K, V, S> {
-    /// A map with no pair, with no table yet, and with this hasher. After `Fault::CollectorsUsedUp` the source is as it was; after `Fault::Memory` its number is spent.
+    /// Makes a map with no pair, with no table yet, and with this hasher. After `Fault::CollectorsUsedUp` the source is as it was; after `Fault::Memory` its
+    /// number is spent.
     pub fn with_hasher(alloc: Global, ids: &mut IdSource, hasher: S) -> Result<Self, Fault>
         ensures number { IfOk result (λ map. given ids.old ≡ Ok map.collector.number) }
         ensures hasher { IfOk result (λ map. map.hasher ≡ hasher) }
@@ -125,7 +126,7 @@ impl<K: Eq + Hash + Drop, V: Drop, S: BuildHasher + Drop> HashMap<K, V, S> {
 }
 
 impl<K: Eq + Hash + Drop, V: Drop, S: Hashes<K>> HashMap<K, V, S> {
-    /// The same map, for threads: they may begin sessions of their own.
+    /// Returns the same map, for threads: they may begin sessions of their own.
     pub fn shared(&self) -> SharedMap<'_, K, V, S>
         ensures memory { result.blocks.now ≡ self.now.home.blocks }
         ensures map { result.seat.now.view.map ≡ self.now.seat.view.map }

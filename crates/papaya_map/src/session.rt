@@ -69,7 +69,7 @@ impl<'m, K: Eq + Hash + Drop, V: Drop, S: Hashes<K>> Session<'m, K, V, S> {
         }
     }
 
-    /// Whether the map has a pair of this key.
+    /// Returns whether the map has a pair of this key.
     pub fn contains_key<R: Wait>(&mut self, rt: &R, key: &K) -> bool
         ensures same { IsOnSameMap self.old.base.caller self.new.base.caller }
         ensures sought { HasSought K.eq S.hash key.now result self.old.base.caller self.new.base.caller }

@@ -34,14 +34,14 @@ pub enum ActedOn {
     Makes(u64, Option<u64>),
 }
 
-/// Whether an event was out of turn.
+/// Returns whether an event was out of turn.
 pub fn is_busy<V>(outcome: &Outcome<V>) -> bool
     ensures { result ≡ is_busy outcome.now }
 {
     matches!(outcome, Outcome::Refused(Fault::Busy))
 }
 
-/// Which single events an event is of, if it is in turn.
+/// Returns which single events an event is of, if it is in turn.
 pub fn traced_as<K, V>(event: &Event<K, V>) -> Traced
     ensures { result ≡ traced event.now }
 {
@@ -63,7 +63,7 @@ fn called_map<K: Drop, V: Drop, S>(scheduler: &Scheduler<K, V, S>, caller: &Toke
     }
 }
 
-/// On which map an event is to act.
+/// Returns on which map an event is to act.
 pub fn acting_of<K: Drop, V: Drop, S>(
     scheduler: &Scheduler<K, V, S>,
     event: &Event<K, V>,
@@ -88,7 +88,7 @@ pub fn acting_of<K: Drop, V: Drop, S>(
 }
 
 impl ActedOn {
-    /// On which map it acts that came to this.
+    /// Returns on which map it acts that came to this.
     pub fn map<V>(self, outcome: &Outcome<V>) -> Option<u64>
         ensures { result ≡ map_acted self outcome.now }
     {

@@ -8,7 +8,7 @@ use run_names::crowd::Crowd;
 use run_schedules::ended::Living;
 use std::alloc::{AllocError, Global};
 
-/// The maps that live, with the numbers of their pairs.
+/// Returns the maps that live, with the numbers of their pairs.
 pub fn living(
     alloc: Global,
     maps: Crowd<NamedMap>,

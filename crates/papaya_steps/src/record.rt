@@ -52,7 +52,7 @@ fn add_singles(
 }
 
 impl<V: Drop> Record<V> {
-    /// Nothing has happened yet.
+    /// Begins a run in which nothing has happened yet.
     pub fn nothing(alloc: Global) -> Self
         ensures outcomes { result.outcomes.items ≡ [] }
         ensures steps { result.steps.items ≡ [] }
@@ -67,7 +67,7 @@ impl<V: Drop> Record<V> {
         }
     }
 
-    /// An event, of these single events, came to this.
+    /// Adds an event, of these single events, and what it came to.
     pub fn add(&mut self, traced: Traced, played: Played<V>) -> Result<(), AllocError>
         ensures outcomes { OnOk result (self.new.outcomes.items ≡ self.old.outcomes.items ++ played.outcome ∷ []) }
         ensures steps { OnOk result (self.new.steps.items ≡ self.old.steps.items ++ played.steps ∷ []) }

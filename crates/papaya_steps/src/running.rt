@@ -41,7 +41,8 @@ pub struct Running<K, V, S> {
 }
 
 impl<K: Eq + Hash + Drop, V: Drop, S: BuildHasher + Drop> Running<K, V, S> {
-    /// Nothing has happened yet. The hasher gives each key its hash. The choices say which free block numbers are used again, before those that events add.
+    /// Begins a run in which nothing has happened yet. The hasher gives each key its hash. The choices say which free block numbers are used again, before
+    /// those that events add.
     pub fn begin(
         alloc: Global,
         setup: Setup,
@@ -86,21 +87,21 @@ impl<K: Eq + Hash + Drop, V: Drop, S: Hashes<K> + Drop> Running<K, V, S> {
 }
 
 impl<K: Drop, V: Drop, S: Drop> Running<K, V, S> {
-    /// What the last event came to, if there was one.
+    /// Returns what the last event came to, if there was one.
     pub fn last_outcome(&self) -> Option<&Outcome<V>>
         ensures { option_copied result ≡ slice_get self.now.written.outcomes.items (length self.now.written.outcomes.items - 1) }
     {
         self.written.outcomes.last()
     }
 
-    /// What gave its keys their hashes.
+    /// Returns what gave its keys their hashes.
     pub fn into_hasher(self) -> S
         ensures { result ≡ self.scheduler.logged.executor.hasher }
     {
         self.scheduler.logged.executor.hasher
     }
 
-    /// The run that has come to its end.
+    /// Ends the run, and returns it.
     pub fn end(self, alloc: Global) -> Result<Run<K, V>, AllocError>
         requires { (same : K → K → Bool) × (hashes : S → K → ℕ) × (terms : Terms) × (events : List (Event K V)) × HasCome same hashes terms events self }
         ensures right { IfOk result (λ run. (same : K → K → Bool) (hashes : S → K → ℕ) (terms : Terms) (events : List (Event K V)) → HasCome same hashes terms events self

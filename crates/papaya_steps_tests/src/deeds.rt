@@ -51,7 +51,7 @@ impl EffectRow {
         }
     }
 
-    /// The effect.
+    /// Returns the effect.
     pub fn effect(self) -> Effect {
         match self {
             EffectRow::Pair => Effect::PairMade,

@@ -154,7 +154,7 @@ fn of_call(alloc: Global, step: Step) -> Result<Event<u64, u64>, AllocError> {
 }
 
 impl Step {
-    /// The event, with its names.
+    /// Returns the event, with its names.
     pub fn event(self, alloc: Global) -> Result<Event<u64, u64>, AllocError> {
         Ok(match self {
             Step::Register => Event::Register {
@@ -199,7 +199,7 @@ pub const NO_MEMORY: Shown = ("no memory", 0, 0);
 
 pub const NOTHING_TO_REMOVE: Shown = ("nothing to remove", 0, 0);
 
-/// A lookup found the pair with this number.
+/// Makes the answer of a lookup that found the pair with this number.
 pub fn found(number: u64) -> Shown {
     ("found", number, 0)
 }
@@ -228,7 +228,7 @@ fn answered(answer: &Response<u64>) -> Shown {
     }
 }
 
-/// What an event has come to, as its word and numbers.
+/// Returns what an event has come to, as its word and numbers.
 pub fn shown(outcome: &Outcome<u64>) -> Shown {
     match outcome {
         Outcome::Done => DONE,

@@ -25,7 +25,7 @@ fn make(alloc: Global) -> Result<Event<u64, u64>, AllocError> {
     })
 }
 
-/// A driver makes a map, as it lists, or wrongly.
+/// Lets a driver make a map, as it lists, or wrongly.
 pub fn apply_wrongly<R: Runner<Event<u64, u64>, Outcome = Outcome<u64>>, N: CrewName, W: Wait>(
     rt: &W,
     alloc: Global,

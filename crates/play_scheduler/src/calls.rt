@@ -124,7 +124,7 @@ impl<K: Drop, V: Drop, S> Scheduler<K, V, S> {
         self.quietly(Outcome::Goes)
     }
 
-    /// The number of the call of the caller of this name, if it is a walk that shows pairs.
+    /// Returns the number of the call of the caller of this name, if it is a walk that shows pairs.
     pub fn ready_number(&self, caller: &Token) -> Option<u64>
         ensures { MatchOption result (ready_place caller.now self.now.calls ≡ None) (IsReadyAt caller.now self.now.calls) }
     {
@@ -134,7 +134,7 @@ impl<K: Drop, V: Drop, S> Scheduler<K, V, S> {
         }
     }
 
-    /// A walk that shows pairs is given up.
+    /// Gives up a walk that shows pairs.
     pub fn stop(&mut self, caller: &Token) -> Played<V>
         requires { (same : K → K → Bool) × (hash : K → ℕ) × MayPlay same hash (event.Stop caller.now) self.old }
         ensures steps { result.steps ≡ 0 }

@@ -25,7 +25,7 @@ use std::alloc::AllocError;
 const MOST_GUARDS: usize = 65_535;
 
 impl<K: Drop, V: Drop, S> Scheduler<K, V, S> {
-    /// A new guard of a registration. The first one on its slot enters the slot.
+    /// Makes a new guard of a registration. The first one on its slot enters the slot.
     pub fn enter(
         &mut self,
         guard: Token,
@@ -62,7 +62,7 @@ impl<K: Drop, V: Drop, S> Scheduler<K, V, S> {
         })
     }
 
-    /// The guard's section begins anew, where the guard is the only one on its slot.
+    /// Begins the guard's section anew, where the guard is the only one on its slot.
     pub fn refresh(
         &mut self,
         guard: &Token,
@@ -90,7 +90,7 @@ impl<K: Drop, V: Drop, S> Scheduler<K, V, S> {
         })
     }
 
-    /// The open batch of the guard's slot is tried, unless a call holds it.
+    /// Tries the open batch of the guard's slot, unless a call holds it.
     pub fn flush(
         &mut self,
         guard: &Token,
@@ -140,7 +140,7 @@ impl<K: Drop, V: Drop, S> Scheduler<K, V, S> {
         }
     }
 
-    /// The guard ends. The only one on its slot leaves the slot, and gives it up where that is its own.
+    /// Ends the guard. The only one on its slot leaves the slot, and gives it up where that is its own.
     pub fn drop_guard(
         &mut self,
         guard: &Token,
@@ -170,7 +170,7 @@ impl<K: Drop, V: Drop, S> Scheduler<K, V, S> {
         })
     }
 
-    /// The guard is forgotten.
+    /// Forgets the guard.
     pub fn forget(&mut self, guard: &Token) -> Played<V>
         requires { (same : K → K → Bool) × (hash : K → ℕ) × MayPlay same hash (event.Forget guard.now) self.old }
         ensures steps { result.steps ≡ 0 }

@@ -18,7 +18,7 @@ pub struct Played<V> {
 }
 
 impl<V> Played<V> {
-    /// It came to this, made no step of a call, and did nothing.
+    /// Returns what made no step of a call, did nothing, and came to this.
     pub fn quietly(alloc: Global, outcome: Outcome<V>) -> Self
         ensures outcome { result.outcome ≡ outcome }
         ensures steps { result.steps ≡ 0 }
@@ -31,7 +31,7 @@ impl<V> Played<V> {
         }
     }
 
-    /// It was out of turn.
+    /// Returns what was out of turn.
     pub fn busy(alloc: Global) -> Self
         ensures outcome { result.outcome ≡ Outcome.Refused Fault.Busy }
         ensures steps { result.steps ≡ 0 }

@@ -43,7 +43,7 @@ impl<K: Drop, V: Drop, S> Scheduler<K, V, S> {
         }
     }
 
-    /// A new registration, on the least slot that is not in use.
+    /// Makes a new registration, on the least slot that is not in use.
     pub fn register(
         &mut self,
         registration: Token,
@@ -79,7 +79,7 @@ impl<K: Drop, V: Drop, S> Scheduler<K, V, S> {
         }
     }
 
-    /// A new guard with a slot of its own: the least one that is not in use.
+    /// Makes a new guard with a slot of its own: the least one that is not in use.
     pub fn own(&mut self, guard: Token, back: &mut Vec<Pair<K, V>>) -> Result<Played<V>, AllocError>
         requires { (same : K → K → Bool) × (hash : K → ℕ) × MayPlay same hash (event.Own guard) self.old }
         ensures steps { IfOk result (λ played. played.steps ≡ 0) }
@@ -111,7 +111,7 @@ impl<K: Drop, V: Drop, S> Scheduler<K, V, S> {
         }
     }
 
-    /// The registration ends, where each guard of it was forgotten. A slot on which guards are left is not given up.
+    /// Ends the registration, where each guard of it was forgotten. A slot on which guards are left is not given up.
     pub fn unregister(
         &mut self,
         registration: &Token,

@@ -48,7 +48,7 @@ pub struct Scheduler<K, V, S> {
 }
 
 impl<K: Drop, V: Drop, S: Drop> Scheduler<K, V, S> {
-    /// Nobody is there, and there is no map.
+    /// Begins with nobody there, and with no map.
     pub fn new(alloc: Global, setup: Setup, hasher: S) -> Result<Self, AllocError>
         ensures played { IfOk result (λ scheduler. (same : K → K → Bool) (hash : K → ℕ) → IsPlayed same hash (terms_given setup) [] scheduler) }
         ensures begun { IfOk result (HasJustBegun setup) }
@@ -68,14 +68,14 @@ impl<K: Drop, V: Drop, S: Drop> Scheduler<K, V, S> {
 }
 
 impl<K, V, S> Scheduler<K, V, S> {
-    /// No effects yet.
+    /// Returns no effects.
     pub fn no_effects(&self) -> Vec<Effect>
         ensures { result.items ≡ [] }
     {
         Vec::new(self.maps.alloc())
     }
 
-    /// An event came to this, and did nothing.
+    /// Returns an event that did nothing, and came to this.
     pub fn quietly(&self, outcome: Outcome<V>) -> Played<V>
         ensures outcome { result.outcome ≡ outcome }
         ensures steps { result.steps ≡ 0 }
@@ -84,7 +84,7 @@ impl<K, V, S> Scheduler<K, V, S> {
         Played::quietly(self.maps.alloc(), outcome)
     }
 
-    /// An event was out of turn.
+    /// Returns an event that was out of turn.
     pub fn busy(&self) -> Played<V>
         ensures outcome { result.outcome ≡ Outcome.Refused Busy }
         ensures steps { result.steps ≡ 0 }
@@ -93,7 +93,7 @@ impl<K, V, S> Scheduler<K, V, S> {
         Played::busy(self.maps.alloc())
     }
 
-    /// The number of the map of this name.
+    /// Returns the number of the map of this name.
     pub fn number_of(&self, map: &Token) -> Option<u64>
         ensures { result ≡ number_named map.now self.now.maps }
     {
@@ -105,7 +105,7 @@ impl<K, V, S> Scheduler<K, V, S> {
 }
 
 impl<K: Drop, V: Drop, S> Scheduler<K, V, S> {
-    /// The number of the map of this name, and with what its calls work.
+    /// Returns the number of the map of this name, and with what its calls work.
     pub fn setting_of(&self, map: &Token) -> Option<(u64, Setting)>
         ensures { result ≡ setting_named map.now self.now.maps self.now.logged.executor.maps.items }
     {
@@ -116,7 +116,7 @@ impl<K: Drop, V: Drop, S> Scheduler<K, V, S> {
         }
     }
 
-    /// The slot of the guard of this name, where it lives, and no call under way uses it.
+    /// Returns the slot of the guard of this name, where it lives, and no call under way uses it.
     pub fn slot_of_free(&self, guard: &Token) -> Option<u64>
         ensures { result ≡ free_slot guard.now self.now.there self.now.calls }
     {
@@ -147,7 +147,7 @@ impl<K: Drop, V: Drop, S> Scheduler<K, V, S> {
         Ok(told)
     }
 
-    /// So it does, where nobody asks what it told.
+    /// Does a row, where nobody asks what it told.
     pub fn do_row(
         &mut self,
         slot: u64,

@@ -28,7 +28,7 @@ impl<K: Drop, V: Drop, S> Scheduler<K, V, S> {
         }
     }
 
-    /// The collector's setup: in turn as the first event alone.
+    /// Takes the collector's setup, which is in turn as the first event alone.
     pub fn collector(&self, setup: Setup, is_first: bool) -> Played<V>
         requires { (same : K → K → Bool) × (hash : K → ℕ) × MayPlay same hash (event.Collector setup) self.now }
         ensures steps { result.steps ≡ 0 }
@@ -39,7 +39,7 @@ impl<K: Drop, V: Drop, S> Scheduler<K, V, S> {
         self.if_so(is_first)
     }
 
-    /// How keys get their hashes: in turn while no event was to make a map. It changes nothing in a run, which takes its hasher from its caller.
+    /// Sets how keys get their hashes, which is in turn while no event was to make a map. It changes nothing in a run, which takes its hasher from its caller.
     pub fn hash(&self, by: KeyHash) -> Played<V>
         requires { (same : K → K → Bool) × (hash : K → ℕ) × MayPlay same hash (event.Hash by) self.now }
         ensures steps { result.steps ≡ 0 }

@@ -41,7 +41,7 @@ impl<K: Drop, V: Drop, S> Scheduler<K, V, S> {
         self.quietly(Outcome::Refused(fault))
     }
 
-    /// An event that is kept out is refused, as busy, but that what is wrong in making a map is told first.
+    /// Refuses an event that is kept out, as busy, but that what is wrong in making a map is told first.
     pub fn refuse(&mut self, event: Event<K, V>) -> Played<V>
         ensures outcome { IsKeptOut event result.outcome }
         ensures steps { result.steps ≡ 0 }

@@ -50,8 +50,8 @@ fn give_all_back<K: Drop, V: Drop, S>(
     Ok(())
 }
 
-/// Everything that waits is reclaimed, and each slot is given up, where nobody is there but guards that were forgotten, and no call is under way. On an error nothing is said of
-/// the state after it.
+/// Reclaims everything that waits, and gives up each slot, where nobody is there but guards that were forgotten, and no call is under way. On an error nothing
+/// is said of the state after it.
 pub fn reclaim_all<K: Drop, V: Drop, S>(
     scheduler: &mut Scheduler<K, V, S>,
     back: &mut Vec<Pair<K, V>>,
@@ -76,7 +76,7 @@ pub fn reclaim_all<K: Drop, V: Drop, S>(
     })
 }
 
-/// The collector ends, where no map is there, either: all that waits is reclaimed. On an error nothing is said of the state after it.
+/// Ends the collector, where no map is there, either: all that waits is reclaimed. On an error nothing is said of the state after it.
 pub fn close<K: Drop, V: Drop, S>(
     scheduler: &mut Scheduler<K, V, S>,
     back: &mut Vec<Pair<K, V>>,

@@ -178,7 +178,7 @@ fn take_steps<K: Eq + Hash + Drop, V: Drop, S: Hashes<K>>(
     })
 }
 
-/// One step of the caller's call. Its growth may be refused.
+/// Takes one step of the caller's call. Its growth may be refused.
 pub fn step<K: Eq + Hash + Drop, V: Drop, S: Hashes<K>>(
     scheduler: &mut Scheduler<K, V, S>,
     caller: &Token,

@@ -42,7 +42,7 @@ fn walk_on<K: Eq + Hash + Drop, V: Drop, S: Hashes<K>>(
     unreachable!()
 }
 
-/// The next pair of the caller's walk, or that there is none.
+/// Returns the next pair of the caller's walk, or that there is none.
 pub fn next<K: Eq + Hash + Drop, V: Drop, S: Hashes<K>>(
     scheduler: &mut Scheduler<K, V, S>,
     caller: &Token,

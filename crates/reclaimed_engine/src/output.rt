@@ -13,7 +13,7 @@ pub struct Output<W> {
 }
 
 impl<W: Write> Output<W> {
-    /// No write has failed yet.
+    /// Makes an output of which no write has failed yet.
     pub fn new(writer: W) -> Self
         ensures writer { writer_of result ≡ writer }
         ensures failed { has_failed result ≡ false }
@@ -34,7 +34,7 @@ impl<W: Write> Output<W> {
         }
     }
 
-    /// Whether a write has failed.
+    /// Returns whether a write has failed.
     pub fn has_failed(&self) -> bool
         ensures { result ≡ has_failed self.now }
     {
@@ -43,7 +43,7 @@ impl<W: Write> Output<W> {
 }
 
 impl<W> Output<W> {
-    /// The writer.
+    /// Returns the writer.
     pub fn into_writer(self) -> W
         ensures { result ≡ writer_of self }
     {

@@ -9,7 +9,7 @@ use run_schedules::record::Run;
 use run_schedules::token::Token;
 use std::alloc::{AllocError, Global};
 
-/// The stored pair of this number, or none where the run stored fewer.
+/// Returns the stored pair of this number, or none where the run stored fewer.
 pub fn pair_of(run: &Run<u64, Token>, number: u64) -> Option<&Pair<u64, Token>>
     ensures { option_copied result ≡ pair_of run.now number }
 {

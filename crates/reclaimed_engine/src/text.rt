@@ -8,7 +8,7 @@ use run_schedules::record::Run;
 use run_schedules::token::Token;
 use std::alloc::{AllocError, Global};
 
-/// All that is printed for a run: its events in their order, and what is left at the end.
+/// Returns all that is printed for a run: its events in their order, and what is left at the end.
 pub fn text_of(alloc: Global, run: &Run<u64, Token>) -> Result<Vec<u8>, AllocError>
     ensures { IfOk result (λ text. text.items ≡ spelled.text_of run.now) }
 {
@@ -18,8 +18,7 @@ pub fn text_of(alloc: Global, run: &Run<u64, Token>) -> Result<Vec<u8>, AllocErr
     Ok(out)
 }
 
-/// The one line that is printed for a schedule that cannot be read: the number of its line, and
-/// why.
+/// Returns the one line that is printed for a schedule that cannot be read: the number of its line, and why.
 #[tactic(auto, using(crate::proofs::PrintedText::Spelling::fault_line_parts))]
 pub fn fault_line(alloc: Global, number: u64, text: &str) -> Result<Vec<u8>, AllocError>
     ensures { IfOk result (λ line. line.items ≡ spelled.fault_line number text.now) }

@@ -106,7 +106,7 @@ fn stop_of(alloc: Global, rest: Option<&[u8]>) -> Result<Event<u64, Token>, Line
     })
 }
 
-/// The event of a line of a caller, whose first word this is.
+/// Returns the event of a line of a caller, whose first word this is.
 #[tactic(auto, unfolding(crate::specs::Lines::caller_event_from))]
 pub fn caller_event_from(
     alloc: Global,

@@ -22,7 +22,7 @@ pub enum SaidCall<'a> {
 }
 
 impl SaidCall<'_> {
-    /// The call, with a copy of its value.
+    /// Returns the call, with a copy of its value.
     pub fn copied(self, alloc: Global) -> Result<Call<u64, Token>, AllocError>
         ensures { IfOk result (λ call. call ≡ call_of_said self.entry) }
     {
@@ -118,7 +118,7 @@ fn call_from<'a>(first: &[u8], rest: Option<&'a [u8]>) -> Result<SaidCall<'a>, L
     }
 }
 
-/// What is left, as a call: its first word decides the form.
+/// Reads what is left as a call: its first word decides the form.
 #[tactic(auto, unfolding(crate::specs::Calls::call_said))]
 pub fn call_said(rest: Option<&[u8]>) -> Result<SaidCall<'_>, LineFault>
     ensures { Gives call_of_said result (call_said (words_left (option_copied rest.entry))) }

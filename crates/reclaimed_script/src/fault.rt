@@ -21,7 +21,7 @@ pub enum LineFault {
 }
 
 impl LineFault {
-    /// What is printed for it.
+    /// Returns what is printed for it.
     pub fn text(self) -> &'static str
         ensures { result.now ≡ fault_text self }
     {

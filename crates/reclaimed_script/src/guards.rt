@@ -74,7 +74,7 @@ fn forget_of(alloc: Global, rest: Option<&[u8]>) -> Result<Event<u64, Token>, Li
     })
 }
 
-/// The event of a line on a guard or a map, whose first word this is.
+/// Returns the event of a line on a guard or a map, whose first word this is.
 #[tactic(auto, unfolding(crate::specs::Lines::guard_event_from))]
 pub fn guard_event_from(
     alloc: Global,

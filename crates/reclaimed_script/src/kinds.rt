@@ -35,7 +35,7 @@ fn has_digits(word: &[u8]) -> bool
     word.iter().all(|b| b.is_ascii_digit())
 }
 
-/// A word as a name.
+/// Reads a word as a name.
 pub fn name_of(word: &[u8]) -> Result<&[u8], LineFault>
     ensures { Gives (λ x. x.now) result (name_of word.now) }
 {
@@ -46,7 +46,7 @@ pub fn name_of(word: &[u8]) -> Result<&[u8], LineFault>
     }
 }
 
-/// A word as a caller's name, or the dash in its place.
+/// Reads a word as a caller's name, or the dash in its place.
 pub fn caller_of(word: &[u8]) -> Result<&[u8], LineFault>
     ensures { Gives (λ x. x.now) result (caller_of word.now) }
 {
@@ -57,7 +57,7 @@ pub fn caller_of(word: &[u8]) -> Result<&[u8], LineFault>
     }
 }
 
-/// A word as a value.
+/// Reads a word as a value.
 pub fn value_of(word: &[u8]) -> Result<&[u8], LineFault>
     ensures { Gives (λ x. x.now) result (value_of word.now) }
 {
@@ -85,7 +85,7 @@ fn is_decimal(word: &[u8]) -> bool
     starts_well(word) && has_digits(word)
 }
 
-/// A word as a number.
+/// Reads a word as a number.
 pub fn number_of(word: &[u8]) -> Result<u64, LineFault>
     ensures { result ≡ number_of word.now }
 {
@@ -103,7 +103,7 @@ pub fn number_of(word: &[u8]) -> Result<u64, LineFault>
     Ok(number)
 }
 
-/// A word as a number from low to high.
+/// Reads a word as a number from low to high.
 #[tactic(auto, unfolding(crate::specs::Words::number_between))]
 pub fn number_between(low: u64, high: u64, word: &[u8]) -> Result<u64, LineFault>
     ensures { result ≡ number_between low high word.now }

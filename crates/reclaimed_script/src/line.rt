@@ -116,8 +116,7 @@ fn event_from(
     }
 }
 
-/// The event that a line says, apart from the line's length and number. Memory is asked for only once
-/// the line is known to have no fault.
+/// Returns the event that a line says, apart from the line's length and number. Memory is asked for only once the line is known to have no fault.
 #[tactic(auto, unfolding(crate::specs::Lines::event_of, crate::specs::Lines::event_of_words))]
 pub fn event_of(alloc: Global, line: &[u8]) -> Result<Event<u64, Token>, LineStop>
     ensures { Tells result (event_of line.now) }

@@ -92,7 +92,7 @@ fn shape_of(alloc: Global, rest: Option<&[u8]>) -> Result<Event<u64, Token>, Lin
     })
 }
 
-/// The event of a line on a map or of a caller, whose first word this is.
+/// Returns the event of a line on a map or of a caller, whose first word this is.
 #[tactic(auto, unfolding(crate::specs::Lines::map_event_from))]
 pub fn map_event_from(
     alloc: Global,

@@ -87,7 +87,7 @@ fn add_line(
 impl Parser {
     ghost use Rattle.reclaimed_script.specs.Reading.{StandsAfter, StopsAt, Answers};
 
-    /// A parser before the first byte.
+    /// Makes a parser before the first byte.
     pub fn new(alloc: Global) -> Self
         ensures { StandsAfter [] result }
     {
@@ -98,7 +98,7 @@ impl Parser {
         }
     }
 
-    /// What is answered where the input fails.
+    /// Returns what is answered where the input fails.
     pub fn read_failed(&self) -> ScriptStop
         ensures { result ≡ Stop.ReadFailed self.now.lines }
     {

@@ -22,7 +22,7 @@ pub enum SaidReply<'a> {
 }
 
 impl SaidReply<'_> {
-    /// The reply, with a copy of its value.
+    /// Returns the reply, with a copy of its value.
     pub fn copied(self, alloc: Global) -> Result<Reply<Token>, AllocError>
         ensures { IfOk result (λ reply. reply ≡ reply_of_said self.entry) }
     {
@@ -70,7 +70,7 @@ fn reply_from<'a>(first: &[u8], rest: Option<&'a [u8]>) -> Result<SaidReply<'a>,
     }
 }
 
-/// What is left, as a reply: its first word decides the form.
+/// Reads what is left as a reply: its first word decides the form.
 #[tactic(auto, unfolding(crate::specs::Calls::reply_said))]
 pub fn reply_said(rest: Option<&[u8]>) -> Result<SaidReply<'_>, LineFault>
     ensures { Gives reply_of_said result (reply_said (words_left (option_copied rest.entry))) }
@@ -79,7 +79,7 @@ pub fn reply_said(rest: Option<&[u8]>) -> Result<SaidReply<'_>, LineFault>
     reply_from(first, rest)
 }
 
-/// What is left, as a refusal of a growth: no word, or `nomem`.
+/// Reads what is left as a refusal of a growth: no word, or `nomem`.
 pub fn nomem_of(rest: Option<&[u8]>) -> Result<bool, LineFault>
     ensures { result ≡ nomem_of (words_left (option_copied rest.entry)) }
 {

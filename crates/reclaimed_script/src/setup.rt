@@ -13,8 +13,7 @@ const USUAL_SETUP: Setup = Setup {
     roots: 8,
 };
 
-/// The setup of a collector that is the first event, and else the usual one: a batch of 32, one processor and
-/// eight roots.
+/// Returns the setup of a collector that is the first event, and else the usual one: a batch of 32, one processor and eight roots.
 pub fn setup_of(events: &[Event<u64, Token>]) -> Setup
     ensures { result ≡ setup_of events.now }
 {
@@ -24,8 +23,8 @@ pub fn setup_of(events: &[Event<u64, Token>]) -> Setup
     }
 }
 
-/// How keys get their hashes: as the last event says that speaks of it before the first one that makes a map. Where there
-/// is none, the hash of a key is the key.
+/// Returns how keys get their hashes: as the last event says that speaks of it before the first one that makes a map. Where there is none, the hash of a key is
+/// the key.
 pub fn hasher_of(events: &[Event<u64, Token>]) -> KeyHash
     ensures { result ≡ hasher_of events.now }
 {

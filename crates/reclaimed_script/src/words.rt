@@ -11,7 +11,7 @@ fn space_in(line: &[u8]) -> Option<usize>
     line.iter().position(|b| *b == b' ')
 }
 
-/// The first word of a line, and what is left of the line behind the space that ends the word.
+/// Cuts off the first word of a line, and returns it with what is left of the line behind the space that ends the word.
 pub fn cut(line: &[u8]) -> (&[u8], Option<&[u8]>)
     ensures { words_of line.now ≡ result.0.now ∷ words_left (option_copied result.1) }
 {
@@ -21,7 +21,7 @@ pub fn cut(line: &[u8]) -> (&[u8], Option<&[u8]>)
     }
 }
 
-/// The next word of what is left of a line, and what is left behind it.
+/// Returns the next word of what is left of a line, and what is left behind it.
 pub fn next_of(rest: Option<&[u8]>) -> Result<(&[u8], Option<&[u8]>), LineFault>
     ensures { Gives (λ x. (x.0.now, words_left (option_copied x.1))) result
         (next_of (words_left (option_copied rest.entry))) }
@@ -32,7 +32,7 @@ pub fn next_of(rest: Option<&[u8]>) -> Result<(&[u8], Option<&[u8]>), LineFault>
     }
 }
 
-/// No word is left.
+/// Checks that no word is left.
 pub fn none_of(rest: Option<&[u8]>) -> Result<(), LineFault>
     ensures { Gives (λ x. x) result (none_of (words_left (option_copied rest.entry))) }
 {
@@ -42,7 +42,7 @@ pub fn none_of(rest: Option<&[u8]>) -> Result<(), LineFault>
     }
 }
 
-/// What is left, as one word.
+/// Reads what is left as one word.
 pub fn one_of(rest: Option<&[u8]>) -> Result<&[u8], LineFault>
     ensures { Gives (λ x. x.now) result (one_of (words_left (option_copied rest.entry))) }
 {
@@ -53,7 +53,7 @@ pub fn one_of(rest: Option<&[u8]>) -> Result<&[u8], LineFault>
     }
 }
 
-/// What is left, as two words.
+/// Reads what is left as two words.
 pub fn two_of(rest: Option<&[u8]>) -> Result<(&[u8], &[u8]), LineFault>
     ensures { Gives (λ x. (x.0.now, x.1.now)) result (two_of (words_left (option_copied rest.entry))) }
 {
@@ -61,7 +61,7 @@ pub fn two_of(rest: Option<&[u8]>) -> Result<(&[u8], &[u8]), LineFault>
     Ok((first, one_of(rest)?))
 }
 
-/// What is left, as three words.
+/// Reads what is left as three words.
 pub fn three_of(rest: Option<&[u8]>) -> Result<(&[u8], &[u8], &[u8]), LineFault>
     ensures { Gives (λ x. (x.0.now, x.1.now, x.2.now)) result
         (three_of (words_left (option_copied rest.entry))) }

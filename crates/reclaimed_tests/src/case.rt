@@ -36,7 +36,7 @@ fn fitting(text: &[u8], room: usize) -> &[u8] {
 }
 
 impl Case {
-    /// A case with no line.
+    /// Makes a case with no line.
     pub fn new(alloc: Global) -> Self {
         Case {
             line: 0,
@@ -52,12 +52,12 @@ impl Case {
         }
     }
 
-    /// Whether it has a line that is no comment.
+    /// Returns whether it has a line that is no comment.
     pub fn is_begun(&self) -> bool {
         self.line > 0
     }
 
-    /// Where its last line stands in its file.
+    /// Returns where its last line stands in its file.
     pub fn line(&self) -> usize {
         self.line
     }
@@ -164,7 +164,7 @@ impl Case {
         }
     }
 
-    /// Whether it ended as it had to.
+    /// Returns whether it ended as it had to.
     pub fn is_right(&self, ended: &Ended) -> bool {
         let is_same = ended.status == self.status()
             && ended.printed.as_slice() == fitting(&self.printed, self.room)

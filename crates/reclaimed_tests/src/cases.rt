@@ -3,7 +3,7 @@ use crate::case::Case;
 use std::alloc::Global;
 use std::{io, mem};
 
-/// The cases that a text has, in their order.
+/// Returns the cases that a text has, in their order.
 pub fn cases_of(alloc: Global, text: &str) -> io::Result<Vec<Case>> {
     let mut cases = Vec::new(alloc);
     let mut case = Case::new(alloc);

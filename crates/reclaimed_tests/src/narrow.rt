@@ -10,7 +10,7 @@ pub struct Narrow {
 }
 
 impl Narrow {
-    /// Nothing is written yet.
+    /// Makes a text in which nothing is written yet.
     pub fn new(alloc: Global, room: usize) -> Self {
         Narrow {
             bytes: Vec::new(alloc),
@@ -18,7 +18,7 @@ impl Narrow {
         }
     }
 
-    /// What was written.
+    /// Returns what was written.
     pub fn into_bytes(self) -> Vec<u8> {
         self.bytes
     }

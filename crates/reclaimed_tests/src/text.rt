@@ -3,7 +3,7 @@ ghost use Rattle.std.specs.Prelude.{◌<◌, IfOk};
 
 use std::io::{self, ErrorKind};
 
-/// What is answered for a line that is not written as it has to be.
+/// Returns what is answered for a line that is not written as it has to be.
 pub fn malformed() -> io::Error {
     io::Error::from(ErrorKind::InvalidData)
 }
@@ -18,7 +18,7 @@ fn digit_of(byte: u8) -> io::Result<u8>
     }
 }
 
-/// The byte that two digits of base 16 stand for.
+/// Returns the byte that two digits of base 16 stand for.
 pub fn byte_of(high: u8, low: u8) -> io::Result<u8> {
     let high = digit_of(high)?;
     let low = digit_of(low)?;

@@ -14,7 +14,7 @@ pub struct ByMap {
 }
 
 impl ByMap {
-    /// Those of these pairs.
+    /// Sorts these pairs by their maps.
     pub fn of(alloc: Global, pairs: &[Whereabouts]) -> Result<Self, AllocError>
         ensures { IfOk result (λ by_map. (map : ℕ) → numbers_in map by_map ≡ numbers_at (passes (Some map)) 0 pairs.now) }
     {
@@ -27,7 +27,7 @@ impl ByMap {
         Ok(by_map)
     }
 
-    /// The numbers of the pairs of a map.
+    /// Returns the numbers of the pairs of a map.
     pub fn pairs_of(&self, alloc: Global, map: u64) -> Result<Vec<u64>, AllocError>
         ensures { IfOk result (λ pairs. pairs.items ≡ numbers_in map self.now) }
     {

@@ -31,7 +31,7 @@ fn copy_of_one<K: Clone, V: Clone>(call: &OneKey<K, V>) -> Result<OneKey<K, V>, 
     })
 }
 
-/// A copy of a call.
+/// Makes a copy of a call.
 pub fn copy_of<K: Clone, V: Clone>(call: &Call<K, V>) -> Result<Call<K, V>, AllocError>
     requires keys { ClonesAreSame K.is_clone }
     requires values { ClonesAreSame V.is_clone }
@@ -47,7 +47,7 @@ pub fn copy_of<K: Clone, V: Clone>(call: &Call<K, V>) -> Result<Call<K, V>, Allo
     })
 }
 
-/// A copy of a reply.
+/// Makes a copy of a reply.
 pub fn copy_of_reply<V: Clone>(reply: &Reply<V>) -> Result<Reply<V>, AllocError>
     requires { ClonesAreSame V.is_clone }
     ensures { IfOk result (λ copy. copy ≡ reply.now) }
@@ -95,7 +95,7 @@ fn same_by_key<K: PartialEq, V: PartialEq>(one: &OneKey<K, V>, other: &OneKey<K,
     }
 }
 
-/// Whether two calls are the same, their keys and values compared by `==`.
+/// Returns whether two calls are the same, their keys and values compared by `==`.
 pub fn same<K: PartialEq, V: PartialEq>(one: &Call<K, V>, other: &Call<K, V>) -> bool
     ensures { result ≡ same_call K.eq V.eq one.now other.now }
 {
@@ -110,7 +110,7 @@ pub fn same<K: PartialEq, V: PartialEq>(one: &Call<K, V>, other: &Call<K, V>) ->
     }
 }
 
-/// Whether two replies are the same, their values compared by `==`.
+/// Returns whether two replies are the same, their values compared by `==`.
 pub fn same_reply<V: PartialEq>(one: &Reply<V>, other: &Reply<V>) -> bool
     ensures { result ≡ same_reply V.eq one.now other.now }
 {

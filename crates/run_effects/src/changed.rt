@@ -24,7 +24,7 @@ pub enum Kind {
 }
 
 impl Kind {
-    /// What a value is.
+    /// Returns what a value is.
     pub fn of<K, V>(value: &Node<K, V>) -> Kind
         ensures { result ≡ kind_of value.now }
     {

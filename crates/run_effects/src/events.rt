@@ -18,7 +18,7 @@ fn name(alloc: Global, name: &Token) -> Result<Token, AllocError>
     Token::copy_of(alloc, name.as_bytes())
 }
 
-/// A copy of an event.
+/// Makes a copy of an event.
 pub fn copy_of<K: Clone, V: Clone>(
     alloc: Global,
     event: &Event<K, V>,
@@ -260,7 +260,7 @@ fn same_of_guards<K, V>(one: &Event<K, V>, other: &Event<K, V>) -> bool
     }
 }
 
-/// Whether two events are the same, their keys and values compared by `==`.
+/// Returns whether two events are the same, their keys and values compared by `==`.
 pub fn same<K: PartialEq, V: PartialEq>(one: &Event<K, V>, other: &Event<K, V>) -> bool
     ensures { result ≡ same_event K.eq V.eq one.now other.now }
 {

@@ -29,7 +29,7 @@ fn take_pair<K: Drop, V: Drop>(
     Pair { number, key, value }
 }
 
-/// The pairs that are in a memory still, of those that were stored, by its notes.
+/// Returns the pairs that are in a memory still, of those that were stored, by its notes.
 pub fn pairs_left<K: Drop, V: Drop>(
     alloc: Global,
     mut memory: Plain<Node<K, V>>,

@@ -26,7 +26,7 @@ fn reach(roles: &mut Vec<Role>, block: u64) -> Result<(), AllocError>
 }
 
 impl Notes {
-    /// Nothing is there yet.
+    /// Begins where nothing is there.
     pub fn nothing(alloc: Global) -> Self
         ensures { known result ≡ nothing_known }
     {
@@ -37,7 +37,7 @@ impl Notes {
         }
     }
 
-    /// What a block is.
+    /// Returns what a block is.
     pub fn role_of(&self, block: u64) -> Role
         ensures { result ≡ (known self.now).roles block }
     {
@@ -47,28 +47,28 @@ impl Notes {
             .unwrap_or(Role::Free)
     }
 
-    /// From this number on there is no block.
+    /// Returns the number from which on there is no block.
     pub fn blocks(&self) -> u64
         ensures { (b : ℕ) → result ≤ b → (known self.now).roles b ≡ Free }
     {
         self.roles.len() as u64
     }
 
-    /// How many pairs were stored.
+    /// Returns how many pairs were stored.
     pub fn stored(&self) -> u64
         ensures { result ≡ (known self.now).stored }
     {
         self.stored
     }
 
-    /// How many buckets of slots there are.
+    /// Returns how many buckets of slots there are.
     pub fn buckets(&self) -> u64
         ensures { result ≡ (known self.now).buckets }
     {
         self.buckets
     }
 
-    /// The block is this from now on.
+    /// Notes what the block is from now on.
     pub fn put(&mut self, block: u64, role: Role) -> Result<(), AllocError>
         ensures ok { OnOk result (known self.new ≡ with_role block role (known self.old)) }
         ensures err { OnErr result (known self.new ≡ known self.old) }
@@ -78,7 +78,7 @@ impl Notes {
         Ok(())
     }
 
-    /// The block is the pair that is stored next.
+    /// Notes that the block is the pair that is stored next.
     pub fn put_pair(&mut self, block: u64) -> Result<(), AllocError>
         requires { (known self.old).stored + 1 < 2 ^ 64 }
         ensures ok { OnOk result (known self.new ≡ with_pair block (known self.old)) }
@@ -89,7 +89,7 @@ impl Notes {
         Ok(())
     }
 
-    /// The bucket is there.
+    /// Notes that the bucket is there.
     pub fn put_bucket(&mut self, bucket: u64)
         requires { bucket + 1 < 2 ^ 64 }
         ensures { known self.new ≡ with_bucket bucket (known self.old) }

@@ -34,7 +34,7 @@ fn copy_of_answer<V: Clone>(answer: &Response<V>) -> Result<Response<V>, AllocEr
     })
 }
 
-/// A copy of an outcome.
+/// Makes a copy of an outcome.
 pub fn copy_of<V: Clone>(alloc: Global, outcome: &Outcome<V>) -> Result<Outcome<V>, AllocError>
     requires { ClonesAreSame V.is_clone }
     ensures { IfOk result (AreAlike outcome.now) }
@@ -95,7 +95,7 @@ fn same_shape(one: &[TableShape], other: &[TableShape]) -> bool
     }
 }
 
-/// Whether two outcomes are the same, their values compared by `==`.
+/// Returns whether two outcomes are the same, their values compared by `==`.
 pub fn same<V: PartialEq>(one: &Outcome<V>, other: &Outcome<V>) -> bool
     ensures { result ≡ same_outcome V.eq one.now other.now }
 {

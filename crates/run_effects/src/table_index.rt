@@ -16,7 +16,7 @@ pub struct TableIndex {
 }
 
 impl TableIndex {
-    /// No table came yet.
+    /// Begins where no table came yet.
     pub fn nothing(alloc: Global) -> Self
         ensures whole { result.is_whole ≡ true }
         ensures places { (table : TableId) → put_at table result ≡ None }
@@ -27,7 +27,7 @@ impl TableIndex {
         }
     }
 
-    /// The place of this table.
+    /// Returns the place of this table.
     pub fn get(&self, table: TableId) -> Option<usize>
         ensures { result ≡ place_of table self.now }
     {

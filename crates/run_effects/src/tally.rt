@@ -161,7 +161,7 @@ fn waiting_among(alloc: Global, pairs: &[Whereabouts]) -> Result<Vec<u64>, Alloc
 }
 
 impl Tally {
-    /// No pair and no table is there yet.
+    /// Begins where no pair and no table is there.
     pub fn nothing(alloc: Global) -> Self
         ensures pairs { result.pairs.items ≡ [] }
         ensures behind { result.behind.items ≡ [] }
@@ -243,7 +243,7 @@ impl Tally {
         Ok(())
     }
 
-    /// An effect of an event on this map, if on any.
+    /// Notes an effect of an event on this map, if on any.
     pub fn note(&mut self, map: Option<u64>, effect: Effect) -> Result<(), AllocError>
         ensures { OnOk result (TellsNext map effect self.old self.new) }
     {
@@ -261,7 +261,7 @@ impl Tally {
         }
     }
 
-    /// The effects of an event on this map, if on any, in their order.
+    /// Notes the effects of an event on this map, if on any, in their order.
     pub fn note_all(&mut self, map: Option<u64>, effects: &[Effect]) -> Result<(), AllocError>
         ensures { OnOk result (TellsAll map effects.now self.old self.new) }
     {
@@ -271,21 +271,21 @@ impl Tally {
         Ok(())
     }
 
-    /// The numbers of the pairs of each map, ascending.
+    /// Returns the numbers of the pairs of each map, ascending.
     pub fn by_map(&self, alloc: Global) -> Result<ByMap, AllocError>
         ensures { IfOk result (λ by_map. (map : ℕ) → numbers_in map by_map ≡ numbers_at (passes (Some map)) 0 self.now.pairs.items) }
     {
         ByMap::of(alloc, self.pairs.as_slice())
     }
 
-    /// The numbers of the pairs that wait, ascending.
+    /// Returns the numbers of the pairs that wait, ascending.
     pub fn waiting(&self, alloc: Global) -> Result<Vec<u64>, AllocError>
         ensures { IfOk result (λ pairs. pairs.items ≡ numbers_at (passes None) 0 self.now.pairs.items) }
     {
         waiting_among(alloc, self.pairs.as_slice())
     }
 
-    /// How many tables were retired, and not reclaimed.
+    /// Returns how many tables were retired, and not reclaimed.
     pub fn waiting_tables(&self) -> u64
         ensures { result ≡ counted self.now.tables.items }
     {

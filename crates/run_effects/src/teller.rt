@@ -18,7 +18,7 @@ pub struct Teller<M> {
 }
 
 impl<M> Teller<M> {
-    /// A memory in which no operation was made yet, and that refuses no block.
+    /// Makes a memory in which no operation was made yet, and that refuses no block.
     pub fn new(memory: M) -> Self
         ensures memory { result.memory ≡ memory }
         ensures changed { result.changed ≡ Nothing }

@@ -287,7 +287,7 @@ impl Notes {
         }
     }
 
-    /// What an operation has done.
+    /// Returns what an operation has done.
     pub fn did(&self, acting: Acting, changed: Changed) -> Did
         requires { (known self.now).stored + 1 < 2 ^ 64 }
         ensures { listed result ≡ effects_of acting (known self.now) changed }

@@ -50,14 +50,14 @@ pub(crate) fn value_of<K: Drop, V: Drop>(node: Node<K, V>) -> Option<V>
 }
 
 impl<V> NamedCaller<V> {
-    /// Whether its call asks, and a reply is of the kind that it asks for.
+    /// Returns whether its call asks, and a reply is of the kind that it asks for.
     pub fn takes(&self, reply: &Reply<V>) -> bool
         ensures { result ≡ takes self.now reply.now }
     {
         matches!(self.stands, Stands::Asks(_)) && self.kind.fits(reply)
     }
 
-    /// Whether its call is a walk that shows pairs.
+    /// Returns whether its call is a walk that shows pairs.
     pub fn shows(&self) -> bool
         ensures { result ≡ shows self.now.stands }
     {

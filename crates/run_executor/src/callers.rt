@@ -113,7 +113,7 @@ fn length_of<V: Drop>(comers: &[Option<NamedCaller<V>>]) -> usize
 }
 
 impl<V: Drop> Callers<V> {
-    /// Nobody has a call.
+    /// Begins where nobody has a call.
     pub fn nobody(alloc: Global) -> Self
         ensures { result ≡ [] }
     {
@@ -127,21 +127,21 @@ impl<V: Drop> Callers<V> {
         }
     }
 
-    /// Whether nobody has a call.
+    /// Returns whether nobody has a call.
     pub fn is_empty(&self) -> bool
         ensures { result ≡ (length self.now == 0) }
     {
         self.count == 0
     }
 
-    /// Whether a caller of this name has a call.
+    /// Returns whether a caller of this name has a call.
     pub fn has(&self, name: &Token) -> bool
         ensures { result ≡ is_some (position (is_named name.now) self.now) }
     {
         self.count > 0 && place_of(&self.comers, &self.places, self.last, name).is_some()
     }
 
-    /// The caller of this name.
+    /// Returns the caller of this name.
     pub fn get(&self, name: &Token) -> Option<&NamedCaller<V>>
         ensures { option_copied result ≡ called name.now self.now }
     {
@@ -152,14 +152,14 @@ impl<V: Drop> Callers<V> {
         self.comers[place].as_ref()
     }
 
-    /// Whether a call is under the guard of this name.
+    /// Returns whether a call is under the guard of this name.
     pub fn uses(&self, guard: &Token) -> bool
         ensures { result ≡ list_any (λ caller. is_same caller.guard guard.now) self.now }
     {
         self.count > 0 && self.under.of(guard) > 0
     }
 
-    /// Whether a call on the map of this number is under way.
+    /// Returns whether a call on the map of this number is under way.
     pub fn are_on(&self, map: u64) -> bool
         ensures { result ≡ list_any (λ caller. caller.map == map) self.now }
     {
@@ -177,7 +177,7 @@ impl<V: Drop> Callers<V> {
         }
     }
 
-    /// The call of the caller of this name goes on, with this value.
+    /// Lets the call of the caller of this name go on, with this value.
     pub fn resume(&mut self, name: &Token, value: Option<V>)
         ensures { (place : ℕ) (caller : NamedCaller V) → position (is_named name.now) self.old ≡ Some place → slice_get self.old place ≡ Some caller
             → self.new ≡ slice_set self.old place (record caller { stands = Stands.Goes; value = value }) }
@@ -185,7 +185,7 @@ impl<V: Drop> Callers<V> {
         self.change(name, Stands::Goes, Keeps::Is(value));
     }
 
-    /// The call of the caller of this name is this far from now on.
+    /// Notes how far the call of the caller of this name is from now on.
     pub fn stand(&mut self, name: &Token, stands: Stands)
         ensures { (place : ℕ) (caller : NamedCaller V) → position (is_named name.now) self.old ≡ Some place → slice_get self.old place ≡ Some caller
             → self.new ≡ slice_set self.old place (record caller { stands = stands }) }
@@ -193,7 +193,7 @@ impl<V: Drop> Callers<V> {
         self.change(name, stands, Keeps::Same);
     }
 
-    /// The call of the caller of this name goes on, and keeps the value that it has not stored, if it tells that.
+    /// Lets the call of the caller of this name go on, and keeps the value that it has not stored, if it tells that.
     pub fn keep<K: Drop>(&mut self, name: &Token, unstored: Node<K, V>)
         ensures { (place : ℕ) (caller : NamedCaller V) → position (is_named name.now) self.old ≡ Some place → slice_get self.old place ≡ Some caller
             → self.new ≡ slice_set self.old place (record caller { stands = Stands.Goes; value = kept caller.kind unstored caller.value }) }
@@ -201,7 +201,7 @@ impl<V: Drop> Callers<V> {
         self.change(name, Stands::Goes, Keeps::Unstored(value_of(unstored)));
     }
 
-    /// A caller comes. On an error nobody did: memory found none, or one of this name is there.
+    /// Adds a caller. On an error nobody did: memory found none, or one of this name is there.
     pub fn add(&mut self, caller: NamedCaller<V>) -> Result<(), AllocError>
         ensures { OnOk result (self.new ≡ caller ∷ self.old) }
     {
@@ -221,7 +221,7 @@ impl<V: Drop> Callers<V> {
         Ok(())
     }
 
-    /// The caller of this name has a call no more. Answers what the call is, and the value that it kept.
+    /// Takes the call of the caller of this name away. Answers what the call is, and the value that it kept.
     pub fn remove(&mut self, name: &Token) -> Option<(CallKind, Option<V>)>
         ensures who { result ≡ option_map (λ caller. (caller.kind, caller.value)) (called name.now self.old) }
         ensures left { (place : ℕ) → position (is_named name.now) self.old ≡ Some place → self.new ≡ remove self.old place }

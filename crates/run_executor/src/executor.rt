@@ -31,7 +31,7 @@ pub struct Executor<K, V, S> {
 }
 
 impl<K: Drop, V: Drop, S: Drop> Executor<K, V, S> {
-    /// With no map and no caller, and with as many roots.
+    /// Makes an executor with no map and no caller, and with as many roots.
     pub fn new(alloc: Global, hasher: S, batch_size: u64, roots: u64) -> Result<Self, AllocError>
         ensures stands { IfOk result (λ executor. (same : K → K → Bool) (hash : K → ℕ) → IsThere same hash executor (at_first roots)) }
         ensures given { IfOk result (λ executor. (executor.hasher ≡ hasher) × (executor.batch_size ≡ batch_size) × (executor.roots ≡ roots)) }

@@ -57,7 +57,7 @@ impl CallKind {
         }
     }
 
-    /// That of a call.
+    /// Returns the kind of a call.
     pub fn of<K, V>(call: &Call<K, V>) -> Self
         ensures { result ≡ kind_of call.now }
     {
@@ -71,7 +71,7 @@ impl CallKind {
         }
     }
 
-    /// Whether a reply is of the kind that such a call asks for.
+    /// Returns whether a reply is of the kind that such a call asks for.
     pub fn fits<V>(self, reply: &Reply<V>) -> bool
         ensures { result ≡ fits self reply.now }
     {

@@ -57,7 +57,7 @@ fn machine_on<K, V, S: Hashes<K>>(setting: Setting, hasher: &S, one: OneKey<K, V
     }
 }
 
-/// The machine of a call.
+/// Returns the machine of a call.
 pub fn machine_for<K, V, S: Hashes<K>>(
     setting: Setting,
     hasher: &S,

@@ -6,7 +6,7 @@ ghost use Rattle.run_executor.specs.Named.Places.{IsFirstLen, first_places};
 use papaya_raw::{ResizeMode, entries_for};
 use seize_words::Fault;
 
-/// The places that a map is made with, for so many pairs at least: none at all for none. The faults are ZeroChunk and Capacity.
+/// Returns the places that a map is made with, for so many pairs at least: none at all for none. The faults are ZeroChunk and Capacity.
 pub fn places_for(mode: ResizeMode, capacity: u64) -> Result<u64, Fault>
     ensures fault { IfErr result (λ fault. map_fault mode capacity ≡ Some fault) }
     ensures none { IfOk result (λ places. map_fault mode capacity ≡ None) }

@@ -10,7 +10,7 @@ use run_effects::role::Role;
 use run_schedules::call::Response;
 use seize_words::Link;
 
-/// The number of the pair that a word links to.
+/// Returns the number of the pair that a word links to.
 pub fn number_by(notes: &Notes, word: u64) -> u64
     ensures { result ≡ number_by (known notes.now) word }
 {
@@ -82,7 +82,7 @@ fn answer_on<V: Drop>(
     }
 }
 
-/// What a call answers.
+/// Returns what a call answers.
 pub fn answer_of<V: Drop>(
     notes: &Notes,
     kind: CallKind,

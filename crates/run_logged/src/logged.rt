@@ -39,7 +39,7 @@ fn has_number(changed: Changed) -> bool
 }
 
 impl<K: Drop, V: Drop, S: Drop> Logged<K, V, S> {
-    /// With no map and no caller, and with as many roots. Nothing is noted yet.
+    /// Makes an executor with no map and no caller, and with as many roots. Nothing is noted yet.
     pub fn new(alloc: Global, hasher: S, batch_size: u64, roots: u64) -> Result<Self, AllocError>
         ensures shown { IfOk result (λ logged. (same : K → K → Bool) (hash : K → ℕ) (name : ℕ → List ℕ) → IsShown same hash name start logged (at_first roots)) }
         ensures given { IfOk result (λ logged. (logged.executor.hasher ≡ hasher) × (logged.executor.batch_size ≡ batch_size) × (logged.executor.roots ≡ roots)) }

@@ -14,7 +14,7 @@ pub struct Counts {
 }
 
 impl Counts {
-    /// There are none.
+    /// Begins with none.
     pub fn new(alloc: Global) -> Self
         ensures { (name : List ℕ) → count_in name result ≡ 0 }
     {
@@ -23,7 +23,7 @@ impl Counts {
         }
     }
 
-    /// How many there are of a name.
+    /// Returns how many there are of a name.
     pub fn of(&self, name: &Token) -> usize
         ensures { result ≡ count_in name.now self.now }
     {
@@ -33,7 +33,7 @@ impl Counts {
         }
     }
 
-    /// There is one more of this name. On an error there is not.
+    /// Counts one more of this name. On an error there is not.
     pub fn add(&mut self, alloc: Global, name: &Token) -> Result<(), AllocError>
         requires { count_in name.now self.old + 1 < 2 ^ 64 }
         ensures here { OnOk result (count_in name.now self.new ≡ count_in name.now self.old + 1) }
@@ -49,7 +49,7 @@ impl Counts {
         Ok(())
     }
 
-    /// There is one less of this name.
+    /// Counts one less of this name.
     pub fn lessen(&mut self, name: &Token)
         requires { 1 ≤ count_in name.now self.old }
         ensures here { count_in name.now self.new + 1 ≡ count_in name.now self.old }

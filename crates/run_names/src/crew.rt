@@ -26,8 +26,8 @@ where
     R::Outcome: Drop,
     R::Hasher: Drop,
 {
-    /// A crew that keeps no event yet, and its drivers, numbered from 0 on. The hasher gives each key its hash. The choices say which free block numbers are used again, before
-    /// those that events add. The one fault is Memory.
+    /// Makes a crew that keeps no event yet, and its drivers, numbered from 0 on. The hasher gives each key its hash. The choices say which free block numbers
+    /// are used again, before those that events add. The one fault is Memory.
     pub fn new(
         alloc: Global,
         setup: Setup,
@@ -91,8 +91,8 @@ where
     R::Run: Drop,
     R::Hasher: Drop,
 {
-    /// The kept schedule with its run, where it holds of each driver just its list, events and outcomes compared by the runner's tests, and else none. If memory had run out for an event,
-    /// the run is made anew. The one fault is Memory.
+    /// Returns the kept schedule with its run, where it holds of each driver just its list, events and outcomes compared by the runner's tests, and else none.
+    /// If memory had run out for an event, the run is made anew. The one fault is Memory.
     pub fn finish(
         self,
         alloc: Global,

@@ -38,7 +38,7 @@ impl<T: HasName> Model for Crowd<T> {
     ghost invariant = { λ c. LeadsHome T.name_of c.comers.items c.places × (c.count ≡ length (kept c.comers.items)) };
 }
 
-/// Whether the item of this name stands at this place.
+/// Returns whether the item of this name stands at this place.
 pub fn is_at<T: HasName>(comers: &[Option<T>], place: usize, name: &Token) -> bool
     ensures yes { result ≡ true → IsHome T.name_of name.now comers.now place }
 {
@@ -48,7 +48,7 @@ pub fn is_at<T: HasName>(comers: &[Option<T>], place: usize, name: &Token) -> bo
     }
 }
 
-/// Where the item of this name stands.
+/// Returns where the item of this name stands.
 pub fn place_in<T: HasName>(comers: &[Option<T>], places: &NameIndex, name: &Token) -> Option<usize>
     requires { LeadsHome T.name_of comers.now places.now }
     ensures { MatchOption result (IsAbsent T.name_of name.now comers.now) (IsHome T.name_of name.now comers.now) }
@@ -60,7 +60,7 @@ pub fn place_in<T: HasName>(comers: &[Option<T>], places: &NameIndex, name: &Tok
 }
 
 impl<T: HasName> Crowd<T> {
-    /// Nobody is there.
+    /// Begins with nobody there.
     pub fn new(alloc: Global) -> Self
         ensures { result ≡ [] }
     {
@@ -71,19 +71,19 @@ impl<T: HasName> Crowd<T> {
         }
     }
 
-    /// Where its lists find memory.
+    /// Returns where its lists find memory.
     pub fn alloc(&self) -> Global {
         *self.comers.allocator()
     }
 
-    /// Whether nobody is there.
+    /// Returns whether nobody is there.
     pub fn is_empty(&self) -> bool
         ensures { result ≡ (length self.now == 0) }
     {
         self.count == 0
     }
 
-    /// The one of this name.
+    /// Returns the one of this name.
     pub fn get(&self, name: &Token) -> Option<&T>
         ensures { option_copied result ≡ find (is_named T.name_of name.now) self.now }
     {
@@ -91,7 +91,7 @@ impl<T: HasName> Crowd<T> {
         self.comers[place].as_ref()
     }
 
-    /// One comes. On an error nobody came: memory found none, or one of this name is there.
+    /// Adds one. On an error nobody came: memory found none, or one of this name is there.
     pub fn push(&mut self, comer: T) -> Result<(), AllocError>
         ensures came { OnOk result (self.new ≡ self.old ++ comer ∷ []) }
         ensures few { OnOk result (length self.new < 2 ^ 64) }
@@ -108,7 +108,7 @@ impl<T: HasName> Crowd<T> {
         Ok(())
     }
 
-    /// The one of this name leaves.
+    /// Removes the one of this name.
     pub fn remove(&mut self, name: &Token) -> Option<T>
         ensures who { result ≡ find (is_named T.name_of name.now) self.old }
         ensures others { self.new ≡ filter (λ t. not (is_named T.name_of name.now t)) self.old }
@@ -120,7 +120,7 @@ impl<T: HasName> Crowd<T> {
         self.comers[place].take()
     }
 
-    /// Those who are there.
+    /// Returns those who are there.
     pub fn into_items(self) -> Result<Vec<T>, AllocError>
         ensures { IfOk result (λ items. items.items ≡ self) }
     {
@@ -133,7 +133,7 @@ impl<T: HasName> Crowd<T> {
         Ok(items)
     }
 
-    /// Nobody is there any more.
+    /// Removes all who are there.
     pub fn clear(&mut self)
         ensures { self.new ≡ [] }
     {
@@ -173,7 +173,7 @@ fn forget_one(place: &mut Option<NamedGuard>) -> Option<u64>
 }
 
 impl Crowd<NamedGuard> {
-    /// The guard of this name is forgotten. Answers its slot, where it was not forgotten before.
+    /// Forgets the guard of this name. Answers its slot, where it was not forgotten before.
     pub fn forget(&mut self, name: &Token) -> Option<u64>
         ensures slot { result ≡ living_slot (guard_of name.now self.old) }
         ensures forgotten { self.new ≡ forgotten_if name.now self.old }

@@ -31,7 +31,7 @@ impl<E, O, N: CrewName> Model for DriverOf<E, O, N> {
 }
 
 impl<E, O, N: CrewName> DriverOf<E, O, N> {
-    /// The driver of this number, which has applied these events, and has this share of their count.
+    /// Returns the driver of this number, which has applied these events, and has this share of their count.
     pub fn of(number: u64, list: Vec<Applied<E, O>>, share: Share<N>) -> Self
         requires part { share.parts ≡ 1 }
         requires counted { share.amount ≡ vec_len list }
@@ -44,14 +44,14 @@ impl<E, O, N: CrewName> DriverOf<E, O, N> {
         }
     }
 
-    /// Its number.
+    /// Returns its number.
     pub fn number(&self) -> u64
         ensures { result ≡ self.now.number }
     {
         self.number
     }
 
-    /// The events that it applied, in order, each with what it came to.
+    /// Returns the events that it applied, in order, each with what it came to.
     pub fn list(&self) -> &[Applied<E, O>]
         ensures { result.now ≡ self.now.list }
     {
@@ -60,7 +60,7 @@ impl<E, O, N: CrewName> DriverOf<E, O, N> {
 }
 
 impl<E, O, N: CrewName> DriverOf<E, O, N> {
-    /// Its number, its list, and its share of the count.
+    /// Parts it into its number, its list, and its share of the count.
     pub fn into_parts(self) -> (u64, Vec<Applied<E, O>>, Share<N>)
         ensures number { result.0 ≡ self.number }
         ensures list { result.1.items ≡ self.list }

@@ -55,7 +55,7 @@ fn one_if(is_so: bool) -> usize
 }
 
 impl Holders {
-    /// Nobody is there.
+    /// Begins with nobody there.
     pub fn nobody(alloc: Global) -> Self
         ensures { result ≡ nobody }
     {
@@ -69,7 +69,7 @@ impl Holders {
         }
     }
 
-    /// The slot of the registration of this name.
+    /// Returns the slot of the registration of this name.
     pub fn slot_of_registration(&self, name: &Token) -> Option<u64>
         ensures { result ≡ option_map (λ r. r.slot) (registration_of name.now self.now.registrations) }
     {
@@ -79,14 +79,14 @@ impl Holders {
         }
     }
 
-    /// Whether a guard of this name is there.
+    /// Returns whether a guard of this name is there.
     pub fn has_guard(&self, name: &Token) -> bool
         ensures { result ≡ is_some (guard_of name.now self.now.guards) }
     {
         self.guards.get(name).is_some()
     }
 
-    /// The slot of the guard of this name, where it lives and was not forgotten.
+    /// Returns the slot of the guard of this name, where it lives and was not forgotten.
     pub fn slot_of_living(&self, name: &Token) -> Option<u64>
         ensures { result ≡ living_slot (guard_of name.now self.now.guards) }
     {
@@ -96,35 +96,35 @@ impl Holders {
         }
     }
 
-    /// Whether a registration has this slot.
+    /// Returns whether a registration has this slot.
     pub fn has_registration(&self, slot: u64) -> bool
         ensures { result ≡ has_registration slot self.now.registrations }
     {
         self.registered.of(slot) > 0
     }
 
-    /// How many guards are on a slot, forgotten ones too.
+    /// Returns how many guards are on a slot, forgotten ones too.
     pub fn guards_on(&self, slot: u64) -> usize
         ensures { result ≡ guards_on slot self.now.guards }
     {
         self.held.of(slot)
     }
 
-    /// How many guards on a slot were not forgotten.
+    /// Returns how many guards on a slot were not forgotten.
     pub fn living_on(&self, slot: u64) -> usize
         ensures { result ≡ living_on slot self.now.guards }
     {
         self.living.of(slot)
     }
 
-    /// Whether all registrations have ended, and each guard was forgotten.
+    /// Returns whether all registrations have ended, and each guard was forgotten.
     pub fn is_left(&self) -> bool
         ensures { result ≡ ((length self.now.registrations == 0) && all_forgotten self.now.guards) }
     {
         self.registrations.is_empty() && self.all_living == 0
     }
 
-    /// A registration gets this slot. On an error nobody came.
+    /// Gives a registration this slot. On an error nobody came.
     pub fn register(&mut self, name: Token, slot: u64) -> Result<(), AllocError>
         ensures { OnOk result (self.new ≡ registers name slot self.old) }
     {
@@ -134,7 +134,7 @@ impl Holders {
         Ok(())
     }
 
-    /// The registration of this name ends.
+    /// Ends the registration of this name.
     pub fn unregister(&mut self, name: &Token)
         ensures { self.new ≡ unregisters name.now self.old }
     {
@@ -144,7 +144,7 @@ impl Holders {
         }
     }
 
-    /// A guard on this slot is there. On an error nobody came.
+    /// Adds a guard on this slot. On an error nobody came.
     pub fn enter(&mut self, name: Token, slot: u64) -> Result<(), AllocError>
         ensures { OnOk result (self.new ≡ enters_slot name slot self.old) }
     {
@@ -162,7 +162,7 @@ impl Holders {
         Ok(())
     }
 
-    /// The guard of this name ends.
+    /// Ends the guard of this name.
     pub fn leave(&mut self, name: &Token)
         ensures { self.new ≡ drops name.now self.old }
     {
@@ -177,7 +177,7 @@ impl Holders {
         }
     }
 
-    /// The guard of this name is forgotten.
+    /// Forgets the guard of this name.
     pub fn forget(&mut self, name: &Token)
         ensures { self.new ≡ forgets name.now self.old }
     {
@@ -187,7 +187,7 @@ impl Holders {
         }
     }
 
-    /// Nobody is there any more.
+    /// Removes all who are there.
     pub fn clear(&mut self)
         ensures { self.new ≡ nobody }
     {

@@ -13,7 +13,7 @@ pub struct NameIndex {
 }
 
 impl NameIndex {
-    /// No name leads anywhere.
+    /// Begins where no name leads anywhere.
     pub fn new(alloc: Global) -> Self
         ensures { (name : List ℕ) → place_of name result ≡ None }
     {
@@ -22,7 +22,7 @@ impl NameIndex {
         }
     }
 
-    /// The place of this name.
+    /// Returns the place of this name.
     pub fn get(&self, name: &Token) -> Option<usize>
         ensures { result ≡ place_of name.now self.now }
     {
@@ -46,7 +46,7 @@ impl NameIndex {
         self.by_name.remove(name.as_bytes());
     }
 
-    /// No name leads anywhere any more.
+    /// Removes all names.
     pub fn clear(&mut self)
         ensures { (name : List ℕ) → place_of name self.new ≡ None }
     {

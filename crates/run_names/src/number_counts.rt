@@ -17,7 +17,7 @@ impl Model for NumberCounts {
 }
 
 impl NumberCounts {
-    /// There are none.
+    /// Begins with none.
     pub fn new(alloc: Global) -> Self
         ensures { (number : ℕ) → slice_index result number ≡ 0 }
     {
@@ -26,7 +26,7 @@ impl NumberCounts {
         }
     }
 
-    /// How many there are of a number.
+    /// Returns how many there are of a number.
     pub fn of(&self, number: u64) -> usize
         ensures { result ≡ slice_index self.now number }
     {
@@ -44,7 +44,7 @@ impl NumberCounts {
         Ok(())
     }
 
-    /// There is one more of this number.
+    /// Counts one more of this number.
     pub fn add(&mut self, number: u64)
         requires room { number < length self.old }
         requires few { slice_index self.old number + 1 < 2 ^ 64 }
@@ -54,7 +54,7 @@ impl NumberCounts {
         self.counts[number as usize] += 1;
     }
 
-    /// There are so many less of this number.
+    /// Counts so many less of this number.
     pub fn lessen(&mut self, number: u64, by: usize)
         requires { by ≤ slice_index self.old number }
         ensures { (other : ℕ) → (if number == other then by else 0) + slice_index self.new other ≡ slice_index self.old other }
@@ -64,7 +64,7 @@ impl NumberCounts {
         }
     }
 
-    /// There are none any more.
+    /// Counts none any more.
     pub fn clear(&mut self)
         ensures { (number : ℕ) → slice_index self.new number ≡ 0 }
     {

@@ -37,7 +37,7 @@ fn reach(places: &mut Vec<Option<usize>>, number: usize) -> Result<(), AllocErro
 }
 
 impl<K, V> PairList<K, V> {
-    /// No pair.
+    /// Makes a list of no pair.
     pub fn new(alloc: Global) -> Self
         ensures { result ≡ [] }
     {
@@ -47,21 +47,21 @@ impl<K, V> PairList<K, V> {
         }
     }
 
-    /// The pairs, in their order.
+    /// Returns the pairs, in their order.
     pub fn as_slice(&self) -> &[Pair<K, V>]
         ensures { result.now ≡ self.now }
     {
         self.pairs.as_slice()
     }
 
-    /// How many pairs there are.
+    /// Returns how many pairs there are.
     pub fn len(&self) -> usize
         ensures { result ≡ length self.now }
     {
         self.pairs.len()
     }
 
-    /// The first pair of this number.
+    /// Returns the first pair of this number.
     pub fn find(&self, number: u64) -> Option<&Pair<K, V>>
         ensures { option_copied result ≡ find (λ p. p.number == number) self.now }
     {
@@ -88,7 +88,7 @@ impl<K: Drop, V: Drop> PairList<K, V> {
         Ok(())
     }
 
-    /// The list of these pairs.
+    /// Returns the list of these pairs.
     pub fn of(alloc: Global, pairs: Vec<Pair<K, V>>) -> Result<Self, AllocError>
         ensures { IfOk result (λ list. list ≡ pairs.items) }
     {

@@ -20,7 +20,7 @@ impl Token {
     ghost use Rattle.std.specs.Prelude.{◌≡◌, ◌↔◌, IfOk, IsTrue};
     ghost use Rattle.run_schedules.specs.Runs.Same.{is_same};
 
-    /// A copy of these bytes.
+    /// Makes a copy of these bytes.
     pub fn copy_of(alloc: Global, bytes: &[u8]) -> Result<Self, AllocError>
         ensures { IfOk result (λ word. word ≡ bytes.now) }
     {
@@ -29,14 +29,14 @@ impl Token {
         })
     }
 
-    /// Its bytes.
+    /// Returns its bytes.
     pub fn as_bytes(&self) -> &[u8]
         ensures { result.now ≡ self.now }
     {
         self.bytes.as_slice()
     }
 
-    /// Whether the two have the same bytes.
+    /// Returns whether the two have the same bytes.
     pub fn is(&self, other: &Token) -> bool
         ensures same { result ≡ is_same self.now other.now }
         ensures words { IsTrue result ↔ (self.now ≡ other.now) }

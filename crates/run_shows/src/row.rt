@@ -116,7 +116,7 @@ fn taken_as(stands: Registering) -> SlotUse
 }
 
 impl SlotRow {
-    /// What it makes of a slot by its next step.
+    /// Returns what it makes of a slot by its next step.
     pub fn change(&self) -> SlotChange
         ensures { result ≡ change_of self.now }
     {
@@ -140,7 +140,7 @@ impl SlotRow {
 }
 
 impl SlotCall {
-    /// The row that begins, on this slot.
+    /// Begins the row, on this slot.
     pub fn begin(self, slot: u64, batch_size: u64) -> SlotRow
         ensures { result ≡ begun_row slot batch_size self }
     {
@@ -157,7 +157,7 @@ impl SlotCall {
 }
 
 impl<T> RowTold<T> {
-    /// What a registering tells.
+    /// Returns what a registering tells.
     pub fn of_registering(progress: Advance<u64>) -> Self
         ensures { result ≡ of_registering progress }
     {
@@ -169,7 +169,7 @@ impl<T> RowTold<T> {
         }
     }
 
-    /// What a row of one store tells.
+    /// Returns what a row of one store tells.
     pub fn of_storing(progress: Advance<()>) -> Self
         ensures { result ≡ of_storing progress }
     {
@@ -181,7 +181,7 @@ impl<T> RowTold<T> {
         }
     }
 
-    /// What a leaving or a flush tells.
+    /// Returns what a leaving or a flush tells.
     pub fn of_settling(progress: Settled<T>) -> Self
         ensures { result ≡ of_settling progress }
     {

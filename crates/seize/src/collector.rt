@@ -27,8 +27,8 @@ impl Model for Collector {
 }
 
 impl Collector {
-    /// A collector for 1 to 2^63 processors, with 1 to 65,536 root links. Its batches are first tried when they are as long
-    /// as the greater of 32 and the processors. The only fault is `Fault::CollectorsUsedUp`, where the source has no number left.
+    /// Makes a collector for 1 to 2^63 processors, with 1 to 65,536 root links. Its batches are first tried when they are as long as the greater of 32 and the
+    /// processors. The only fault is `Fault::CollectorsUsedUp`, where the source has no number left.
     pub fn new(ids: &mut IdSource, processors: u64, roots: u64) -> Result<Self, Fault>
         requires some_processors { 1 ≤ processors }
         requires processors { processors ≤ 2 ^ 63 }
@@ -46,7 +46,7 @@ impl Collector {
         })
     }
 
-    /// The collector with another batch size, which is used as it is; 0 acts as 1.
+    /// Returns the collector with another batch size, which is used as it is; 0 acts as 1.
     pub fn batch_size(self, size: u64) -> Self
         ensures { result ≡ record self { batch_size = size } }
     {
@@ -56,35 +56,35 @@ impl Collector {
         }
     }
 
-    /// Its number, which no other collector of its source has.
+    /// Returns its number, which no other collector of its source has.
     pub fn number(&self) -> u64
         ensures { result ≡ self.now.number }
     {
         self.number
     }
 
-    /// How long a batch is when it is first tried.
+    /// Returns how long a batch is when it is first tried.
     pub fn size_of_batches(&self) -> u64
         ensures { result ≡ self.now.batch_size }
     {
         self.batch_size
     }
 
-    /// The processors that it was made for.
+    /// Returns the processors that it was made for.
     pub fn processors(&self) -> u64
         ensures { result ≡ self.now.processors }
     {
         self.processors
     }
 
-    /// How many root links it has.
+    /// Returns how many root links it has.
     pub fn roots(&self) -> u64
         ensures { result ≡ self.now.roots }
     {
         self.roots
     }
 
-    /// The name of a root's word; `None` from the number of roots on.
+    /// Returns the name of a root's word; `None` from the number of roots on.
     pub fn root(&self, root: u64) -> Option<At>
         ensures { result ≡ root_of self.now root }
     {

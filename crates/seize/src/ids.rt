@@ -20,14 +20,14 @@ impl Model for IdSource {
 }
 
 impl IdSource {
-    /// A source that gives 1, 2, and so on.
+    /// Makes a source that gives 1, 2, and so on.
     pub fn new() -> Self
         ensures { result ≡ 1 }
     {
         IdSource { upcoming: 1 }
     }
 
-    /// A source that gives this number, the one after it, and so on.
+    /// Makes a source that gives this number, the one after it, and so on.
     pub fn starting_at(first: u64) -> Self
         requires some { 1 ≤ first }
         requires within { first ≤ 2 ^ 64 - 2 }
@@ -36,7 +36,7 @@ impl IdSource {
         IdSource { upcoming: first }
     }
 
-    /// The next number. After 2^64 - 2 it is refused as `Fault::CollectorsUsedUp`, and nothing changes.
+    /// Returns the next number. After 2^64 - 2 it is refused as `Fault::CollectorsUsedUp`, and nothing changes.
     pub fn next(&mut self) -> Result<u64, Fault>
         ensures answer { result ≡ given self.old }
         ensures after { self.new ≡ following self.old }

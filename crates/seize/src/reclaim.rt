@@ -27,14 +27,14 @@ pub enum Reclaim {
     InPlace,
 }
 
-/// The value is dropped with its block.
+/// Drops the value with its block.
 pub fn boxed() -> Reclaim
     ensures { result ≡ Reclaim.Boxed }
 {
     Reclaim::Boxed
 }
 
-/// The value is dropped where it lies, and then its block is freed.
+/// Drops the value where it lies, and then frees its block.
 pub fn in_place() -> Reclaim
     ensures { result ≡ Reclaim.InPlace }
 {

@@ -11,7 +11,7 @@ use crate::words::StripWords;
 use std::marker::PhantomData;
 
 impl<T, R: Rule<T>> StripWords<T, R> {
-    /// A seat goes on an errand: as long as that runs nobody has the memory to himself.
+    /// Sends a seat on an errand: as long as that runs nobody has the memory to himself.
     pub fn errand<E: Task<T, R>>(&self, seat: &mut Seat<T, R>, errand: E) -> E::Answer
         requires { (seat.old.base ≡ self.now.id.views_name) × (seat.old.away ≡ None) × E.asks errand seat.old.base seat.old.view
             × ((answer : E.Answer) (w : R.View) → E.did errand seat.old.view answer w → R.rests w) }
@@ -30,7 +30,7 @@ impl<T, R: Rule<T>> StripWords<T, R> {
         errand.run(seat)
     }
 
-    /// A seat goes on an errand for which another one is lent: as long as that runs the other one takes no step.
+    /// Sends a seat on an errand for which another one is lent: as long as that runs the other one takes no step.
     pub fn errand_with<E: Charge<T, R>>(
         &self,
         seat: &mut Seat<T, R>,
@@ -55,7 +55,7 @@ impl<T, R: Rule<T>> StripWords<T, R> {
         errand.run(seat)
     }
 
-    /// All seats end, and the memory is under another rule from then on, with one seat, which has just come.
+    /// Ends all seats, and puts the memory under another rule from then on, with one seat, which has just come.
     pub fn alone<S: Rule<T>>(self, fixed: &S::Fixed) -> (StripWords<T, S>, Seat<T, S>)
         requires { RenewsTo R.rests (R.holds self.fixed) (S.holds fixed.now) (S.newcomer fixed.now ∷ []) }
         ensures { (result.0.words ≡ self.words) × (result.0.fixed ≡ fixed.now) × IsLike result.0.id self.id
@@ -74,7 +74,7 @@ impl<T, R: Rule<T>> StripWords<T, R> {
         )
     }
 
-    /// All seats end, where it is known what this one knows, and the memory is under another rule from then on, with no seat.
+    /// Ends all seats, where it is known what this one knows, and puts the memory under another rule from then on, with no seat.
     pub fn used<S: Rule<T>>(self, seat: &mut Seat<T, R>, fixed: &S::Fixed) -> StripWords<T, S>
         requires { (seat.old.base ≡ self.id.views_name) × RenewsFrom R.rests (R.holds self.fixed) (S.holds fixed.now) seat.old.id seat.old.view }
         ensures { (result.words ≡ self.words) × (result.fixed ≡ fixed.now) × IsLike result.id self.id
@@ -87,7 +87,7 @@ impl<T, R: Rule<T>> StripWords<T, R> {
         }
     }
 
-    /// All seats end.
+    /// Ends all seats.
     pub fn renew(&mut self)
         requires { RenewsIdle R.rests (R.holds self.old.fixed) }
         ensures { (self.new.words ≡ self.old.words) × (self.new.fixed ≡ self.old.fixed) × IsLike self.new.id self.old.id

@@ -15,8 +15,8 @@ use crate::words::StripWords;
 use seize_seats::Kept;
 
 impl<T, R: Rule<T>> StripWords<T, R> {
-    /// Where what is kept of a block lies, for as long as the words and both seats are borrowed. The index is that of its number in the strip, if there is such
-    /// a block.
+    /// Returns where what is kept of a block lies, for as long as the words and both seats are borrowed. The index is that of its number in the strip, if there
+    /// is such a block.
     pub fn value<'g>(
         &'g self,
         strip: &Strip<T>,
@@ -36,8 +36,8 @@ impl<T, R: Rule<T>> StripWords<T, R> {
         unsafe { &*values.add(index as usize) }
     }
 
-    /// Where what is kept of a block lies, for as long as the words and two seats are borrowed, by what a third seat knows now, which may step meanwhile. The index
-    /// is that of its number in the strip, if there is such a block.
+    /// Returns where what is kept of a block lies, for as long as the words and two seats are borrowed, by what a third seat knows now, which may step
+    /// meanwhile. The index is that of its number in the strip, if there is such a block.
     pub fn value_by<'g>(
         &'g self,
         strip: &Strip<T>,

@@ -85,7 +85,8 @@ impl<T, R: Rule<T>> StripWords<T, R> {
         )
     }
 
-    /// The strip by which these words are had, with the bucket behind a door, and where its words lie: a bucket of a slot of which the seat's view shows a word.
+    /// Returns the strip by which these words are had, with the bucket behind a door, and where its words lie: a bucket of a slot of which the seat's view
+    /// shows a word.
     pub fn find_room(
         &self,
         seat: &Seat<T, R>,

@@ -48,7 +48,7 @@ impl<T, R: Rule<T>> Model for StripWords<T, R> {
 }
 
 impl<T, R: Rule<T>> StripWords<T, R> {
-    /// The words, each 0, of so many roots go under the rule, with places for so many values, each of them empty. There are `most` numbers at most.
+    /// Puts the words, each 0, of so many roots under the rule, with places for so many values, each of them empty. There are `most` numbers at most.
     pub fn open(
         row: Row<u64>,
         values: Row<Option<Kept<T>>>,
@@ -80,7 +80,8 @@ impl<T, R: Rule<T>> StripWords<T, R> {
         )
     }
 
-    /// The words, the values and the doors come back from under the rule, all further strips, the own words of blocks, and the words of further buckets of slots.
+    /// Returns the words, the values and the doors come back from under the rule, all further strips, the own words of blocks, and the words of further buckets
+    /// of slots.
     pub fn close(
         self,
         values: *mut Option<Kept<T>>,
@@ -117,7 +118,7 @@ impl<T, R: Rule<T>> StripWords<T, R> {
         )
     }
 
-    /// A seat more.
+    /// Makes a seat more.
     pub fn seat(&self) -> Seat<T, R>
         requires { Comes (R.holds self.now.fixed) R.keeps (R.newcomer self.now.fixed) }
         ensures { (result.base ≡ self.now.id.views_name) × (result.view ≡ R.newcomer self.now.fixed) × (result.away ≡ None) }
@@ -127,7 +128,7 @@ impl<T, R: Rule<T>> StripWords<T, R> {
         }
     }
 
-    /// A step without an operation.
+    /// Takes a step without an operation.
     pub fn turn<M: Turn<R::Fixed, R::View>>(&self, seat: &mut Seat<T, R>)
         requires { (seat.old.base ≡ self.now.id.views_name)
             × Turns (R.holds self.now.fixed) R.keeps seat.old.id seat.old.view (M.to self.now.fixed seat.old.view)
@@ -136,7 +137,7 @@ impl<T, R: Rule<T>> StripWords<T, R> {
         ensures { (seat.new.base ≡ seat.old.base) × (seat.new.id ≡ seat.old.id) × (seat.new.away ≡ seat.old.away) × M.to self.now.fixed seat.old.view seat.new.view }
     {}
 
-    /// A step without an operation, of a seat on which nobody leans.
+    /// Takes a step without an operation, of a seat on which nobody leans.
     pub fn part<M: Turn<R::Fixed, R::View>>(&self, seat: &mut Seat<T, R>)
         requires { (seat.old.base ≡ self.now.id.views_name)
             × TurnsUnlent (R.holds self.now.fixed) R.keeps R.leans seat.old.id seat.old.view (M.to self.now.fixed seat.old.view)
@@ -145,7 +146,7 @@ impl<T, R: Rule<T>> StripWords<T, R> {
         ensures { (seat.new.base ≡ seat.old.base) × (seat.new.id ≡ seat.old.id) × (seat.new.away ≡ seat.old.away) × M.to self.now.fixed seat.old.view seat.new.view }
     {}
 
-    /// A seat comes to know something else, by what another one knows.
+    /// Lets a seat come to know something else, by what another one knows.
     pub fn learn<M: Lesson<R::Fixed, R::View>>(&self, seat: &mut Seat<T, R>, other: &Seat<T, R>)
         requires { (seat.old.base ≡ self.now.id.views_name) × (other.now.base ≡ self.now.id.views_name)
             × Learns (R.holds self.now.fixed) R.keeps seat.old.id seat.old.view other.now.id other.now.view
@@ -156,7 +157,7 @@ impl<T, R: Rule<T>> StripWords<T, R> {
             × M.to self.now.fixed seat.old.view other.now.id other.now.view seat.new.view }
     {}
 
-    /// Two seats come to know something else, by what both knew.
+    /// Lets two seats come to know something else, by what both knew.
     pub fn meet<M: Meeting<R::Fixed, R::View>>(&self, one: &mut Seat<T, R>, other: &mut Seat<T, R>)
         requires { (one.old.base ≡ self.now.id.views_name) × (other.old.base ≡ self.now.id.views_name)
             × Meets (R.holds self.now.fixed) one.old.id one.old.view other.old.id other.old.view (M.to self.now.fixed one.old.view other.old.view)
@@ -167,7 +168,7 @@ impl<T, R: Rule<T>> StripWords<T, R> {
             × M.to self.now.fixed one.old.view other.old.view one.new.view other.new.view }
     {}
 
-    /// The strip by which these words are had.
+    /// Returns the strip by which these words are had.
     pub fn strip(&self) -> Strip<T>
         ensures { (result.words ≡ self.now.words) × (result.id ≡ self.now.id) × InBlock result.words }
     {
@@ -177,7 +178,7 @@ impl<T, R: Rule<T>> StripWords<T, R> {
         }
     }
 
-    /// The strip behind a door, or no address where the door is null.
+    /// Returns the strip behind a door, or no address where the door is null.
     pub fn look(&self, doors: *mut *mut u64, index: u64) -> Strip<T>
         requires { (doors ≡ self.now.id.doors) × (index < 32) }
         ensures { (core_of result.id ≡ core_of self.now.id) × (result.id.skip ≡ before (KeptOf T.row) result.id.size)
@@ -234,7 +235,7 @@ impl<T, R: Rule<T>> StripWords<T, R> {
         )
     }
 
-    /// The strip behind a door, that of a block which the views of three seats show together. These are the words of the first strip.
+    /// Returns the strip behind a door, that of a block which the views of three seats show together. These are the words of the first strip.
     pub fn find(
         &self,
         pass: &Seat<T, R>,
@@ -260,7 +261,7 @@ impl<T, R: Rule<T>> StripWords<T, R> {
         }
     }
 
-    /// The words of a strip of the same memory, for as long as both are borrowed. A strip is laid out as they are: both are one address.
+    /// Returns the words of a strip of the same memory, for as long as both are borrowed. A strip is laid out as they are: both are one address.
     pub fn by<'g>(&'g self, strip: &'g Strip<T>) -> &'g StripWords<T, R>
         requires { (core_of strip.now.id ≡ core_of self.now.id) × InBlock strip.now.words }
         ensures { (result.now.words ≡ strip.now.words) × (result.now.id ≡ strip.now.id) × (result.now.fixed ≡ self.now.fixed)
@@ -366,14 +367,14 @@ impl<T, R: Rule<T>> StripWords<T, R> {
         }
     }
 
-    /// A seat whose view shows a block begins to visit it: it knows where its own words lie, and how many they are, until its next step.
+    /// Begins a visit of a seat to a block that its view shows: it knows where its own words lie, and how many they are, until its next step.
     pub fn visit(&self, seat: &mut Seat<T, R>, _block: u64)
         requires { (seat.old.base ≡ self.now.id.views_name) × Shown (R.holds self.now.fixed) seat.old.id seat.old.view _block }
         ensures { (seat.new.base ≡ seat.old.base) × (seat.new.id ≡ seat.old.id) × (seat.new.away ≡ seat.old.away)
             × (seat.new.view ≡ seat.old.view) × ((spot : Spot) × (seat.new.visit.spot ≡ Some (_block, spot))) }
     {}
 
-    /// A block is refused, and its value stays with its maker.
+    /// Refuses a block: its value stays with its maker.
     pub fn refuse(&self, seat: &mut Seat<T, R>, value: &T, words: u64)
         requires { (seat.old.base ≡ self.now.id.views_name)
             × Allows (R.holds self.now.fixed) R.keeps seat.old.id seat.old.view (Make value.now words) (R.then seat.old.view (Make value.now words)) }

@@ -33,7 +33,7 @@ pub struct Blocks<T, R: Rule<T>> {
 }
 
 impl<T, R: Rule<T>> Blocks<T, R> {
-    /// A seat more.
+    /// Makes a seat more.
     pub fn seat(&self) -> Seat<T, R>
         requires { Comes (R.holds self.now.words.fixed) R.keeps (R.newcomer self.now.words.fixed) }
         ensures { (result.base ≡ self.now.words.id.views_name) × (result.view ≡ R.newcomer self.now.words.fixed) × (result.away ≡ None) }
@@ -41,7 +41,7 @@ impl<T, R: Rule<T>> Blocks<T, R> {
         self.words.seat()
     }
 
-    /// A step without an operation.
+    /// Takes a step without an operation.
     pub fn turn<M: Turn<R::Fixed, R::View>>(&self, seat: &mut Seat<T, R>)
         requires own { seat.old.base ≡ self.now.words.id.views_name }
         requires may { Turns (R.holds self.now.words.fixed) R.keeps seat.old.id seat.old.view (M.to self.now.words.fixed seat.old.view) }
@@ -54,7 +54,7 @@ impl<T, R: Rule<T>> Blocks<T, R> {
         self.words.turn::<M>(seat)
     }
 
-    /// A step without an operation, of a seat on which nobody leans.
+    /// Takes a step without an operation, of a seat on which nobody leans.
     pub fn part<M: Turn<R::Fixed, R::View>>(&self, seat: &mut Seat<T, R>)
         requires own { seat.old.base ≡ self.now.words.id.views_name }
         requires may { TurnsUnlent (R.holds self.now.words.fixed) R.keeps R.leans seat.old.id seat.old.view (M.to self.now.words.fixed seat.old.view) }
@@ -67,7 +67,7 @@ impl<T, R: Rule<T>> Blocks<T, R> {
         self.words.part::<M>(seat)
     }
 
-    /// A seat comes to know something else, by what another one knows.
+    /// Lets a seat come to know something else, by what another one knows.
     pub fn learn<M: Lesson<R::Fixed, R::View>>(&self, seat: &mut Seat<T, R>, other: &Seat<T, R>)
         requires own { (seat.old.base ≡ self.now.words.id.views_name) × (other.now.base ≡ self.now.words.id.views_name) }
         requires may { Learns (R.holds self.now.words.fixed) R.keeps seat.old.id seat.old.view other.now.id other.now.view
@@ -81,7 +81,7 @@ impl<T, R: Rule<T>> Blocks<T, R> {
         self.words.learn::<M>(seat, other)
     }
 
-    /// A seat goes on an errand: a course of steps, in the midst of which nobody has the memory to himself. It ends where the seat rests.
+    /// Sends a seat on an errand: a course of steps, in the midst of which nobody has the memory to himself. It ends where the seat rests.
     pub fn errand<E: Errand<T, R>>(&self, seat: &mut Seat<T, R>, errand: E) -> E::Answer
         requires own { seat.old.base ≡ self.now.words.id.views_name }
         requires home { seat.old.away ≡ None }
@@ -100,8 +100,8 @@ impl<T, R: Rule<T>> Blocks<T, R> {
         )
     }
 
-    /// A seat goes on an errand for which another one is lent: as long as that runs the other one takes no step, and what is lent by it stays. It ends where the
-    /// seat rests.
+    /// Sends a seat on an errand for which another one is lent: as long as that runs the other one takes no step, and what is lent by it stays. It ends where
+    /// the seat rests.
     pub fn errand_with<E: ErrandWith<T, R>>(
         &self,
         seat: &mut Seat<T, R>,
@@ -126,7 +126,7 @@ impl<T, R: Rule<T>> Blocks<T, R> {
         )
     }
 
-    /// Two seats come to know something else, by what both knew.
+    /// Lets two seats come to know something else, by what both knew.
     pub fn meet<M: Meeting<R::Fixed, R::View>>(&self, one: &mut Seat<T, R>, other: &mut Seat<T, R>)
         requires own { (one.old.base ≡ self.now.words.id.views_name) × (other.old.base ≡ self.now.words.id.views_name) }
         requires may { Meets (R.holds self.now.words.fixed) one.old.id one.old.view other.old.id other.old.view
@@ -140,7 +140,7 @@ impl<T, R: Rule<T>> Blocks<T, R> {
         self.words.meet::<M>(one, other)
     }
 
-    /// All seats end, and what was lent is back. Words and blocks stay as they are.
+    /// Ends all seats: what was lent is back. Words and blocks stay as they are.
     pub fn renew(&mut self)
         requires ends { RenewsIdle R.rests (R.holds self.old.words.fixed) }
         ensures same { (self.new.words.words ≡ self.old.words.words) × (self.new.words.fixed ≡ self.old.words.fixed) }
@@ -152,7 +152,7 @@ impl<T, R: Rule<T>> Blocks<T, R> {
         self.words.renew()
     }
 
-    /// The word of a name.
+    /// Returns the word of a name.
     #[inline(always)]
     pub fn load(&self, seat: &mut Seat<T, R>, at: At) -> u64
         requires own { seat.old.base ≡ self.now.words.id.views_name }
@@ -224,7 +224,7 @@ impl<T, R: Rule<T>> Blocks<T, R> {
         self.access(seat, at, Exchanges { old, new })
     }
 
-    /// Where somebody who has this slot begins to look for numbers, so that those of different slots are apart.
+    /// Returns where somebody who has this slot begins to look for numbers, so that those of different slots are apart.
     pub fn beginning(&self, slot: u64) -> u64 {
         (self.count / 32).wrapping_mul(slot)
     }
@@ -337,7 +337,7 @@ impl<T, R: Rule<T>> Blocks<T, R> {
         }
     }
 
-    /// The value of a block that the seat's view shows, for as long as the memory and the seat are borrowed.
+    /// Returns the value of a block that the seat's view shows, for as long as the memory and the seat are borrowed.
     #[inline(always)]
     pub fn value<'g>(&'g self, seat: &'g Seat<T, R>, block: u64) -> &'g T
         requires own { seat.now.base ≡ self.now.words.id.views_name }
@@ -347,8 +347,8 @@ impl<T, R: Rule<T>> Blocks<T, R> {
         self.value_for(seat, seat, block)
     }
 
-    /// The value of a block that the views of two seats show together, as that of a guard that holds it and that of who it belongs to, for as long as the
-    /// memory and both seats are borrowed.
+    /// Returns the value of a block that the views of two seats show together, as that of a guard that holds it and that of who it belongs to, for as long as
+    /// the memory and both seats are borrowed.
     #[inline(always)]
     pub fn value_for<'g>(
         &'g self,
@@ -370,8 +370,8 @@ impl<T, R: Rule<T>> Blocks<T, R> {
         }
     }
 
-    /// The value of a block that two seats keep, as what a third one knows now shows, for as long as the memory and these two are borrowed. The third one may
-    /// step meanwhile: what others keep stays kept.
+    /// Returns the value of a block that two seats keep, as what a third one knows now shows, for as long as the memory and these two are borrowed. The third
+    /// one may step meanwhile: what others keep stays kept.
     #[inline(always)]
     pub fn value_by<'g>(
         &'g self,

@@ -30,7 +30,7 @@ pub struct Home<T: Drop, R: Rule<T>> {
 }
 
 impl<T: Drop, R: Rule<T>> Home<T, R> {
-    /// A memory of so many roots, with no seat yet, and numbers for so many blocks at first, at least one. The slots have no words yet.
+    /// Makes a memory of so many roots, with no seat yet, and numbers for so many blocks at first, at least one. The slots have no words yet.
     pub fn open(alloc: Global, roots: u64, count: u64, fixed: &R::Fixed) -> Result<Self, AllocError>
         requires few { (roots ≤ 65536) × (count ≤ 2 ^ 32) }
         requires starts { Starts (R.holds fixed.now) roots }
@@ -74,7 +74,7 @@ impl<T: Drop, R: Rule<T>> Home<T, R> {
         }
     }
 
-    /// All seats end, and what was lent is back. The memory is under another rule from then on, with one seat, which has just come.
+    /// Ends all seats: what was lent is back. The memory is under another rule from then on, with one seat, which has just come.
     pub fn alone<S: Rule<T>>(self, fixed: &S::Fixed) -> (Home<T, S>, Seat<T, S>)
         requires ends { RenewsTo R.rests (R.holds self.blocks.words.fixed) (S.holds fixed.now) (S.newcomer fixed.now ∷ []) }
         ensures fixed { result.0.blocks.words.fixed ≡ fixed.now }
@@ -100,7 +100,7 @@ impl<T: Drop, R: Rule<T>> Home<T, R> {
         )
     }
 
-    /// All seats end, and what was lent is back, where it is known what this seat knows. The memory is under another rule from then on, with no seat.
+    /// Ends all seats, where it is known what this seat knows: what was lent is back. The memory is under another rule from then on, with no seat.
     pub fn used<S: Rule<T>>(self, seat: Seat<T, R>, fixed: &S::Fixed) -> Home<T, S>
         requires own { seat.base ≡ self.blocks.words.id.views_name }
         requires ends { RenewsFrom R.rests (R.holds self.blocks.words.fixed) (S.holds fixed.now) seat.id seat.view }

@@ -36,7 +36,7 @@ pub struct Caller<'a, T: Defers, C: Content<T> = OfRows> {
 }
 
 impl<'a, T: Defers, C: Content<T>> Caller<'a, T, C> {
-    /// One more of them, who holds no slot. The size of batches is the one that was chosen as the memory was opened.
+    /// Makes one more of them, who holds no slot. The size of batches is the one that was chosen as the memory was opened.
     pub fn new(blocks: &'a Blocks<T, C>, batch_size: u64) -> Self
         requires { blocks.now.words.fixed.batch_size ≡ batch_size }
         ensures rests { (C.notes result.seat.view).knows ≡ Rests }
@@ -54,14 +54,14 @@ impl<'a, T: Defers, C: Content<T>> Caller<'a, T, C> {
         }
     }
 
-    /// The memory.
+    /// Returns the memory.
     pub fn blocks(&self) -> &'a Blocks<T, C>
         ensures { result.now ≡ self.now.blocks.now }
     {
         self.blocks
     }
 
-    /// The size of batches.
+    /// Returns the size of batches.
     pub fn batch_size(&self) -> u64
         ensures { result ≡ self.now.blocks.now.words.fixed.batch_size }
     {
@@ -177,7 +177,7 @@ pub(crate) fn words_for<T: Defers>(value: &T) -> Option<u64>
     }
 }
 
-/// The block that a word of a root names.
+/// Returns the block that a word of a root names.
 pub fn named(word: u64) -> Option<u64>
     ensures some { IfSome result (λ block. (block ≡ block_in word) × (block < 2 ^ 53) × (block ≢ 0)) }
     ensures none { IfNone result (block_in word ≡ 0) }

@@ -35,8 +35,8 @@ pub struct Collector<T: Defers + Drop, C: Content<T> = OfRows, R: Receiver<T> = 
 }
 
 impl<T: Defers + Drop> Collector<T> {
-    /// A collector of values at roots, for 1 to 2^63 processors, with 1 to 65,536 roots. Its batches are first tried when they are as long as the greater of 32
-    /// and the processors. After `Fault::CollectorsUsedUp` the source is as it was; after `Fault::Memory` its number is spent.
+    /// Makes a collector of values at roots, for 1 to 2^63 processors, with 1 to 65,536 roots. Its batches are first tried when they are as long as the greater
+    /// of 32 and the processors. After `Fault::CollectorsUsedUp` the source is as it was; after `Fault::Memory` its number is spent.
     pub fn new(
         alloc: Global,
         ids: &mut IdSource,
@@ -74,8 +74,8 @@ impl<T: Defers + Drop, R: Receiver<T>> Collector<T, OfRows, R> {
         })
     }
 
-    /// The collector with another batch size, which is used as it is; 0 acts as 1. Its memory begins anew, so what stood there is dropped. After `Fault::Memory` there is
-    /// no collector, and its number is spent.
+    /// Returns the collector with another batch size, which is used as it is; 0 acts as 1. Its memory begins anew, so what stood there is dropped. After
+    /// `Fault::Memory` there is no collector, and its number is spent.
     pub fn batch_size(self, alloc: Global, size: u64) -> Result<Self, Fault>
         ensures sized { IfOk result (λ c. c.setting ≡ record self.setting { batch_size = size }) }
         ensures refused { IfErr result (λ fault. fault ≡ Memory) }
@@ -101,21 +101,21 @@ impl<T: Defers + Drop, C: Content<T>, R: Receiver<T>> Collector<T, C, R> {
         }
     }
 
-    /// Its number, which no other collector of its source has.
+    /// Returns its number, which no other collector of its source has.
     pub fn number(&self) -> u64
         ensures { result ≡ self.now.setting.number }
     {
         self.setting.number()
     }
 
-    /// The name of a root's word; `None` from the number of roots on.
+    /// Returns the name of a root's word; `None` from the number of roots on.
     pub fn root(&self, root: u64) -> Option<At>
         ensures { result ≡ root_of self.now.setting root }
     {
         self.setting.root(root)
     }
 
-    /// The same collector, for those who share it: it may go to other threads.
+    /// Returns the same collector, for those who share it: it may go to other threads.
     pub fn shared(&self) -> Shared<'_, T, C, R>
         ensures home { result.blocks.now ≡ self.now.home.blocks }
         ensures number { result.number ≡ self.now.setting.number }

@@ -8,7 +8,7 @@ use crate::row::Row;
 use std::alloc::Global;
 use std::ptr::null_mut;
 
-/// So many words, each 0, where there is memory for them: at null where they are none.
+/// Lays so many words, each 0, where there is memory for them: at null where they are none.
 pub fn lay_words(alloc: &Global, count: u64) -> Option<Laid>
     ensures lies { IfSome result (λ l. (l.piece.at ≡ l.at) × (l.piece.count ≡ count)) }
     ensures beside { IfSome result (λ l. AreBeside l.at count) }

@@ -35,7 +35,7 @@ fn drop_first<T: Drop>(alloc: &Global, kept: Option<Kept<T>>, pieces: Pieces) ->
     others
 }
 
-/// What each place holds is dropped, and the words that lie beside it are given back.
+/// Drops what each place holds, and gives back the words that lie beside it.
 pub fn drain<T: Drop>(
     alloc: &Global,
     slots: &mut Slots<Option<Kept<T>>>,

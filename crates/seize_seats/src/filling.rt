@@ -6,7 +6,7 @@ ghost use Rattle.core.specs.Mem.Slots.{slots_items, slots_ptr, slots_len, IsFull
 use core::slots::Slots;
 use std::ptr::null_mut;
 
-/// Each place holds 0.
+/// Writes 0 into each place.
 pub fn fill(slots: &mut Slots<u64>, count: usize)
     requires { slots_len slots.old ≡ count }
     ensures full { IsFull slots.new }
@@ -18,7 +18,7 @@ pub fn fill(slots: &mut Slots<u64>, count: usize)
     }
 }
 
-/// Each place holds none.
+/// Makes each place hold none.
 pub fn empty<T>(slots: &mut Slots<Option<T>>, count: usize)
     requires { slots_len slots.old ≡ count }
     ensures full { IsFull slots.new }

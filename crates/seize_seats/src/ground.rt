@@ -17,7 +17,7 @@ pub struct Ground<E> {
     pub ghost leased: { lease_heap lease ≡ alloc },
 }
 
-/// As many words, each 0, with the right to give them back.
+/// Lays as many words, each 0, with the right to give them back.
 pub fn lay(alloc: Global, count: usize) -> Result<(Row<u64>, Ground<u64>), AllocError>
     ensures zeros { IfOk result (λ p. ((k : ℕ) → slice_index p.0.items k ≡ 0) × (length p.0.items ≡ count)) }
     ensures full { IfOk result (λ p. Filled p.0.filled 0 (length p.0.items)) }
@@ -40,7 +40,7 @@ fn nones<T: Drop>(alloc: Global, count: usize) -> Result<Vec<Option<T>>, AllocEr
     Ok(all)
 }
 
-/// As many places, each of which holds none, with the right to give them back.
+/// Lays as many places, each of which holds none, with the right to give them back.
 pub fn lay_empty<T: Drop>(
     alloc: Global,
     count: usize,
@@ -66,7 +66,7 @@ fn no_addresses(alloc: Global, count: usize) -> Result<Vec<*mut u64>, AllocError
     Ok(all)
 }
 
-/// Doors, each of them null, with the right to give them back.
+/// Lays doors, each of them null, with the right to give them back.
 pub fn lay_doors(
     alloc: Global,
     count: usize,

@@ -39,7 +39,7 @@ pub struct Laid {
     pub piece: Piece,
 }
 
-/// Room for so many words, at least one.
+/// Reserves room for so many words, at least one.
 pub fn reserve_words<A: Allocator>(
     alloc: &A,
     _count: usize,
@@ -62,7 +62,7 @@ pub fn reserve_words<A: Allocator>(
     }
 }
 
-/// The words of a row, of which there is at least one, with the right to give their memory back.
+/// Returns the words of a row, of which there is at least one, with the right to give their memory back.
 pub fn join_words(words: Row<u64>, right: Right<Global>) -> Laid
     requires { (right.at ≡ words.at) × (length words.items ≡ right.count) × Filled words.filled 0 (length words.items) × (0 < right.count) }
     ensures { (result.at ≡ right.at) × (result.piece.at ≡ right.at) × (result.piece.count ≡ right.count) × (result.piece.words ≡ words.items) }
@@ -90,7 +90,7 @@ pub fn release_words<A: Allocator>(alloc: &A, words: Row<u64>, right: Right<A>, 
 }
 
 impl Piece {
-    /// No words.
+    /// Makes a piece of no words.
     pub fn none() -> Piece
         ensures { (result.at ≡ null_ptr) × (result.count ≡ 0) × (result.words ≡ []) }
     {
@@ -99,14 +99,14 @@ impl Piece {
         }
     }
 
-    /// No words are left.
+    /// Ends where no words are left.
     pub fn end(self)
         requires { self.count ≡ 0 }
     {
         let Piece { marker: _ } = self;
     }
 
-    /// The words, at least one, and the right to give their memory back.
+    /// Returns the words, at least one, and the right to give their memory back.
     pub fn parted(self, _alloc: &Global, at: *mut u64) -> (Row<u64>, Right<Global>)
         requires { (0 < self.count) × (at ≡ self.at) }
         ensures { (result.0.at ≡ at) × (length result.0.items ≡ self.count) × Filled result.0.filled 0 (length result.0.items)

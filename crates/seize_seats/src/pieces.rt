@@ -18,7 +18,7 @@ impl Model for Pieces {
 }
 
 impl Pieces {
-    /// Those in the first spot, and the others.
+    /// Parts those in the first spot from the others.
     pub fn next(self) -> (Piece, Pieces)
         ensures { (result.0.at ≡ (first_spot self.spots).0) × (result.0.count ≡ (first_spot self.spots).1)
             × (result.1.spots ≡ other_spots self.spots) }
@@ -34,7 +34,7 @@ impl Pieces {
         )
     }
 
-    /// None are left.
+    /// Ends where none are left.
     pub fn over(self)
         requires { self.spots ≡ [] }
     {

@@ -47,14 +47,14 @@ impl<T> Model for OwnedStrips<T> {
     ghost also_owns = { λ s. all_alone (KeptOf T.row) kept_words s.fresh s.strips };
 }
 
-/// How many bytes a place has.
+/// Returns how many bytes a place has.
 pub fn stride_of<T>() -> usize
     ensures { result ≡ capped (stride T.row) }
 {
     size_of::<Option<T>>()
 }
 
-/// How many words would lie where the places of so many numbers do.
+/// Returns how many words would lie where the places of so many numbers do.
 pub fn skip_of<T>(count: usize) -> usize
     requires { count * stride T.row < 2 ^ 63 }
     ensures { result ≡ before T.row count }
@@ -62,7 +62,7 @@ pub fn skip_of<T>(count: usize) -> usize
     (count * size_of::<Option<T>>() + 7) / 8
 }
 
-/// How many bytes the block of a further strip has, of which so many words would lie where its places do.
+/// Returns how many bytes the block of a further strip has, of which so many words would lie where its places do.
 pub fn bytes_of<T>(count: usize, skip: usize) -> usize
     requires { (skip ≡ before T.row count) × (block_bytes T.row count < 2 ^ 63) }
     ensures { result ≡ block_bytes T.row count }
@@ -70,14 +70,14 @@ pub fn bytes_of<T>(count: usize, skip: usize) -> usize
     (skip + count * 5 + 1) / 2 * 16
 }
 
-/// A block of so many numbers is not too large. Values of 1 GiB or more have no further strips.
+/// Returns whether a block of so many numbers is not too large. Values of 1 GiB or more have no further strips.
 pub fn fits<T>(count: usize) -> bool
     ensures { result ≡ true → (block_bytes T.row count < 2 ^ 63) × (count * stride T.row < 2 ^ 63) }
 {
     stride_of::<T>() < 1073741824 && count <= 4294967296
 }
 
-/// The block of a further strip: its places and its words, of which none is full.
+/// Reserves the block of a further strip: its places and its words, of which none is full.
 pub fn reserve<T, A: Allocator>(
     alloc: &A,
     _count: usize,
@@ -126,7 +126,7 @@ pub fn release<T, A: Allocator>(
 }
 
 impl<T> OwnedStrips<T> {
-    /// The first of the strips, of so many numbers, the others, and the own words of its blocks.
+    /// Returns the first of the strips, of so many numbers, the others, and the own words of its blocks.
     pub fn parted(
         self,
         _alloc: &Global,
@@ -164,7 +164,7 @@ impl<T> OwnedStrips<T> {
     }
 }
 
-/// A block of so many numbers: its places hold none, and its words are 0.
+/// Lays a block of so many numbers: its places hold none, and its words are 0.
 pub fn lay_strip<T>(
     alloc: &Global,
     count: usize,

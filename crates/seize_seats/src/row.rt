@@ -20,7 +20,7 @@ impl<T> Model for Row<T> {
 }
 
 impl<T> Row<T> {
-    /// The places of these slots.
+    /// Returns the places of these slots.
     pub fn of(slots: Slots<T>) -> Row<T>
         ensures { (result.at ≡ slots_ptr slots) × (result.items ≡ slots_items slots) × (length result.items ≡ slots_len slots)
             × (IsFull slots → Filled result.filled 0 (length result.items))
@@ -30,7 +30,7 @@ impl<T> Row<T> {
         Row { at: parts.0 }
     }
 
-    /// The slots again.
+    /// Returns the slots again.
     pub fn into_slots(self, len: usize) -> Slots<T>
         requires { len ≡ length self.items }
         ensures { (slots_ptr result ≡ self.at) × (slots_len result ≡ len) × (slots_items result ≡ self.items)

@@ -208,7 +208,7 @@ impl<'a, T: Defers + Drop, B: Place> Desk<'a, T, B> {
         })
     }
 
-    /// One guard more. Where `MOST_GUARDS` are there, or were forgotten, it is `Fault::GuardsFull`.
+    /// Makes one guard more. Where `MOST_GUARDS` are there, or were forgotten, it is `Fault::GuardsFull`.
     pub fn enter<'d>(&'d self) -> Result<DeskGuard<'d, 'a, T, B>, Fault>
         ensures fresh { IfOk result (λ guard. guard.seen ≡ 0) }
         ensures desk { IfOk result (λ guard. guard.desk.now ≡ self.now) }
@@ -282,7 +282,7 @@ impl<'d, 'a, T: Defers + Drop, B: Place> DeskGuard<'d, 'a, T, B> {
         is_fresh
     }
 
-    /// The value that it has seen, if it has seen one.
+    /// Returns the value that it has seen, if it has seen one.
     pub fn value(&self) -> Option<&T>
         ensures lent { IfSome result (λ value. IsLent T.defers self.now.desk.now.blocks.now.words.fixed self.now.watcher.seat.id
             self.now.watcher.seat.view self.now.seen value.now) }

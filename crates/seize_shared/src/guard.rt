@@ -41,7 +41,7 @@ impl<'a, T: Defers + Drop, C: Content<T>> Registration<'a, T, C> {
 }
 
 impl<'a, T: Defers + Drop, C: Content<T>, R: Receiver<T>> Registration<'a, T, C, R> {
-    /// The same, of a collector of this number.
+    /// Returns the same, of a collector of this number.
     pub fn of(blocks: &'a Blocks<T, C>, fixed: &Fixed, number: u64) -> Result<Self, Fault>
         requires fixed { blocks.now.words.fixed ≡ fixed.now }
         ensures home { IfOk result (λ registration. registration.stay.caller.blocks.now ≡ blocks.now) }
@@ -56,14 +56,14 @@ impl<'a, T: Defers + Drop, C: Content<T>, R: Receiver<T>> Registration<'a, T, C,
         })
     }
 
-    /// The number of its collector, 0 where there is none.
+    /// Returns the number of its collector, 0 where there is none.
     pub fn number(&self) -> u64
         ensures { result ≡ self.now.number }
     {
         self.number
     }
 
-    /// Its collector, for those who share it.
+    /// Returns its collector, for those who share it.
     pub fn collector(&self) -> Shared<'a, T, C, R>
         ensures home { result.blocks.now ≡ self.now.stay.caller.blocks.now }
         ensures number { result.number ≡ self.now.number }
@@ -252,7 +252,7 @@ impl<'r, 'a, T: Defers + Drop, R: Receiver<T>> RootGuard<T> for LocalGuard<'r, '
 }
 
 impl<'r, 'a, T: Defers + Drop, C: Content<T>, R: Receiver<T>> LocalGuard<'r, 'a, T, C, R> {
-    /// Its collector, for those who share it: it may be asked for further slots while the guard is there.
+    /// Returns its collector, for those who share it: it may be asked for further slots while the guard is there.
     pub fn collector(&self) -> Shared<'a, T, C, R>
         ensures home { result.blocks.now ≡ self.now.registration.now.stay.caller.blocks.now }
         ensures number { result.number ≡ self.now.registration.now.number }
@@ -315,7 +315,7 @@ impl<'a, T: Defers + Drop, C: Content<T>> OwnedGuard<'a, T, C> {
 }
 
 impl<'a, T: Defers + Drop, C: Content<T>, R: Receiver<T>> OwnedGuard<'a, T, C, R> {
-    /// The same, of a collector of this number.
+    /// Returns the same, of a collector of this number.
     pub fn of(blocks: &'a Blocks<T, C>, fixed: &Fixed, number: u64) -> Result<Self, Fault>
         requires fixed { blocks.now.words.fixed ≡ fixed.now }
         ensures home { IfOk result (λ guard. guard.stay.caller.blocks.now ≡ blocks.now) }
@@ -332,7 +332,7 @@ impl<'a, T: Defers + Drop, C: Content<T>, R: Receiver<T>> OwnedGuard<'a, T, C, R
         })
     }
 
-    /// Its collector, for those who share it: it may be asked for further slots while the guard is there.
+    /// Returns its collector, for those who share it: it may be asked for further slots while the guard is there.
     pub fn collector(&self) -> Shared<'a, T, C, R>
         ensures home { result.blocks.now ≡ self.now.stay.caller.blocks.now }
         ensures number { result.number ≡ self.now.number }

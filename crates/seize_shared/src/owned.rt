@@ -46,7 +46,7 @@ impl<'a, T: Defers> Owned<'a, T> {
         Owned::of(blocks, fixed, 0, near, value)
     }
 
-    /// The same, of a collector of this number.
+    /// Returns the same, of a collector of this number.
     pub fn of(
         blocks: &'a Blocks<T, OfRows>,
         fixed: &Fixed,
@@ -72,7 +72,7 @@ impl<'a, T: Defers> Owned<'a, T> {
         }
     }
 
-    /// Its value, for as long as it is borrowed.
+    /// Returns its value, for as long as it is borrowed.
     pub fn value(&self) -> &T
         ensures same { (value : T) → self.now.caller.seat.view.knows ≡ Brings self.now.block value → result.now ≡ value }
     {
@@ -208,7 +208,7 @@ impl<'a, T: Defers> Owned<'a, T> {
         }
     }
 
-    /// The same: it fails only where that does.
+    /// Does the same: it fails only where that does.
     pub fn compare_exchange_weak<G: RootGuard<T>>(
         self,
         guard: &G,

@@ -20,7 +20,7 @@ pub struct Pass<T: Defers> {
 }
 
 impl<T: Defers> Pass<T> {
-    /// One more of this memory, of a collector of this number.
+    /// Makes one more of this memory, of a collector of this number.
     pub fn of(blocks: &Blocks<T, OfRows>, number: u64) -> Self
         ensures memory { result.pass.seat.base ≡ blocks.now.words.id.views_name }
         ensures number { result.number ≡ number }
@@ -31,7 +31,7 @@ impl<T: Defers> Pass<T> {
         }
     }
 
-    /// The number of its collector, 0 where there is none.
+    /// Returns the number of its collector, 0 where there is none.
     pub fn number(&self) -> u64
         ensures { result ≡ self.now.number }
     {
@@ -60,7 +60,7 @@ impl<T: Defers> Pass<T> {
         Protected::of(Tagged::of(word), value)
     }
 
-    /// The same, and it sets marks of the word, of which three bits count. The word that it answers is the one before.
+    /// Returns the same, and it sets marks of the word, of which three bits count. The word that it answers is the one before.
     pub fn mark<'g, 'a>(
         &mut self,
         caller: &'g Caller<'a, T>,

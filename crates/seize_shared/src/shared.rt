@@ -22,7 +22,7 @@ pub struct Shared<'c, T: Defers + Drop, C: Content<T> = OfRows, R: Receiver<T> =
 }
 
 impl<'c, T: Defers + Drop, C: Content<T>, R: Receiver<T>> Shared<'c, T, C, R> {
-    /// That of this number, which has this memory, for which this was chosen.
+    /// Makes that of this number, which has this memory, for which this was chosen.
     pub fn of(blocks: &'c Blocks<T, C>, chosen: Fixed, number: u64) -> Self
         requires fixed { blocks.now.words.fixed ≡ chosen }
         ensures home { result.blocks.now ≡ blocks.now }
@@ -36,14 +36,14 @@ impl<'c, T: Defers + Drop, C: Content<T>, R: Receiver<T>> Shared<'c, T, C, R> {
         }
     }
 
-    /// Its number, which no other collector of its source has.
+    /// Returns its number, which no other collector of its source has.
     pub fn number(&self) -> u64
         ensures { result ≡ self.now.number }
     {
         self.number
     }
 
-    /// How many roots it has.
+    /// Returns how many roots it has.
     pub fn roots(&self) -> u64
         ensures { result ≡ self.now.blocks.now.words.fixed.roots }
     {
@@ -82,7 +82,7 @@ impl<'c, T: Defers + Drop, R: Receiver<T>> Shared<'c, T, OfRows, R> {
         Owned::of(self.blocks, &self.chosen, self.number, near, value)
     }
 
-    /// A pass, by which a thread takes steps under a guard that others may have, too.
+    /// Makes a pass, by which a thread takes steps under a guard that others may have, too.
     pub fn pass(&self) -> Pass<T>
         ensures memory { result.pass.seat.base ≡ self.now.blocks.now.words.id.views_name }
         ensures number { result.number ≡ self.now.number }

@@ -12,7 +12,7 @@ pub struct Tagged {
 }
 
 impl Tagged {
-    /// That of a word, as it was found at a root.
+    /// Makes that of a word, as it was found at a root.
     pub fn of(word: u64) -> Self
         ensures { result.word ≡ word }
     {
@@ -26,14 +26,14 @@ impl Tagged {
         self.word
     }
 
-    /// Its byte and its marks: eight times the byte, and the marks.
+    /// Returns its byte and its marks: eight times the byte, and the marks.
     pub fn tag(self) -> u64
         ensures { result ≡ tag_in self.word }
     {
         self.word % 2048
     }
 
-    /// Its block, its byte and its marks.
+    /// Returns its block, its byte and its marks.
     pub fn unpack(self) -> Link
         ensures packs { link_word result.block result.byte result.marks ≡ self.word }
         ensures block { result.block ≡ block_in self.word }
@@ -41,7 +41,7 @@ impl Tagged {
         Link::unpack(self.word)
     }
 
-    /// The same block and byte, with these marks, of which three bits count.
+    /// Returns the same block and byte, with these marks, of which three bits count.
     pub fn with_marks(self, marks: u64) -> Self
         ensures { result.word ≡ with_marks self.word marks }
     {
@@ -67,14 +67,14 @@ impl<'g, T> Protected<'g, T> {
         Protected { tagged, value }
     }
 
-    /// The word, with its tag.
+    /// Returns the word, with its tag.
     pub fn tagged(&self) -> Tagged
         ensures { result ≡ self.now.tagged }
     {
         self.tagged
     }
 
-    /// The value, if the word links to a block.
+    /// Returns the value, if the word links to a block.
     pub fn get(&self) -> Option<&'g T>
         ensures { result ≡ self.now.value }
     {

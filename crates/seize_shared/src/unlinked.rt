@@ -44,28 +44,28 @@ impl<'a, T: Defers> Unlinked<'a, T> {
         })
     }
 
-    /// The number of its collector, 0 where there is none.
+    /// Returns the number of its collector, 0 where there is none.
     pub fn number(&self) -> u64
         ensures { result ≡ self.now.number }
     {
         self.number
     }
 
-    /// The word that was there: a link to it, with its tag.
+    /// Returns the word that was there: a link to it, with its tag.
     pub fn tagged(&self) -> Tagged
         ensures { result.word ≡ self.now.word }
     {
         Tagged::of(self.word)
     }
 
-    /// Its value, for as long as it is borrowed: others may look at it still, so it is only lent.
+    /// Returns its value, for as long as it is borrowed: others may look at it still, so it is only lent.
     pub fn value(&self) -> &T
         ensures { IsLent T.defers self.now.caller.blocks.now.words.fixed self.now.caller.seat.id self.now.caller.seat.view self.now.block result.now }
     {
         self.caller.borne(self.block)
     }
 
-    /// Neither retires it nor takes it away: its value is there until the memory ends.
+    /// Keeps it: its value is there until the memory ends.
     pub fn kept(self) {
         let Unlinked {
             caller,
@@ -76,7 +76,7 @@ impl<'a, T: Defers> Unlinked<'a, T> {
         caller.keeps(block);
     }
 
-    /// Who has unlinked it, and the block: for one who has a slot, and retires it there (`Registration` does so by it).
+    /// Parts who has unlinked it from the block: for one who has a slot, and retires it there (`Registration` does so by it).
     pub fn parted(self) -> (Caller<'a, T>, u64)
         ensures caller { result.0 ≡ self.entry.caller }
         ensures block { result.1 ≡ self.entry.block }

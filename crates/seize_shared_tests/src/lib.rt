@@ -39,7 +39,7 @@ use std::sync::atomic::Ordering::SeqCst;
 /// A count for each place.
 pub type DropCounts = Arc<Vec<AtomicU64>>;
 
-/// A table of so many places, all at 0.
+/// Returns a table of so many places, all at 0.
 pub fn table(alloc: Global, places: usize) -> Result<DropCounts, AllocError> {
     let mut drops = Vec::new(alloc);
     for _ in 0..places {
@@ -48,7 +48,7 @@ pub fn table(alloc: Global, places: usize) -> Result<DropCounts, AllocError> {
     Ok(Arc::new(alloc, drops)?)
 }
 
-/// How often the value of a place was dropped. It is 0 where there is no such place.
+/// Returns how often the value of a place was dropped. It is 0 where there is no such place.
 pub fn dropped(drops: &DropCounts, place: usize) -> u64 {
     match drops.get(place) {
         Some(count) => count.load(SeqCst),
@@ -56,7 +56,7 @@ pub fn dropped(drops: &DropCounts, place: usize) -> u64 {
     }
 }
 
-/// Each of the first places of the table was counted so often.
+/// Returns whether each of the first places of the table was counted so often.
 pub fn all_are(drops: &DropCounts, places: usize, times: u64) -> bool {
     for place in 0..places {
         if dropped(drops, place) != times {
@@ -73,7 +73,7 @@ pub struct Counted {
 }
 
 impl Counted {
-    /// The value of a place. There is none where the table has too many owners.
+    /// Returns the value of a place. There is none where the table has too many owners.
     pub fn of(drops: &DropCounts, place: usize) -> Option<Counted> {
         let drops = Arc::try_clone(drops).ok()?;
         Some(Counted { place, drops })

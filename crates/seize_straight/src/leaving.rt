@@ -43,7 +43,7 @@ pub fn leave<T: Defers, M: Memory<T>>(
     Left::Ended
 }
 
-/// The leaving that is to count down the list with this head.
+/// Returns the leaving that is to count down the list with this head.
 pub fn leave_of(slot: u64, batch_size: u64, becomes: u64, frees: bool, head: u64) -> Leave
     ensures { result ≡ leave_at slot batch_size becomes frees head }
 {

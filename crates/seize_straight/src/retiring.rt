@@ -135,7 +135,7 @@ fn give<T: Defers, M: Memory<T>>(
     Retired::Ended
 }
 
-/// The settling at the point where the retirement of a block has stopped.
+/// Returns the settling at the point where the retirement of a block has stopped.
 pub fn settle_of(slot: u64, batch_size: u64, block: u64, retired: Retired) -> Settle
     ensures { result ≡ settle_at slot batch_size block retired }
 {

@@ -33,14 +33,14 @@ pub enum Fault {
 }
 
 impl Fault {
-    /// Its number, 1 to 10.
+    /// Returns its number, 1 to 10.
     pub fn number(self) -> u8
         ensures { result ≡ number_of self }
     {
         self as u8 + 1
     }
 
-    /// Its name, as printed.
+    /// Returns its name, as printed.
     pub fn name(self) -> &'static str
         ensures { result.now ≡ name_of self }
     {
@@ -58,7 +58,7 @@ impl Fault {
         }
     }
 
-    /// Its name, and what it says in a few words.
+    /// Returns its name, and what it says in a few words.
     pub fn text(self) -> &'static str
         ensures { result.now ≡ text_of self }
     {

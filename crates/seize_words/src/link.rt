@@ -16,42 +16,42 @@ pub struct Link {
 }
 
 impl Link {
-    /// The word that links to a block, with no byte and no marks. The block's number is below 2^53, else the word is what 64 bits keep of it.
+    /// Returns the word that links to a block, with no byte and no marks. The block's number is below 2^53, else the word is what 64 bits keep of it.
     pub fn to(block: u64) -> u64
         ensures { result ≡ link_to block % 2 ^ 64 }
     {
         block.wrapping_mul(2048)
     }
 
-    /// The number of the block that a word links to, 0 for none.
+    /// Returns the number of the block that a word links to, 0 for none.
     pub fn block_of(word: u64) -> u64
         ensures { result ≡ block_in word }
     {
         word / 2048
     }
 
-    /// The byte of a word.
+    /// Returns the byte of a word.
     pub fn byte_of(word: u64) -> u64
         ensures { result ≡ byte_in word }
     {
         word / 8 % 256
     }
 
-    /// The marks of a word, added up.
+    /// Returns the marks of a word, added up.
     pub fn marks_of(word: u64) -> u64
         ensures { result ≡ marks_in word }
     {
         word % 8
     }
 
-    /// The word of the link.
+    /// Returns the word of the link.
     pub fn pack(self) -> u64
         ensures { result ≡ link_word self.block self.byte self.marks }
     {
         self.block * 2048 + u64::from(self.byte) * 8 + u64::from(self.marks)
     }
 
-    /// The link of a word: the only one that packs to it.
+    /// Returns the link of a word: the only one that packs to it.
     pub fn unpack(word: u64) -> Self
         ensures packs { link_word result.block result.byte result.marks ≡ word }
         ensures only { (link : Link) → link.byte < 2 ^ 8 → link_word link.block link.byte link.marks ≡ word → result ≡ link }

@@ -37,7 +37,7 @@ impl<T> Model for Plain<T> {
 }
 
 impl<T> Plain<T> {
-    /// A memory with as many roots, all of them free, no slot and no block.
+    /// Makes a memory with as many roots, all of them free, no slot and no block.
     pub fn new(alloc: Global, roots: u64) -> Result<Self, AllocError>
         ensures { IfOk result (λ m. m ≡ record { roots = replicate roots 0; used = replicate roots 0; slots = []; blocks = []; choices = [] }) }
     {
@@ -61,8 +61,7 @@ impl<T> Plain<T> {
         Ok(())
     }
 
-    /// From now on so many requests for blocks and for further buckets of slots are met, and each later one is refused: what is done
-    /// then can be tried.
+    /// Meets so many requests for blocks and for further buckets of slots from now on, and refuses each later one: what is done then can be tried.
     pub fn refuse_after(&mut self, requests: u64)
         ensures { self.new ≡ self.old }
     {
@@ -83,14 +82,14 @@ impl<T> Plain<T> {
         }
     }
 
-    /// How many blocks it holds.
+    /// Returns how many blocks it holds.
     pub fn live(&self) -> u64
         ensures { result ≡ length (values_in self.now.blocks) }
     {
         self.blocks.held()
     }
 
-    /// The memory, lent for reading.
+    /// Lends the memory for reading.
     pub fn look(&self) -> Lent<'_, T>
         ensures { result.memory.now ≡ self.now }
     {
@@ -135,7 +134,7 @@ impl<T> Plain<T> {
 }
 
 impl<T: Drop> Plain<T> {
-    /// The values of all its blocks, by ascending numbers.
+    /// Returns the values of all its blocks, by ascending numbers.
     pub fn into_values(self, alloc: Global) -> Result<Vec<T>, AllocError>
         ensures { IfOk result (λ values. values.items ≡ values_in self.blocks) }
     {

@@ -7,7 +7,7 @@ use crate::words::Words;
 use std::alloc::{AllocError, Global};
 use std::marker::Model;
 
-/// How many slots a bucket holds.
+/// Returns how many slots a bucket holds.
 pub fn bucket_capacity(bucket: u64) -> u64
     requires { bucket ≤ 58 }
     ensures { result ≡ capacity bucket }
@@ -15,7 +15,7 @@ pub fn bucket_capacity(bucket: u64) -> u64
     32 << bucket
 }
 
-/// The bucket that a slot lies in, and its index there.
+/// Returns the bucket that a slot lies in, and its index there.
 pub fn place_of(slot: u64) -> (u64, u64)
     requires { slot < 2 ^ 64 - 32 }
     ensures bucket { result.0 ≤ 58 }
@@ -96,7 +96,7 @@ impl Model for Slots {
 }
 
 impl Slots {
-    /// No slot yet.
+    /// Begins with no slot.
     pub fn new(alloc: Global) -> Self
         ensures { result ≡ [] }
     {
@@ -106,7 +106,7 @@ impl Slots {
         }
     }
 
-    /// A word of a slot.
+    /// Returns a word of a slot.
     pub fn get(&self, slot: u64, field: u64) -> u64
         requires { IsSome (slot_word self.now slot field) }
         ensures { slot_word self.now slot field ≡ Some result }
@@ -126,7 +126,7 @@ impl Slots {
         buckets[bucket as usize].set(index, field, word);
     }
 
-    /// Whether the words of a bucket are there. No earlier bucket may be missing.
+    /// Returns whether the words of a bucket are there. No earlier bucket may be missing.
     pub fn has(&self, bucket: u64) -> bool
         requires { capacity bucket ≤ length self.now + 32 }
         ensures { result ≡ not (length self.now + 32 == capacity bucket) }

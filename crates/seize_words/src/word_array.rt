@@ -19,7 +19,7 @@ impl Model for WordArray {
 }
 
 impl WordArray {
-    /// No word. It takes no memory.
+    /// Makes an array of no word. It takes no memory.
     pub fn none(alloc: Global) -> Self
         ensures { result ≡ [] }
     {
@@ -28,7 +28,7 @@ impl WordArray {
         }
     }
 
-    /// As many words, each 0.
+    /// Makes as many words, each 0.
     pub fn zeros(alloc: Global, count: u64) -> Result<Self, AllocError>
         ensures { IfOk result (λ row. row ≡ replicate count 0) }
     {
@@ -37,7 +37,7 @@ impl WordArray {
         })
     }
 
-    /// The word of a place.
+    /// Returns the word of a place.
     pub fn get(&self, place: u64) -> u64
         requires { IsSome (slice_get self.now place) }
         ensures { slice_get self.now place ≡ Some result }

@@ -18,14 +18,14 @@ impl<const N: usize> Model for Words<N> {
 }
 
 impl<const N: usize> Words<N> {
-    /// Each word 0.
+    /// Makes words that are each 0.
     pub fn zeros() -> Self
         ensures { result ≡ replicate N 0 }
     {
         Words { items: [0; N] }
     }
 
-    /// The word of a place.
+    /// Returns the word of a place.
     pub fn get(&self, place: u64) -> u64
         requires { IsSome (slice_get self.now place) }
         ensures { slice_get self.now place ≡ Some result }

@@ -69,7 +69,7 @@ impl<V: Drop> Pile<V> {
         Ok(Pile { top: Some(top) })
     }
 
-    /// The value on top, and what stands below it, if there is one.
+    /// Returns the value on top, and what stands below it, if there is one.
     pub fn parted(&self) -> Result<Option<(Arc<V>, Pile<V>)>, AllocError>
         ensures some { IfOk result (λ parts. IfSome parts (λ p. values self.now ≡ arc_value p.0 ∷ values p.1)) }
         ensures none { IfOk result (λ parts. IfNone parts (values self.now ≡ [])) }

@@ -28,7 +28,7 @@ pub struct MapCaller<'a, K: Eq, V, S: Hashes<K>> {
 }
 
 impl<'a, K: Eq, V, S: Hashes<K>> MapCaller<'a, K, V, S> {
-    /// One more of them, who holds no slot and knows no map.
+    /// Makes one more of them, who holds no slot and knows no map.
     pub fn new(blocks: &'a Blocks<Node<K, V>, OfMaps<S>>) -> Self
         ensures rests { result.seat.view ≡ at_rest }
         ensures blocks { result.blocks.now ≡ blocks.now }
@@ -41,7 +41,7 @@ impl<'a, K: Eq, V, S: Hashes<K>> MapCaller<'a, K, V, S> {
         }
     }
 
-    /// One more of them, who holds no slot, and to whom the map is handed on that this one knows.
+    /// Makes one more of them, who holds no slot, and to whom the map is handed on that this one knows.
     pub fn shows(&self) -> Self
         requires knows { IsSome (known_by self.now.seat.view) }
         ensures blocks { result.blocks.now ≡ self.now.blocks.now }

@@ -17,7 +17,7 @@ impl<K, V, S> Lesson<Fixed, View<K, V, S>> for Showing {
     ghost to = { λ _ v _. LearnsMap v };
 }
 
-/// One seat more of this memory, which holds no slot, and to which the map is handed on that the other one knows.
+/// Makes one seat more of this memory, which holds no slot, and to which the map is handed on that the other one knows.
 pub fn newcomer<K: Eq, V, S: Hashes<K>>(
     blocks: &Blocks<Node<K, V>, OfMaps<S>>,
     seat: &Seat<Node<K, V>, OfMaps<S>>,

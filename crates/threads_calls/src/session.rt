@@ -117,7 +117,7 @@ impl<'a, K: Eq + Drop, V: Drop, S: Hashes<K>> SessionBase<'a, K, V, S> {
 }
 
 impl<'a, K: Eq, V, S: Hashes<K>> SessionBase<'a, K, V, S> {
-    /// The same map for one more of those who share it.
+    /// Returns the same map for one more of those who share it.
     pub fn session(&self) -> Self
         ensures blocks { result.caller.blocks.now ≡ self.now.caller.blocks.now }
         ensures map { result.caller.seat.view.map ≡ self.now.caller.seat.view.map }
@@ -201,7 +201,7 @@ impl<'a, K: Eq + Hash, V, S: Hashes<K>> SessionBase<'a, K, V, S> {
         Some(Found { word })
     }
 
-    /// The value of the pair that was found, for as long as the session is borrowed.
+    /// Returns the value of the pair that was found, for as long as the session is borrowed.
     pub fn value(&self, found: Found) -> &V
         requires shown { (key : K) × IsShown K.eq key self.now.caller found.word }
         ensures { IsLent K.eq S.hash self.now.caller found.word result.now }

@@ -8,7 +8,8 @@ use std::alloc::{AllocError, Global};
 use std::hash::{BuildHasher, Hash};
 use threads_rule::OfMaps;
 
-/// A memory for maps of such keys, values and hashers: with so many roots, one for each map that is there at a time, and numbers for so many blocks at first.
+/// Makes a memory for maps of such keys, values and hashers: with so many roots, one for each map that is there at a time, and numbers for so many blocks at
+/// first.
 pub fn memory_for<K: Eq + Hash + Drop, V: Drop, S: BuildHasher>(
     alloc: Global,
     count: u64,

@@ -9,7 +9,7 @@ use map_tables::marks::{COPIED, COPYING, has};
 use map_tables::{Hashes, Node, Probe, Table};
 use seize_words::{Link, Memory};
 
-/// The hash of the key of a pair, and 0 of a value of another kind.
+/// Returns the hash of the key of a pair, and 0 of a value of another kind.
 #[inline(always)]
 pub fn key_hash<K, V, S: Hashes<K>>(value: &Node<K, V>, hasher: &S) -> u64
     ensures { result ≡ key_hash (S.hash hasher.now) value.now }

@@ -77,7 +77,7 @@ pub enum Called<T> {
 }
 
 impl End {
-    /// What a call that has ended so tells.
+    /// Returns what a call that has ended so tells.
     pub fn told<T>(self) -> Called<T>
         ensures { result ≡ ended self }
     {

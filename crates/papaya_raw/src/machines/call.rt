@@ -148,7 +148,7 @@ impl<K, V, Q> KeyCall<K, V, Q> {
 }
 
 impl<K: Eq + Hash + Drop, V: Drop, Q: Equivalent<K>> KeyCall<K, V, Q> {
-    /// One step: at most one operation. The hasher gives the hash of each key that is copied.
+    /// Takes one step: at most one operation. The hasher gives the hash of each key that is copied.
     pub fn step<S: Hashes<K>, M: Memory<Node<K, V>>>(
         &mut self,
         memory: &mut M,

@@ -64,7 +64,7 @@ pub struct EndMap {
 }
 
 impl EndMap {
-    /// A map that is to end.
+    /// Begins the end of a map.
     pub fn new(setting: Setting, owns: bool) -> Self
         ensures { result ≡ ending setting owns }
     {

@@ -128,9 +128,9 @@ impl<K: Eq + Hash + Drop, V: Drop, Q: Equivalent<K>> Machine<K, V, Q> {
         Progress::of_called(told)
     }
 
-    /// One step: at most one operation. The hasher gives the hash of each key that is copied. A call that has ended says again how.
-    /// Whatever others have under way, a step that goes on lowers the call's numbers, and one that waits does so for a reason: `law` of owner_whole. What it looks at is
-    /// there and held: `law` of many_acts.
+    /// Takes one step: at most one operation. The hasher gives the hash of each key that is copied. A call that has ended says again how. Whatever others have
+    /// under way, a step that goes on lowers the call's numbers, and one that waits does so for a reason: `law` of owner_whole. What it looks at is there and
+    /// held: `law` of many_acts.
     pub fn step<S: Hashes<K>, M: Memory<Node<K, V>>>(
         &mut self,
         memory: &mut M,

@@ -27,9 +27,9 @@ fn put_clone<K: Eq + Hash + Clone, S: BuildHasher>(
 }
 
 impl<K: Eq + Hash + Clone, S: BuildHasher + Clone> HashSet<K, S> {
-    /// A set with a clone of each element, of the hasher too, and with a memory of its own. The faults are `Fault::Capacity` and `Fault::Memory`;
-    /// then there is no set. Where an element's clone equals another element, that counts once; where each clone equals its original, so does the set, and has
-    /// as many elements.
+    /// Makes a set with a clone of each element, of the hasher too, and with a memory of its own. The faults are `Fault::Capacity` and `Fault::Memory`; then
+    /// there is no set. Where an element's clone equals another element, that counts once; where each clone equals its original, so does the set, and has as
+    /// many elements.
     pub fn clone(&self, alloc: Global) -> Result<Self, Fault>
         ensures clones { IfOk result (λ set. IsSetMadeOfClones K.eq K.is_clone self.now.elements set) }
         ensures same { ClonesAreSame K.is_clone → IfOk result (λ set. IsPermutation set.elements self.now.elements) }
@@ -43,8 +43,7 @@ impl<K: Eq + Hash + Clone, S: BuildHasher + Clone> HashSet<K, S> {
 }
 
 impl<K: Eq + Hash + Clone, S: BuildHasher + Default + Drop> HashSet<K, S> {
-    /// A set with clones of these elements, the last of those that are equal. The faults are `Fault::Capacity` and `Fault::Memory`; then there is
-    /// no set.
+    /// Makes a set with clones of these elements, the last of those that are equal. The faults are `Fault::Capacity` and `Fault::Memory`; then there is no set.
     pub fn from_array(alloc: Global, items: &[K]) -> Result<Self, Fault>
         ensures clones { IfOk result (λ set. IsSetMadeOfClones K.eq K.is_clone items.now set) }
         ensures same { ClonesAreSame K.is_clone → IfOk result (λ set. IsPermutation set.elements (put_all_in K.eq [] items.now)) }

@@ -33,8 +33,7 @@ impl<K: Eq + Hash + Drop, S: BuildHasher, R: Receiver<(K, ())>> HashSet<K, S, R>
 }
 
 impl<K: Eq + Hash + Drop, S: BuildHasher + Default + Drop> HashSet<K, S> {
-    /// A set with what an iterator gives, the last of those that are equal. The faults are `Fault::Capacity` and `Fault::Memory`; then there is no
-    /// set.
+    /// Makes a set with what an iterator gives, the last of those that are equal. The faults are `Fault::Capacity` and `Fault::Memory`; then there is no set.
     pub fn try_collect<I: IntoIterator<Item = K>>(alloc: Global, items: I) -> Result<Self, Fault>
         requires { IsFiniteIterable I.into_iter_gives I.IntoIter.can_next I.IntoIter.remaining items }
         ensures collected { IfOk result (λ set. CollectsSet K.eq I.into_iter_gives I.IntoIter.next_gives items set) }

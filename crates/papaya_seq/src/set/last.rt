@@ -7,7 +7,7 @@ use owner_map::Receiver;
 use std::hash::{BuildHasher, Hash};
 
 impl<K: Eq + Hash, S: BuildHasher, R: Receiver<(K, ())>> HashSet<K, S, R> {
-    /// The element that the last change took out of the set, where it removed or replaced one. What `clear`, `retain` and `reserve` take out is not
+    /// Returns the element that the last change took out of the set, where it removed or replaced one. What `clear`, `retain` and `reserve` take out is not
     /// shown.
     pub fn taken(&self) -> Option<&K>
         ensures { option_copied result ≡ self.now.taken }
@@ -18,7 +18,7 @@ impl<K: Eq + Hash, S: BuildHasher, R: Receiver<(K, ())>> HashSet<K, S, R> {
         }
     }
 
-    /// The element that the last change put in the set.
+    /// Returns the element that the last change put in the set.
     pub fn met(&self) -> Option<&K>
         ensures { option_copied result ≡ self.now.met }
     {

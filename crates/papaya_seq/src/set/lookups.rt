@@ -13,7 +13,7 @@ use owner_map::Receiver;
 use std::hash::{BuildHasher, Hash};
 
 impl<K: Eq + Hash, S: BuildHasher, R: Receiver<(K, ())>> HashSet<K, S, R> {
-    /// How many elements it has. No two of them are equal, and all are held, beside those that wait.
+    /// Returns how many elements it has. No two of them are equal, and all are held, beside those that wait.
     pub fn len(&self) -> u64
         ensures len { result ≡ length self.now.elements }
         ensures apart { IsDistinct K.eq self.now.elements }
@@ -22,14 +22,14 @@ impl<K: Eq + Hash, S: BuildHasher, R: Receiver<(K, ())>> HashSet<K, S, R> {
         self.map.len()
     }
 
-    /// Whether it has no element.
+    /// Returns whether it has no element.
     pub fn is_empty(&self) -> bool
         ensures { result ≡ (length self.now.elements == 0) }
     {
         self.map.is_empty()
     }
 
-    /// Whether the element is in the set.
+    /// Returns whether the element is in the set.
     pub fn contains<Q: Equivalent<K>>(&self, asked: &Q) -> bool
         ensures there { result ≡ is_some (find (Q.Equivalent.equivalent asked.now) self.now.elements) }
         ensures in_any_order { (xs : List K) → IsPermutation self.now.elements xs → result ≡ is_some (find (Q.Equivalent.equivalent asked.now) xs) }
@@ -37,7 +37,7 @@ impl<K: Eq + Hash, S: BuildHasher, R: Receiver<(K, ())>> HashSet<K, S, R> {
         self.map.contains_key(asked)
     }
 
-    /// The stored element, if it is in the set.
+    /// Returns the stored element, if it is in the set.
     pub fn get<Q: Equivalent<K>>(&self, asked: &Q) -> Option<&K>
         ensures element { option_copied result ≡ find (Q.Equivalent.equivalent asked.now) self.now.elements }
         ensures in_any_order { (xs : List K) → IsPermutation self.now.elements xs → option_copied result ≡ find (Q.Equivalent.equivalent asked.now) xs }
@@ -48,7 +48,7 @@ impl<K: Eq + Hash, S: BuildHasher, R: Receiver<(K, ())>> HashSet<K, S, R> {
         }
     }
 
-    /// The elements, each once. In which order is not said, but no two are equal.
+    /// Returns the elements, each once. In which order is not said, but no two are equal.
     pub fn iter(&self) -> Keys<'_, K, ()>
         ensures can { can_go_on result.pairs }
         ensures elements { keys_to_come result ≡ self.now.elements }

@@ -11,7 +11,7 @@ use std::alloc::Global;
 use std::hash::{BuildHasher, Hash};
 
 impl<K: Eq + Hash + Drop, S: BuildHasher + Default + Drop> HashSet<K, S> {
-    /// A set with no element, and with no table yet. The only fault is `Fault::Memory`.
+    /// Makes a set with no element, and with no table yet. The only fault is `Fault::Memory`.
     pub fn new(alloc: Global) -> Result<Self, Fault>
         ensures elements { IfOk result (λ set. set.elements ≡ []) }
         ensures last { IfOk result (λ set. LastTookOut set None None) }
@@ -23,8 +23,8 @@ impl<K: Eq + Hash + Drop, S: BuildHasher + Default + Drop> HashSet<K, S> {
         HashSet::with_hasher(alloc, S::default())
     }
 
-    /// A set with no element, and with a first table that has the places for so many. The faults are `Fault::Capacity`, just where that is too many,
-    /// and `Fault::Memory`.
+    /// Makes a set with no element, and with a first table that has the places for so many. The faults are `Fault::Capacity`, just where that is too many, and
+    /// `Fault::Memory`.
     pub fn with_capacity(alloc: Global, capacity: u64) -> Result<Self, Fault>
         ensures elements { IfOk result (λ set. set.elements ≡ []) }
         ensures last { IfOk result (λ set. LastTookOut set None None) }
@@ -39,7 +39,7 @@ impl<K: Eq + Hash + Drop, S: BuildHasher + Default + Drop> HashSet<K, S> {
 }
 
 impl<K: Eq + Hash + Drop, S: BuildHasher + Drop> HashSet<K, S> {
-    /// A set with no element, with no table yet, and with this hasher. The only fault is `Fault::Memory`.
+    /// Makes a set with no element, with no table yet, and with this hasher. The only fault is `Fault::Memory`.
     pub fn with_hasher(alloc: Global, hasher: S) -> Result<Self, Fault>
         ensures elements { IfOk result (λ set. set.elements ≡ []) }
         ensures last { IfOk result (λ set. LastTookOut set None None) }
@@ -51,8 +51,8 @@ impl<K: Eq + Hash + Drop, S: BuildHasher + Drop> HashSet<K, S> {
         HashSet::with_capacity_and_hasher(alloc, 0, hasher)
     }
 
-    /// A set with no element, with a first table that has the places for so many, and with this hasher. The faults are `Fault::Capacity`, just where
-    /// that is too many, and `Fault::Memory`.
+    /// Makes a set with no element, with a first table that has the places for so many, and with this hasher. The faults are `Fault::Capacity`, just where that
+    /// is too many, and `Fault::Memory`.
     pub fn with_capacity_and_hasher(alloc: Global, capacity: u64, hasher: S) -> Result<Self, Fault>
         ensures elements { IfOk result (λ set. set.elements ≡ []) }
         ensures last { IfOk result (λ set. LastTookOut set None None) }

@@ -202,7 +202,7 @@ impl ReclaimAll {
 }
 
 impl ReclaimAll {
-    /// One step, where this tells what was left over at roots.
+    /// Returns one step, where this tells what was left over at roots.
     pub fn step_by<T: Defers, L: Leftovers<T>, M: Memory<T>>(
         &mut self,
         memory: &mut M,

@@ -55,7 +55,7 @@ pub fn room_is_made_in_time()
     ensures next { NeedsTheNext }
 {}
 
-/// The bucket whose words must be there before a slot is taken: where the slot is the last of its bucket, the next one.
+/// Returns the bucket whose words must be there before a slot is taken: where the slot is the last of its bucket, the next one.
 pub fn needed_bucket(slot: u64) -> Option<u64>
     ensures { result ≡ bucket_needed slot }
 {
@@ -67,7 +67,7 @@ pub fn needed_bucket(slot: u64) -> Option<u64>
 }
 
 impl Register {
-    /// Registering that begins; `enters` says whether the slot is made active, too.
+    /// Begins a registering; `enters` says whether the slot is made active, too.
     pub fn new(enters: bool) -> Self
         ensures { result ≡ record { slot = 0; enters = enters; stands = Registering.Begin } }
     {

@@ -37,7 +37,7 @@ impl<'a, T: Defers> Caller<'a, T> {
         }
     }
 
-    /// The value of its own block, for as long as it is borrowed.
+    /// Returns the value of its own block, for as long as it is borrowed.
     pub fn brought(&self, block: u64) -> &T
         requires brings { brought_by self.now.seat.view.knows ≡ Some block }
         ensures same { (value : T) → self.now.seat.view.knows ≡ Brings block value → result.now ≡ value }
@@ -107,7 +107,7 @@ impl<'a, T: Defers> Caller<'a, T> {
         }
     }
 
-    /// The value of the block that it has unlinked, for as long as it is borrowed.
+    /// Returns the value of the block that it has unlinked, for as long as it is borrowed.
     pub fn borne(&self, block: u64) -> &T
         requires bears { borne_by self.now.seat.view.knows ≡ Some block }
         ensures { IsValueOf (NotedHolds T.defers self.now.blocks.now.words.fixed) self.now.seat.id self.now.seat.view block result.now }

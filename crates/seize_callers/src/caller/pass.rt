@@ -25,7 +25,7 @@ pub struct PassSeat<T: Defers> {
 }
 
 impl<T: Defers> PassSeat<T> {
-    /// One more of this memory.
+    /// Makes one more of this memory.
     pub fn new(blocks: &Blocks<T, OfRows>) -> Self
         ensures { result.seat.base ≡ blocks.now.words.id.views_name }
     {
@@ -143,8 +143,8 @@ impl<'a, T: Defers> Caller<'a, T> {
         )
     }
 
-    /// A pass looks which word is at a root, within its section, which is open: the value of the block to which that links is lent for as long as the caller is
-    /// borrowed, whatever the pass does then.
+    /// Returns a pass looks which word is at a root, within its section, which is open: the value of the block to which that links is lent for as long as the
+    /// caller is borrowed, whatever the pass does then.
     pub fn protect_by<'g>(
         &'g self,
         _slot: u64,
@@ -163,7 +163,7 @@ impl<'a, T: Defers> Caller<'a, T> {
         self.finds_by(_slot, root, None, pass)
     }
 
-    /// The same, and it sets these bits of the tag of the word. It answers the word that was there before.
+    /// Returns the same, and it sets these bits of the tag of the word. It answers the word that was there before.
     pub fn mark_by<'g>(
         &'g self,
         _slot: u64,

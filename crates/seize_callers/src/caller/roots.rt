@@ -199,7 +199,7 @@ impl<'a, T: Defers> Caller<'a, T> {
         self.blocks.or(&mut self.seat, At::Root(root), bits)
     }
 
-    /// The value of a block that it has seen, for as long as it is borrowed: whoever retires the block meanwhile, its section holds it.
+    /// Returns the value of a block that it has seen, for as long as it is borrowed: whoever retires the block meanwhile, its section holds it.
     pub fn value(&self, _slot: u64, block: u64) -> &T
         requires seen { self.now.seat.view.knows ≡ Inside _slot (Seen block) }
         ensures { IsValueOf (NotedHolds T.defers self.now.blocks.now.words.fixed) self.now.seat.id self.now.seat.view block result.now }
@@ -207,7 +207,7 @@ impl<'a, T: Defers> Caller<'a, T> {
         self.blocks.value(&self.seat, block)
     }
 
-    /// The value of the block that it has made, for as long as it is borrowed.
+    /// Returns the value of the block that it has made, for as long as it is borrowed.
     pub fn own(&self, _slot: u64, block: u64) -> &T
         requires made { (value : T) × (self.now.seat.view.knows ≡ Inside _slot (Made block value)) }
         ensures { IsValueOf (NotedHolds T.defers self.now.blocks.now.words.fixed) self.now.seat.id self.now.seat.view block result.now }
@@ -216,7 +216,7 @@ impl<'a, T: Defers> Caller<'a, T> {
         self.blocks.value(seat, block)
     }
 
-    /// The value of the block that it has taken from a root, for as long as it is borrowed: others may look at it still, so it is only lent.
+    /// Returns the value of the block that it has taken from a root, for as long as it is borrowed: others may look at it still, so it is only lent.
     pub fn unlinked(&self, _slot: u64, block: u64) -> &T
         requires cut { self.now.seat.view.knows ≡ Inside _slot (Cut block) }
         ensures { IsValueOf (NotedHolds T.defers self.now.blocks.now.words.fixed) self.now.seat.id self.now.seat.view block result.now }

@@ -9,7 +9,7 @@ use seize_blocks::{Blocks, Seat};
 use seize_views::OfRows;
 use seize_views::turns::{Ceasing, Watching};
 
-/// A seat more.
+/// Makes a seat more.
 pub fn watcher<T: Defers>(blocks: &Blocks<T, OfRows>) -> Seat<T, OfRows>
     ensures base { result.base ≡ blocks.now.words.id.views_name }
     ensures rests { result.view.knows ≡ Rests }
@@ -18,7 +18,7 @@ pub fn watcher<T: Defers>(blocks: &Blocks<T, OfRows>) -> Seat<T, OfRows>
 }
 
 impl<'a, T: Defers> Caller<'a, T> {
-    /// A seat begins to watch its section, which is open.
+    /// Lets a seat begin to watch its section, which is open.
     pub fn admits(&mut self, _slot: u64, seat: &mut Seat<T, OfRows>)
         requires own { seat.old.base ≡ self.old.blocks.now.words.id.views_name }
         requires rests { seat.old.view.knows ≡ Rests }
@@ -33,7 +33,7 @@ impl<'a, T: Defers> Caller<'a, T> {
         self.blocks.meet::<Watching>(seat, &mut self.seat);
     }
 
-    /// A seat watches it no longer.
+    /// Lets a seat watch it no longer.
     pub fn excuses(&mut self, _slot: u64, seat: &mut Seat<T, OfRows>)
         requires own { seat.old.base ≡ self.old.blocks.now.words.id.views_name }
         requires watches { (block : ℕ) × (seat.old.view.knows ≡ Watches _slot block) }

@@ -129,7 +129,7 @@ impl<'a, K: Eq + Hash + Drop, V: Drop, S: Hashes<K>> MapCaller<'a, K, V, S> {
 }
 
 impl<'a, K: Eq, V, S: Hashes<K>> MapCaller<'a, K, V, S> {
-    /// The value of a block that it shows, for as long as it is borrowed.
+    /// Returns the value of a block that it shows, for as long as it is borrowed.
     pub fn pair(&self, block: u64) -> &Node<K, V>
         requires shown { IsSome (shown_in self.now.seat.view.held block) }
         ensures value { IsValueOf (Holds K.eq S.hash self.now.blocks.now.words.fixed) self.now.seat.id self.now.seat.view block result.now }

@@ -183,7 +183,7 @@ fn sends<'g, R: Wait, K: Eq + Hash, V, S: Hashes<K>>(
 }
 
 impl<'a, K: Eq, V, S: Hashes<K>> MapCaller<'a, K, V, S> {
-    /// A seat more of this memory, for passes.
+    /// Makes a seat more of this memory, for passes.
     pub fn pass(&self) -> MapPassSeat<K, V, S>
         ensures own { result.seat.base ≡ self.now.blocks.now.words.id.views_name }
         ensures none { result.seat.view.calls ≡ [] }
@@ -194,8 +194,8 @@ impl<'a, K: Eq, V, S: Hashes<K>> MapCaller<'a, K, V, S> {
 }
 
 impl<'a, K: Eq + Hash, V, S: Hashes<K>> MapCaller<'a, K, V, S> {
-    /// A pass looks this key up within its section, by this lookup, in the map that it knows: the value of the pair found is lent for as long as the caller is borrowed,
-    /// whatever the pass does then. How many steps it takes is up to the others.
+    /// Returns a pass looks this key up within its section, by this lookup, in the map that it knows: the value of the pair found is lent for as long as the
+    /// caller is borrowed, whatever the pass does then. How many steps it takes is up to the others.
     pub fn finds_by<'g, R: Wait>(
         &'g self,
         rt: &R,

@@ -8,7 +8,7 @@ use seize_blocks::{Blocks, Seat};
 use threads_rule::OfMaps;
 
 impl<'a, K: Eq, V, S: Hashes<K>> MapCaller<'a, K, V, S> {
-    /// The one of this seat.
+    /// Returns the one of this seat.
     pub fn of(blocks: &'a Blocks<Node<K, V>, OfMaps<S>>, seat: Seat<Node<K, V>, OfMaps<S>>) -> Self
         requires own { seat.base ≡ blocks.now.words.id.views_name }
         requires home { is_home seat.away ≡ true }
@@ -23,7 +23,7 @@ impl<'a, K: Eq, V, S: Hashes<K>> MapCaller<'a, K, V, S> {
         }
     }
 
-    /// Its seat.
+    /// Returns its seat.
     pub fn into_seat(self) -> Seat<Node<K, V>, OfMaps<S>>
         ensures own { result.base ≡ self.entry.blocks.now.words.id.views_name }
         ensures home { is_home result.away ≡ true }

@@ -14,7 +14,7 @@ use std::sync::Wait;
 use threads_callers::MapPassSeat;
 
 impl<'a, K: Eq, V, S: Hashes<K>> SessionBase<'a, K, V, S> {
-    /// A pass more, which may be sent to a thread.
+    /// Makes a pass more, which may be sent to a thread.
     pub fn pass(&self) -> MapPassSeat<K, V, S>
         ensures own { result.seat.base ≡ self.now.caller.blocks.now.words.id.views_name }
         ensures none { result.seat.view.calls ≡ [] }
@@ -24,7 +24,7 @@ impl<'a, K: Eq, V, S: Hashes<K>> SessionBase<'a, K, V, S> {
 }
 
 impl<'a, K: Eq + Hash, V, S: Hashes<K>> SessionBase<'a, K, V, S> {
-    /// A pass looks a key up within the section of the session's slot, and is lent the value of its pair, if the map has one: it is there for as long as the session is
+    /// Looks a key up by a pass, within the section of the session's slot, and lends the value of its pair, if the map has one: it is there for as long as the session is
     /// borrowed, whoever replaces or removes the pair meanwhile, and whatever the pass looks up then. Any number of passes may look keys up under one session at a time.
     pub fn find_by<'g, R: Wait>(
         &'g self,

@@ -12,7 +12,7 @@ use threads_callers::MapCaller;
 use threads_rule::OfMaps;
 
 impl<'a, K: Eq, V, S: Hashes<K>> SessionBase<'a, K, V, S> {
-    /// The one of this seat, which knows a map of this setting and this hasher.
+    /// Returns the one of this seat, which knows a map of this setting and this hasher.
     pub fn of(
         blocks: &'a Blocks<Node<K, V>, OfMaps<S>>,
         hasher: &'a S,
@@ -37,7 +37,7 @@ impl<'a, K: Eq, V, S: Hashes<K>> SessionBase<'a, K, V, S> {
         }
     }
 
-    /// Its seat, and what each call on the map works with, but for the slot.
+    /// Returns its seat, and what each call on the map works with, but for the slot.
     pub fn into_seat(self) -> (Seat<Node<K, V>, OfMaps<S>>, Setting)
         ensures own { result.0.base ≡ self.entry.caller.blocks.now.words.id.views_name }
         ensures home { is_home result.0.away ≡ true }

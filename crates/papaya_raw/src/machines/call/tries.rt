@@ -15,7 +15,7 @@ use map_tables::named::{Link, Memory};
 use map_tables::{Aim, Equivalent, Finding, Node, may_be, seen};
 use std::hash::Hash;
 
-/// Whether two nodes are pairs of one key.
+/// Returns whether two nodes are pairs of one key.
 pub fn is_same_key<K: Eq + Hash, V>(node: &Node<K, V>, other: &Node<K, V>) -> bool
     ensures { result ≡ have_one_key K.eq node.now other.now }
 {

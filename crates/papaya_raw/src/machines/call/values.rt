@@ -12,7 +12,7 @@ use map_tables::named::{Advance, Fault, Link, Memory, Settled, StepMachine};
 use map_tables::{Equivalent, Node, h2};
 use std::hash::Hash;
 
-/// The word that links to a block of this number, by a hash.
+/// Returns the word that links to a block of this number, by a hash.
 pub fn link_to(block: u64, hash: u64) -> u64
     ensures { result ≡ word_to block hash }
 {
