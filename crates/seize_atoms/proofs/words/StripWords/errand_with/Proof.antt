@@ -163,7 +163,7 @@ errand_with_spec 𝓤 𝓛 𝓜 𝓡 wired X P U F N Y LX LP LU LF LN LY g d g' 
     use1 𝓛 (raw (G.pre y')) (id⊢ 𝓤 (G.pre y')) $
     -- [what it asks for; what the lender has; how the new token ends; the pledge; what the words share]
     sets ! (addr ! (through ! refl (stop !))) refl (tt, tt) $ sets ! (of_opd ! (get ! refl)) refl got.2 $
-    calls_at ! (fm 𝓛 𝓜 𝓡) G (sent_is.met 𝓤 𝓛 𝓜 𝓡 (code.calls-seize_atoms::words::Words::charged 𝓡.env wired) X P U F N Y LX LP LU LF LN LY g d g' d' met met') y'
+    calls_at ! (fm 𝓛 𝓜 𝓡) G (sent_is.met 𝓤 𝓛 𝓜 𝓡 (code.calls-seize_atoms::words::StripWords::charged 𝓡.env wired) X P U F N Y LX LP LU LF LN LY g d g' d' met met') y'
     (and_then ! (get ! refl) (and_then ! (get ! refl) (and_then ! (get ! refl) (no_more !)))) (λ w.
     let Did : Y.Denot → Sr.Denot → Type 0 = λ r x. (x.base ≡ h₁.base) × (x.id ≡ h₁.id) × (x.away ≡ h₁.away) × g'.did e h₁.view r x.view in
     use1 𝓛 (later (items (λ (r : Y.Denot). ((‵ (flft κ qr) ⊛ ‵ (flft β u.1) ⊛ ‵ others) ⊛ ‵ (R₅.own_val r (w ∷ [])))
