@@ -7,7 +7,7 @@ use Rattle.run_names.proofs.Presence.Crowds.Guards.{forgotten, forgotten_all, fo
 use Rattle.run_names.proofs.Presence.Crowds.Homes.{here, here_alone, here_found, here_kept, stands_read, stands_within}
 use Rattle.run_names.proofs.Presence.Crowds.Kept.{absent_changed, absent_found, home_changed}
 use Rattle.run_names.proofs.Presence.Crowds.Weights.{counted_changed}
-use Rattle.run_names.proofs.crowd.Crowd+Guard.forget.Goals as goal
+use Rattle.run_names.proofs.crowd.Crowd+NamedGuard.forget.Goals as goal
 
 abbrev name_of : NamedGuard → List ℕ
 name_of g = g.name
