@@ -40,7 +40,7 @@ use Rattle.play_scheduler.proofs.Given.ScenesMay.{standing_is}
 use Rattle.run_executor.specs.Given.ScenesHeld.{Held, IsAt}
 use Rattle.play_scheduler.specs.Given.ScenesScene.{Scene}
 use Rattle.run_executor.specs.Given.ScenesStepping.{StepLeads}
-use Rattle.run_grows.proofs.Quiet.Sweeps.{walks_at}
+use Rattle.run_grows.proofs.Quiet.Sweeps.{retains_at, walks_at}
 
 module _ {K V : Type 0} where
   -- a clearing or a retaining, by what it says

@@ -13,7 +13,6 @@ use Rattle.run_executor.specs.Given.FinishesMaps.{Standing}
 use Rattle.run_executor.specs.Given.ScenesScene.{Scene, slot_of}
 use Rattle.run_grows.specs.Given.SweepsSweepPoints.{next_at}
 use Rattle.run_grows.specs.Given.ReservesDeclared.sweep.Sweep.{Sweep}
-use Rattle.run_grows.specs.Given.ReservesDeclared.sweep.Sweeping.TheVariants as sweeping
 use Rattle.run_grows.specs.Given.ShardsAdds.{adds_in_sweeping}
 
 -- what a sweep knows where it stands, if it stands in no row
@@ -36,10 +35,10 @@ module _ {K V : Type 0} (same : K → K → Bool) (s : Scene K V) (map i : ℕ) 
   walks_at is = (knows_at at.Ready (λ row. row) is).0
 
 -- where one goes on otherwise, or is under way no more, what it is about to add is what it was
-pub not_ready : (q : Bool) (removed : ℕ) → adds_in_sweeping (if q then sweeping.Words else sweeping.Over) ≡ Some removed → ⊥
+pub not_ready : (q : Bool) (removed : ℕ) → adds_in_sweeping (if q then at.Words else at.Over) ≡ Some removed → ⊥
 not_ready true removed adds = absurd (cc adds)
 not_ready false removed adds = absurd (cc adds)
 
 pub adds_next : (p : Sweeping) (c : Sweep) (removed : ℕ) → c.stands ≡ p → adds_in_sweeping (next_at p c).stands ≡ Some removed → adds_in_sweeping c.stands ≡ Some removed
-adds_next sweeping.Ready c removed is adds = absurd (not_ready (nat_lt c.place c.table.len) removed adds)
+adds_next at.Ready c removed is adds = absurd (not_ready (nat_lt c.place c.table.len) removed adds)
 adds_next _ c removed is adds = adds
