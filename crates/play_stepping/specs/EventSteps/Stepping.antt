@@ -52,7 +52,7 @@ use Rattle.play_scheduler.specs.declared.scheduler.Scheduler.{Scheduler}
 use Rattle.run_executor.specs.Executing.IsThere.{IsThere, KeepsGiven}
 use Rattle.run_executor.specs.Executing.Replying.{AsksThere}
 use Rattle.play_scheduler.specs.Given.ScenesScene.{HasCall, Scene}
-use Rattle.run_grows.specs.Says.{outcome_of}
+use Rattle.run_grows.specs.Says.{callers_then, outcome_of}
 
 -- for what a call on one key is refused, which is no lookup: for room, or, of `compute`, for removing what is not there
 abbrev pub IsFaultOn : {K V : Type 0} → OneKey K V → Fault → Type 0
