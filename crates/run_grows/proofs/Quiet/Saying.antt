@@ -34,6 +34,18 @@ use Rattle.run_logged.specs.Given.HistoriesAsking.{IsToldQuestion}
 use Rattle.run_grows.specs.Given.RunsDeclared.outcome.Outcome.TheVariants.{Refused}
 use Rattle.run_grows.specs.Given.FollowsCalling.{told}
 
+-- a question that has words is told by the number of its pair
+pub told_by : (by : Known) (about question : Option ℕ) → IsToldQuestion by about question → IsToldQuestion by about (option_map (number_by by) about)
+told_by by None None told = tt
+told_by by None (Some n) told = absurd told
+told_by by (Some word) None told = absurd told
+told_by by (Some word) (Some n) told = told ∙ ap role.Pair (sym (ap number_in told))
+
+-- what a retaining asks about is the pair of its word
+pub about_pair : (known : Known) (word : ℕ) (question : Option ℕ) → IsToldQuestion known (Some word) question → (q : ℕ) × (question ≡ Some q) × NamesPair known word q
+about_pair known word (Some q) told = (q, refl, told)
+about_pair known word None told = absurd told
+
 -- what is stored is the reply's value, and else nothing is meant
 module _ {V : Type 0} where
   puts_is : (reply : Option (Reply V)) (b a : Response V) (v : V) → puts_reply reply b ≡ Answers a (Puts v) → a ≡ b
@@ -232,7 +244,7 @@ module _ {K V : Type 0} (by : Known) (value : Option V) (replies : List (Option 
       → ComesToIt by one replies said (outcome_of by (kind_on one) value said)
   key_comes one (progress.Done (answers.Key it)) (outcome.Answered a) so tells =
       subst (λ (x : Response V). IsToldAs by one replies it x ⊎ IsToldDone by one replies it x) (means_it one it a so (tells it refl)) so
-  key_comes one (progress.Asks about) (outcome.Asks question) so tells = question_is by about question so
+  key_comes one (progress.Asks about) (outcome.Asks question) so tells = told_by by about question so
   key_comes one progress.Goes o so tells = tt
   key_comes one progress.Waits o so tells = tt
   key_comes one (progress.Gave node) o so tells = tt
@@ -241,7 +253,7 @@ module _ {K V : Type 0} (by : Known) (value : Option V) (replies : List (Option 
   key_comes one _ _ so tells = absurd so
 
   other_comes : (call : Call K V) (said : Progress (Node K V)) (o : Outcome V) → AsksAsSaid by said o → AsksAsSaid by said (outcome_of by (kind_of call) value said)
-  other_comes call (progress.Asks about) (outcome.Asks question) so = question_is by about question so
+  other_comes call (progress.Asks about) (outcome.Asks question) so = told_by by about question so
   other_comes call progress.Goes o so = tt
   other_comes call progress.Waits o so = tt
   other_comes call (progress.Gave node) o so = tt
@@ -261,15 +273,3 @@ module _ {K V : Type 0} (by : Known) (value : Option V) (replies : List (Option 
   comes_so Retain said o so tells = other_comes Retain said o so
   comes_so Len said o so tells = other_comes Len said o so
   comes_so Walk said o so tells = other_comes Walk said o so
-
--- a question that has words is told by the number of its pair
-pub told_by : (by : Known) (about question : Option ℕ) → IsToldQuestion by about question → IsToldQuestion by about (option_map (number_by by) about)
-told_by by None None told = tt
-told_by by None (Some n) told = absurd told
-told_by by (Some word) None told = absurd told
-told_by by (Some word) (Some n) told = told ∙ ap role.Pair (sym (ap number_in told))
-
--- what a retaining asks about is the pair of its word
-pub about_pair : (known : Known) (word : ℕ) (question : Option ℕ) → IsToldQuestion known (Some word) question → (q : ℕ) × (question ≡ Some q) × NamesPair known word q
-about_pair known word (Some q) told = (q, refl, told)
-about_pair known word None told = absurd told
