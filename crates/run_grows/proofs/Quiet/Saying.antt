@@ -27,12 +27,8 @@ use Rattle.run_logged.specs.Given.HistoriesOtherMidsts.{AsksAsSaid}
 use Rattle.run_executor.specs.Named.Seen.{kind_of, kind_on}
 use Rattle.run_executor.specs.Named.Telling.{aborted_with, answer_on, number_by, number_in, occupied_by}
 use Rattle.run_grows.specs.Says.{outcome_of}
-use Rattle.papaya_raw.specs.Given.ReservesDeclared.reserve.Reserve.{Reserve}
-use Rattle.run_schedules.specs.declared.outcome.Outcome.TheVariants.{Asks}
 use Rattle.run_executor.specs.Given.EffectsDeclared.role.Role.TheVariants as role
 use Rattle.run_logged.specs.Given.HistoriesAsking.{IsToldQuestion}
-use Rattle.run_grows.specs.Given.RunsDeclared.outcome.Outcome.TheVariants.{Refused}
-use Rattle.run_grows.specs.Given.FollowsCalling.{told}
 
 -- a question that has words is told by the number of its pair
 pub told_by : (by : Known) (about question : Option ℕ) → IsToldQuestion by about question → IsToldQuestion by about (option_map (number_by by) about)
