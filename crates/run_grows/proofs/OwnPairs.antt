@@ -1,6 +1,6 @@
 -- Each pair that is in a map is the one of its class there.
 use Rattle.std.specs.Prelude.{◌≡◌, ℕ, Bool, true, List, Some}
-use Rattle.std.proofs.Common.{refl, ap, sym, ◌∙◌}
+use Rattle.std.proofs.Common.{ap, sym, ◌∙◌}
 use Rattle.run_grows.specs.Given.RunsLog.{pair_at}
 use Rattle.run_grows.specs.Given.SchedulesMoment.{Moment, Place}
 use Rattle.run_grows.specs.Given.SchedulesViews.{finite_map, is_in_map}
