@@ -1,5 +1,5 @@
 -- A seat of maps that has nothing but a row under way, as its notes have it, and who has come to rest.
-use Rattle.std.specs.Prelude.{List, Option, Some, None, Result, Ok, Err, IfOk, IfErr}
+use Rattle.std.specs.Prelude.{◌<◌, List, Option, Some, None, Result, Ok, Err, IfOk, IfErr}
 use Rattle.std.proofs.Common.{◌≡◌, ℕ, Bool, sym, subst, ap, ◌∙◌}
 use Rattle.seize_words.specs.declared.fault.Fault.{Fault}
 use Rattle.seize_views.specs.Views.Rows.{IsAtRest}
@@ -49,11 +49,11 @@ module _ {K V S : Type 0} where
 
   -- what the notes say of who has looked for a slot
   abbrev pub Noted : View K V S → Result ℕ Fault → Type 0
-  Noted w answer = IfOk answer (λ slot. (notes_of w).knows ≡ Outside slot) × IfErr answer (λ fault. (notes_of w).knows ≡ Rests)
+  Noted w answer = IfOk answer (λ slot. ((notes_of w).knows ≡ Outside slot) × (slot < 65536)) × IfErr answer (λ fault. (notes_of w).knows ≡ Rests)
 
   -- who has found a slot has it, and who has found none has none
   pub took : (w : View K V S) (answer : Result ℕ Fault) (slot : ℕ) → answer ≡ Ok slot → Noted w answer → (w.under ≡ None) × (w.work ≡ Nothing) × (w.slot ≡ Outside slot)
-  took w answer slot e is = knows_free w (Outside slot) tt (subst (λ (r : Result ℕ Fault). Noted w r) e is).0
+  took w answer slot e is = knows_free w (Outside slot) tt (subst (λ (r : Result ℕ Fault). Noted w r) e is).0.0
 
   -- who has made a map, or was refused, rests
   pub rests_after : (hasher : S) (opening : NewMap) (answer : Result Setting Fault) (v w : View K V S) → v.under ≡ None → v.slot ≡ Rests → CameTo hasher opening answer v w → IsResting w
