@@ -19,14 +19,13 @@ use Rattle.play_events.specs.Given.ExecutorDeclared.kind.CallKind.{CallKind}
 use Rattle.play_events.specs.Given.NamedTelling.{kept, number_by}
 use Rattle.play_events.specs.Given.PlayedPlay.{Calling, State, call_stepped, going, keeps}
 use Rattle.play_events.specs.Given.PlayedPlay as play
-use Rattle.play_events.specs.Given.Says.{caller_then, callers_then}
-use Rattle.play_events.specs.Given.SteppingStepping as stepping
+use Rattle.play_events.specs.Given.Says.{caller_then, callers_then, outcome_of}
 use Rattle.play_events.specs.Given.GroupedGrouping.{Names}
 use Rattle.play_events.specs.Given.GroupedCalled.{CallersAre, IsCalledAs}
 use Rattle.play_events.proofs.Given.GroupedCallers.{call_beside, call_here, remove_one, removed_count, set_count, set_one}
 
 -- what a step says is the same outcome in both words
-pub same_outcome : {K V : Type 0} (by : Known) (its : CallKind) (value : Option V) (said : Progress (Node K V)) → play.outcome_of by its value said ≡ stepping.outcome_of by its value said
+pub same_outcome : {K V : Type 0} (by : Known) (its : CallKind) (value : Option V) (said : Progress (Node K V)) → play.outcome_of by its value said ≡ outcome_of by its value said
 same_outcome by its value progress.Goes = refl
 same_outcome by its value (progress.Gave node) = refl
 same_outcome by its value (progress.Unstored node) = refl
