@@ -1,5 +1,7 @@
 //! Two threads give a block that each has made one value after the other, and then put it at the root, beside one who takes away what is there: each value that
 //! is replaced comes back, and each one is dropped once.
+ghost use Rattle.std.specs.Prelude.{◌≡◌};
+
 use crate::bringing::{publishes, sweeps};
 use crate::crowd::TIMES;
 use crate::{Counted, DropCounts, all_are, dropped, opened, table};
