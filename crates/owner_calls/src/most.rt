@@ -12,5 +12,5 @@ pub(crate) struct Most<T, A, M: StepMachine<T, Progress = Advance<A>>> {
     pub(crate) machine: Snapshot<M>,
     pub(crate) memory: Snapshot<Plain<T>>,
     pub(crate) answers: PhantomData<A>,
-    ghost least: { HasLeast (λ n. within M.Machine.plan n machine.value memory.value) } by { has_least_prop (λ n. within M.Machine.plan n machine.value memory.value) },
+    ghost least: { HasLeast (λ n. within M.StepMachine.plan n machine.value memory.value) } by { has_least_prop (λ n. within M.StepMachine.plan n machine.value memory.value) },
 }

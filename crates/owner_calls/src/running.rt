@@ -14,7 +14,7 @@ fn most<T, A, M: StepMachine<T, Progress = Advance<A>>>(
     machine: &M,
     memory: &Plain<T>,
 ) -> Most<T, A, M>
-    requires { Ends M.Machine.plan machine.now memory.now }
+    requires { Ends M.StepMachine.plan machine.now memory.now }
     ensures machine { result.machine.value ≡ machine.now }
     ensures memory { result.memory.value ≡ memory.now }
 {
@@ -32,8 +32,8 @@ pub fn run<T, A, M: StepMachine<T, Progress = Advance<A>>>(
     machine: &mut M,
     memory: &mut Plain<T>,
 ) -> Result<A, Fault>
-    requires { Ends M.Machine.plan machine.old memory.old }
-    ensures { RunsTo M.Machine.plan machine.old memory.old machine.new memory.new result }
+    requires { Ends M.StepMachine.plan machine.old memory.old }
+    ensures { RunsTo M.StepMachine.plan machine.old memory.old machine.new memory.new result }
 {
     let mut left = most(machine, memory);
     loop {
@@ -51,8 +51,8 @@ pub fn run_skimming<T, A, M: StepMachine<T, Progress = Advance<A>> + Skims<T, A>
     machine: &mut M,
     memory: &mut Plain<T>,
 ) -> Result<A, Fault>
-    requires { Ends M.Machine.plan machine.old memory.old }
-    ensures { RunsTo M.Machine.plan machine.old memory.old machine.new memory.new result }
+    requires { Ends M.StepMachine.plan machine.old memory.old }
+    ensures { RunsTo M.StepMachine.plan machine.old memory.old machine.new memory.new result }
 {
     let mut left = most(machine, memory);
     loop {

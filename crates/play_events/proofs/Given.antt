@@ -24,15 +24,8 @@ pub use Rattle.play_lists.proofs.Played.Tied as PlayedTied
 pub use Rattle.play_stepping.proofs.Given.CallersTogether
 pub use Rattle.play_stepping.proofs.Given.ChangesFound
 pub use Rattle.play_stepping.proofs.Given.ExecutorFresh
-pub use Rattle.play_stepping.proofs.Given.GrowsFinding
-pub use Rattle.play_stepping.proofs.Given.GrowsTries
-pub use Rattle.play_stepping.proofs.Given.LateKindsKept
 pub use Rattle.play_stepping.proofs.Given.MomentsNewMaps
 pub use Rattle.play_stepping.proofs.Given.MomentsNumbers
-pub use Rattle.play_stepping.proofs.Given.NamedCalled
-pub use Rattle.play_stepping.proofs.Given.NeedsMakings
-pub use Rattle.play_stepping.proofs.Given.NeedsSteps
-pub use Rattle.play_stepping.proofs.Given.NeedsTablesMade
 pub use Rattle.play_stepping.proofs.Given.PointsLawful
 pub use Rattle.play_stepping.proofs.Given.PointsMaking
 pub use Rattle.play_stepping.proofs.Given.SchedulerBegins
@@ -49,33 +42,22 @@ pub use Rattle.play_stepping.proofs.Given.SchedulerRights
 pub use Rattle.play_stepping.proofs.Given.SchedulerSlotTaken
 pub use Rattle.play_stepping.proofs.Given.SchedulerStopped
 pub use Rattle.play_stepping.proofs.Given.SchedulerUnregisters
-pub use Rattle.play_stepping.proofs.Given.SourcesSteps
 pub use Rattle.play_stepping.proofs.Given.SpotsUnreclaimed
 pub use Rattle.play_stepping.proofs.Mapping.AllGiven as MappingAllGiven
 pub use Rattle.play_stepping.proofs.Mapping.MapLists as MappingMapLists
 pub use Rattle.play_stepping.proofs.Mapping.MapsEnded as MappingMapsEnded
 pub use Rattle.run_kept.proofs.Given.FollowsCalls
 pub use Rattle.run_kept.proofs.Given.FollowsContents
-pub use Rattle.run_kept.proofs.Given.OthersLeads
 pub use Rattle.run_kept.proofs.Given.OwesCalls
-pub use Rattle.run_kept.proofs.Given.OwesLooking
 pub use Rattle.run_kept.proofs.Given.ReclaimsLeft
 pub use Rattle.run_kept.proofs.Given.RemainsNumbered
-pub use Rattle.run_kept.proofs.Given.RemainsSlots
 pub use Rattle.run_kept.proofs.Given.ScenesNoCall
 pub use Rattle.run_kept.proofs.Given.ScenesTold
-pub use Rattle.run_kept.proofs.Given.SettlesHand
 pub use Rattle.run_kept.proofs.Models.Turns as ModelsTurns
 pub use Rattle.run_kept.proofs.Sheds.Held as ShedsHeld
 pub use Rattle.run_kept.proofs.Sheds.KeptGiven as ShedsKeptGiven
 pub use Rattle.run_legal.proofs.Begin as LegalBegin
-pub use Rattle.run_legal.proofs.CallFinds as LegalCallFinds
 pub use Rattle.run_legal.proofs.Come as LegalCome
-pub use Rattle.run_legal.proofs.Found as LegalFound
-pub use Rattle.run_legal.proofs.Growths as LegalGrowths
 pub use Rattle.run_legal.proofs.Legal as LegalLegal
-pub use Rattle.run_legal.proofs.Maps as LegalMaps
-pub use Rattle.run_legal.proofs.OfAll as LegalOfAll
-pub use Rattle.run_legal.proofs.Sourced as LegalSourced
 pub use Rattle.seize_acts.proofs.Acts.Answers as SeizeActsAnswers
 pub use Rattle.seize_acts.proofs.Given.SeizeEndsBatches

@@ -26,7 +26,6 @@ pub use Rattle.play_lists.specs.Grouped.Reach as GroupedReach
 pub use Rattle.play_lists.specs.Played.Play as PlayedPlay
 pub use Rattle.play_lists.specs.Played.Reached as PlayedReached
 pub use Rattle.play_stepping.specs.EventSteps.Stepping as SteppingStepping
-pub use Rattle.play_stepping.specs.Given.CallersOverAll
 pub use Rattle.play_stepping.specs.Given.CallersRows
 pub use Rattle.play_stepping.specs.Given.CallersTogether
 pub use Rattle.play_stepping.specs.Given.ExecutorContracts
@@ -34,24 +33,16 @@ pub use Rattle.play_stepping.specs.Given.ExecutorDeclared
 pub use Rattle.play_stepping.specs.Given.ExecutorIsThere
 pub use Rattle.play_stepping.specs.Given.ExecutorOnSlots
 pub use Rattle.play_stepping.specs.Given.ExecutorReplying
-pub use Rattle.play_stepping.specs.Given.GrowsCopiers
-pub use Rattle.play_stepping.specs.Given.GrowsFinding
-pub use Rattle.play_stepping.specs.Given.GrowsNexts
-pub use Rattle.play_stepping.specs.Given.GrowsTries
 pub use Rattle.play_stepping.specs.Given.HandsAsked
-pub use Rattle.play_stepping.specs.Given.LateFaults
 pub use Rattle.play_stepping.specs.Given.MomentsNumbers
 pub use Rattle.play_stepping.specs.Given.NamedMachines
 pub use Rattle.play_stepping.specs.Given.NamedPlaces
 pub use Rattle.play_stepping.specs.Given.NamedRoll
 pub use Rattle.play_stepping.specs.Given.NamedSeen
 pub use Rattle.play_stepping.specs.Given.NamedTelling
-pub use Rattle.play_stepping.specs.Given.NeedsFirsts
-pub use Rattle.play_stepping.specs.Given.NeedsMakings
-pub use Rattle.play_stepping.specs.Given.PointsFactsCalls
 pub use Rattle.play_stepping.specs.Given.PointsSteps
-pub use Rattle.play_stepping.specs.Given.PurposesPurposes
 pub use Rattle.play_stepping.specs.Given.ReclaimingReclaiming
+pub use Rattle.play_stepping.specs.Given.Says
 pub use Rattle.play_stepping.specs.Given.SchedulerAllWorks
 pub use Rattle.play_stepping.specs.Given.SchedulerBack
 pub use Rattle.play_stepping.specs.Given.SchedulerContracts
@@ -63,15 +54,10 @@ pub use Rattle.play_stepping.specs.Given.SchedulerPlayed
 pub use Rattle.play_stepping.specs.Given.SchedulerQuiet
 pub use Rattle.play_stepping.specs.Given.SchedulerReclaiming
 pub use Rattle.play_stepping.specs.Given.SchedulerWorks
-pub use Rattle.play_stepping.specs.Given.SourcesSources
-pub use Rattle.play_stepping.specs.Given.SourcesStays
 pub use Rattle.play_stepping.specs.Given.SpotsUnreclaimed
 pub use Rattle.run_kept.specs.Given.FinishesMachines
 pub use Rattle.run_kept.specs.Given.FinishesMakings
 pub use Rattle.run_kept.specs.Given.FinishesMaps
-pub use Rattle.run_kept.specs.Given.OwesLooking
-pub use Rattle.run_kept.specs.Given.OwesMaking
-pub use Rattle.run_kept.specs.Given.OwesTables
 pub use Rattle.run_kept.specs.Given.ScenesContracts
 pub use Rattle.run_kept.specs.Given.ScenesDeclared
 pub use Rattle.run_kept.specs.Given.ScenesOnSlots
@@ -79,8 +65,5 @@ pub use Rattle.run_kept.specs.Given.ScenesReplying
 pub use Rattle.run_kept.specs.Given.ScenesRows
 pub use Rattle.run_kept.specs.Given.ScenesScene
 pub use Rattle.run_kept.specs.Given.ScenesStepping
-pub use Rattle.run_kept.specs.Given.SettlesHand
 pub use Rattle.run_kept.specs.Models.Turns as ModelsTurns
-pub use Rattle.run_legal.specs.AllEvents as LegalAllEvents
-pub use Rattle.run_legal.specs.MapEvents as LegalMapEvents
 pub use Rattle.seize_acts.specs.Acts.Answers as SeizeActsAnswers

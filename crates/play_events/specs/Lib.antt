@@ -1,5 +1,3 @@
 pub mod Folded
-pub mod Works
 pub mod Events
-pub mod EachMoves
 pub mod Given

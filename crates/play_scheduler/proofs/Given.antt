@@ -15,6 +15,7 @@ pub use Rattle.run_logged.proofs.Given.RemainsStays
 pub use Rattle.run_logged.proofs.Given.SettlesPassed
 pub use Rattle.run_logged.proofs.Given.ShedsKeptGiven
 pub use Rattle.run_logged.proofs.Log.Counted as LoggedCounted
+pub use Rattle.run_logged.proofs.Log.Kinds as LogKinds
 pub use Rattle.run_logged.proofs.Rows.Elsewhere as RowsElsewhere
 pub use Rattle.run_logged.proofs.Rows.Facts as RowsFacts
 pub use Rattle.run_logged.proofs.Rows.Holders as RowsHolders

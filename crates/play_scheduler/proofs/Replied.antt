@@ -4,16 +4,10 @@ use Rattle.std.specs.List.{AllByRecursion, list_any}
 use Rattle.std.proofs.Common.{refl, sym, ap, subst, ◌∙◌, inl, inr}
 use Rattle.std.proofs.lemmas.Bool.{cases_eq}
 use Rattle.seize_words.specs.declared.fault.Fault.TheVariants.{Busy}
-use Rattle.papaya_raw.specs.Given.TablesDeclared.node.Node.{Node}
-use Rattle.seize_words.specs.OneMemory.Mem.{Mem}
-use Rattle.map_straight.specs.Given.RuleChart.{Chart}
-use Rattle.map_straight.specs.Given.RuleWords.{Blocks}
-use Rattle.run_shows.specs.Given.PointsFactsCalls.{Change}
 use Rattle.papaya_raw.specs.Given.SweepsSweepPoints.{reply_at}
 use Rattle.papaya_raw.specs.Given.ReservesDeclared.sweep.Sweep.{Sweep}
 use Rattle.papaya_raw.specs.Given.ReservesDeclared.sweep.Sweeping.{Sweeping}
 use Rattle.papaya_raw.specs.Given.ReservesDeclared.sweep.Sweeping.TheVariants as sweeping
-use Rattle.papaya_raw.specs.declared.machines.call.KeyCall.{KeyCall}
 use Rattle.papaya_raw.specs.declared.machines.machine.Machine.TheVariants as kinds
 use Rattle.papaya_raw.specs.declared.machines.asking.MachineReply.TheVariants as machine_reply
 use Rattle.papaya_raw.specs.Machine.{machine_replied, sweep_told}
@@ -39,7 +33,7 @@ use Rattle.run_schedules.specs.Schedules.Entry.{Entry}
 use Rattle.run_schedules.specs.Schedules.Moment.{Stands, Going, Asking as Asks, Told, IsReady, UnderWay as CallThere, Moment}
 use Rattle.run_schedules.specs.Schedules.Terms.{Terms}
 use Rattle.run_schedules.specs.Schedules.Views.{call_of}
-use Rattle.run_shows.specs.Given.CallersPairs.{Given, Begun, IsTold, KeepsGiven, IsOfKind, kind_of as kind_given}
+use Rattle.run_shows.specs.Given.CallersPairs.{Given, kind_of as kind_given}
 use Rattle.run_shows.specs.Given.CallersSights.{seen_by}
 use Rattle.run_shows.specs.Given.CallersTogether.{CallOnKey, UnderWay, OnKey, ForRoom, Counting, OverAll, Together, Stands as TogetherStands}
 use Rattle.run_shows.proofs.Given.CallersTogether.At.{at_other, at_same}
@@ -76,12 +70,7 @@ use Rattle.run_executor.specs.Executing.Replying.{RepliesThere}
 use Rattle.run_shows.proofs.Scenes.May.{standing_is}
 use Rattle.run_shows.specs.Scenes.Replying.{scene_with}
 use Rattle.run_shows.specs.Scenes.Scene.{HasCall, Scene, slot_of}
-
--- What a call on a key was begun with, and told since, says of which kind it is.
-pub of_kind : {K V : Type 0} (hash : K → ℕ) (m : Mem (Node K V)) (c : Chart K) (blocks : Blocks) (keys : K → Bool) (pair : Given K V) (change : Change) (p : KeyCall K V K) (stands : Calling)
-    → KeepsGiven hash m c blocks keys pair change p stands → IsOfKind (kind_given pair) p stands
-of_kind hash m c blocks keys (Begun kind pair) change p stands kept = kept.2
-of_kind hash m c blocks keys (IsTold kind its asked) change p stands kept = kept.2
+use Rattle.run_logged.proofs.Log.Kinds.{of_kind}
 
 module _ {K V : Type 0} where
   -- a reply fits a call just where it fits what is seen of it

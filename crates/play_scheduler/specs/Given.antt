@@ -4,8 +4,6 @@ pub use Rattle.map_straight.specs.Given.RuleMaps
 pub use Rattle.map_straight.specs.Given.RuleWords
 pub use Rattle.map_straight.specs.Shown.Shown as ShownShown
 pub use Rattle.run_logged.specs.Given.HistoriesAsking
-pub use Rattle.run_logged.specs.Given.HistoriesEvents
-pub use Rattle.run_logged.specs.Given.HistoriesOtherMidsts
 pub use Rattle.run_logged.specs.Given.KeptEnds
 pub use Rattle.run_logged.specs.Given.OwesLooking
 pub use Rattle.run_logged.specs.Given.RemainsNumbered

@@ -1,7 +1,5 @@
 -- What is so by the crates below, given on to the crates above: these list this crate in place of those.
 pub use Rattle.owner_whole.proofs.Given.CallersTogether
-pub use Rattle.owner_whole.proofs.Given.LateKindsKept
-pub use Rattle.owner_whole.proofs.Given.PointsCalls
 pub use Rattle.owner_whole.proofs.Given.PointsLawful
 pub use Rattle.owner_whole.proofs.Given.PointsMaking
 pub use Rattle.play_scheduler.proofs.Begins as SchedulerBegins
@@ -30,45 +28,23 @@ pub use Rattle.run_executor.proofs.Given.ChangesFound
 pub use Rattle.run_executor.proofs.Given.ChangesLogs
 pub use Rattle.run_executor.proofs.Given.HandsAsking
 pub use Rattle.run_executor.proofs.Given.HandsCalling
-pub use Rattle.run_executor.proofs.Given.HandsReplacing
 pub use Rattle.run_executor.proofs.Given.MomentsAfter
-pub use Rattle.run_executor.proofs.Given.MomentsCalls
-pub use Rattle.run_executor.proofs.Given.MomentsEnds
-pub use Rattle.run_executor.proofs.Given.MomentsMakingSteps
-pub use Rattle.run_executor.proofs.Given.MomentsMapsCome
 pub use Rattle.run_executor.proofs.Given.MomentsNewMaps
 pub use Rattle.run_executor.proofs.Given.MomentsNumbers
-pub use Rattle.run_executor.proofs.Given.MomentsOnSlots
-pub use Rattle.run_executor.proofs.Given.MomentsOver
-pub use Rattle.run_executor.proofs.Given.MomentsWalks
 pub use Rattle.run_executor.proofs.Given.SpotsUnreclaimed
 pub use Rattle.run_executor.proofs.Named.Called as NamedCalled
-pub use Rattle.run_grows.proofs.Given.PurposesBetween
-pub use Rattle.run_grows.proofs.Given.PurposesElsewhere
-pub use Rattle.run_grows.proofs.Given.PurposesFindsRoom
-pub use Rattle.run_grows.proofs.Given.PurposesKept
 pub use Rattle.run_grows.proofs.Given.PurposesNothing
-pub use Rattle.run_grows.proofs.Given.PurposesShardsRead
-pub use Rattle.run_grows.proofs.Given.PurposesShows
-pub use Rattle.run_grows.proofs.Given.PurposesShowsAll
-pub use Rattle.run_grows.proofs.Given.PurposesStored
-pub use Rattle.run_grows.proofs.Given.PurposesSwept
-pub use Rattle.run_grows.proofs.Given.PurposesTold
 pub use Rattle.run_grows.proofs.Given.PurposesWalkWords
-pub use Rattle.run_grows.proofs.Given.PurposesWalks
-pub use Rattle.run_grows.proofs.Given.SourcesSteps
 pub use Rattle.run_grows.proofs.Grows.Finding as GrowsFinding
 pub use Rattle.run_grows.proofs.Grows.Limits as GrowsLimits
 pub use Rattle.run_grows.proofs.Grows.Tries as GrowsTries
 pub use Rattle.run_grows.proofs.Needs.Ends as NeedsEnds
 pub use Rattle.run_grows.proofs.Needs.Firsts as NeedsFirsts
-pub use Rattle.run_grows.proofs.Needs.Flushes as NeedsFlushes
 pub use Rattle.run_grows.proofs.Needs.Makings as NeedsMakings
 pub use Rattle.run_grows.proofs.Needs.Refusals as NeedsRefusals
-pub use Rattle.run_grows.proofs.Needs.Registering as NeedsRegistering
-pub use Rattle.run_grows.proofs.Needs.Steps as NeedsSteps
 pub use Rattle.run_grows.proofs.Needs.TablesMade as NeedsTablesMade
 pub use Rattle.run_grows.proofs.Quiet.AfterEffects as QuietAfterEffects
-pub use Rattle.run_grows.proofs.Quiet.RoomSays as QuietRoomSays
+pub use Rattle.run_grows.proofs.Quiet.Saying as QuietSaying
+pub use Rattle.run_grows.proofs.Quiet.Sweeps as QuietSweeps
 pub use Rattle.seize_words.proofs.General
 pub use Rattle.seize_words.proofs.OneMemory.Places as SeizeWordsPlaces

@@ -1,4 +1,3 @@
 pub mod Mapping
 pub mod EventSteps
-pub mod SaysSo
 pub mod Given

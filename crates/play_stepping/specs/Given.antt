@@ -1,38 +1,13 @@
 -- The words of the crates below, given on to the crates above: these list this crate in place of those.
-pub use Rattle.owner_whole.specs.Given.CallersAsked
 pub use Rattle.owner_whole.specs.Given.CallersOverAll
-pub use Rattle.owner_whole.specs.Given.CallersPairs
 pub use Rattle.owner_whole.specs.Given.CallersRooms
 pub use Rattle.owner_whole.specs.Given.CallersRows
-pub use Rattle.owner_whole.specs.Given.CallersSights
 pub use Rattle.owner_whole.specs.Given.CallersTogether
-pub use Rattle.owner_whole.specs.Given.LateFaults
-pub use Rattle.owner_whole.specs.Given.LateKinds
-pub use Rattle.owner_whole.specs.Given.LateToldSweeps
-pub use Rattle.owner_whole.specs.Given.PointsFactsCalls
 pub use Rattle.owner_whole.specs.Given.PointsSteps
-pub use Rattle.owner_whole.specs.Given.PointsTold
 pub use Rattle.owner_whole.specs.Given.ResizeDeclared
-pub use Rattle.owner_whole.specs.Given.ResizeNewMap
-pub use Rattle.owner_whole.specs.Given.ResizeNewTable
-pub use Rattle.owner_whole.specs.Given.ResizeSum
-pub use Rattle.papaya_raw.specs.Answers as RawAnswers
-pub use Rattle.papaya_raw.specs.Call as RawCall
-pub use Rattle.papaya_raw.specs.CallAsks as RawCallAsks
-pub use Rattle.papaya_raw.specs.CallFills as RawCallFills
-pub use Rattle.papaya_raw.specs.CallPoints as RawCallPoints
-pub use Rattle.papaya_raw.specs.EndMap as RawEndMap
-pub use Rattle.papaya_raw.specs.Given.ReservesReserve
-pub use Rattle.papaya_raw.specs.Given.ResizeCopier
-pub use Rattle.papaya_raw.specs.Given.ResizeCopierStates
-pub use Rattle.papaya_raw.specs.Given.ResizeDispose
-pub use Rattle.papaya_raw.specs.Given.ResizeLookup
 pub use Rattle.papaya_raw.specs.Given.ReservesDeclared
-pub use Rattle.papaya_raw.specs.Given.SweepsSweep
 pub use Rattle.papaya_raw.specs.Given.SweepsSweepPoints
 pub use Rattle.papaya_raw.specs.Machine as RawMachine
-pub use Rattle.papaya_raw.specs.Progress as RawProgress
-pub use Rattle.papaya_raw.specs.Replies as RawReplies
 pub use Rattle.papaya_raw.specs.declared as RawDeclared
 pub use Rattle.play_scheduler.specs.AllWorks as SchedulerAllWorks
 pub use Rattle.play_scheduler.specs.Back as SchedulerBack
@@ -52,9 +27,7 @@ pub use Rattle.run_executor.specs.Executing.MakingBegins as ExecutorMakingBegins
 pub use Rattle.run_executor.specs.Executing.OnSlots as ExecutorOnSlots
 pub use Rattle.run_executor.specs.Executing.Replying as ExecutorReplying
 pub use Rattle.run_executor.specs.Given.ChangesChanges
-pub use Rattle.run_executor.specs.Given.ChangesHistories
 pub use Rattle.run_executor.specs.Given.HandsAsked
-pub use Rattle.run_executor.specs.Given.HandsCalling
 pub use Rattle.run_executor.specs.Given.MomentsEndings
 pub use Rattle.run_executor.specs.Given.MomentsNumbers
 pub use Rattle.run_executor.specs.Given.MomentsWhole
@@ -70,23 +43,15 @@ pub use Rattle.run_executor.specs.contracts as ExecutorContracts
 pub use Rattle.run_executor.specs.declared as ExecutorDeclared
 pub use Rattle.run_grows.specs.Given.PurposesKept
 pub use Rattle.run_grows.specs.Given.PurposesPurposes
-pub use Rattle.run_grows.specs.Given.PurposesShards
 pub use Rattle.run_grows.specs.Given.PurposesSwept
-pub use Rattle.run_grows.specs.Given.SourcesSources
-pub use Rattle.run_grows.specs.Given.SourcesStays
 pub use Rattle.run_grows.specs.Grows.Copiers as GrowsCopiers
-pub use Rattle.run_grows.specs.Grows.Finding as GrowsFinding
 pub use Rattle.run_grows.specs.Grows.Nexts as GrowsNexts
-pub use Rattle.run_grows.specs.Grows.Tries as GrowsTries
 pub use Rattle.run_grows.specs.Needs.Firsts as NeedsFirsts
 pub use Rattle.run_grows.specs.Needs.Makings as NeedsMakings
 pub use Rattle.run_grows.specs.Needs.Needs as NeedsNeeds
-pub use Rattle.seize.specs.Law as SeizeLaw
-pub use Rattle.seize.specs.Leave as SeizeLeave
+pub use Rattle.run_grows.specs.Says
 pub use Rattle.seize.specs.ReclaimAll as SeizeReclaimAll
-pub use Rattle.seize.specs.Register as SeizeRegister
 pub use Rattle.seize.specs.Sequence as SeizeSequence
-pub use Rattle.seize.specs.Settle as SeizeSettle
 pub use Rattle.seize.specs.WaitingSets as SeizeWaitingSets
 pub use Rattle.seize.specs.World as SeizeWorld
 pub use Rattle.seize.specs.declared as SeizeDeclared

@@ -33,7 +33,7 @@ fn stop_line(alloc: Global, stop: ScriptStop) -> Result<Vec<u8>, AllocError>
 /// What is printed for a script, or, where memory runs out, that it did.
 fn printed(alloc: Global, script: Script) -> Result<Vec<u8>, ScriptStop>
     ensures ok { IfOk result (λ text. IsTextFor script.events.items text.items) }
-    ensures err { IfErr result (λ stop. stop ≡ Stop.NoMemory script.lines) }
+    ensures err { IfErr result (λ stop. stop ≡ ScriptStop.NoMemory script.lines) }
 {
     let lines = script.lines;
     let setup = setup_of(&script.events);

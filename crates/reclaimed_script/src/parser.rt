@@ -100,7 +100,7 @@ impl Parser {
 
     /// Returns what is answered where the input fails.
     pub fn read_failed(&self) -> ScriptStop
-        ensures { result ≡ Stop.ReadFailed self.now.lines }
+        ensures { result ≡ ScriptStop.ReadFailed self.now.lines }
     {
         ScriptStop::ReadFailed { lines: self.lines }
     }

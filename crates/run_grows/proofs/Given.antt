@@ -18,6 +18,8 @@ pub use Rattle.run_executor.proofs.Given.FollowsTold
 pub use Rattle.run_executor.proofs.Given.General
 pub use Rattle.run_executor.proofs.Given.HandsAsking
 pub use Rattle.run_executor.proofs.Given.HandsCalling
+pub use Rattle.run_executor.proofs.Given.HandsReplacing
+pub use Rattle.run_executor.proofs.Given.LateKindsKept
 pub use Rattle.run_executor.proofs.Given.MomentsAfter
 pub use Rattle.run_executor.proofs.Given.MomentsCalls
 pub use Rattle.run_executor.proofs.Given.MomentsEnds
@@ -28,8 +30,10 @@ pub use Rattle.run_executor.proofs.Given.MomentsNumbers
 pub use Rattle.run_executor.proofs.Given.MomentsOnSlots
 pub use Rattle.run_executor.proofs.Given.MomentsOver
 pub use Rattle.run_executor.proofs.Given.MomentsWalks
+pub use Rattle.run_executor.proofs.Given.OthersLeads
 pub use Rattle.run_executor.proofs.Given.OthersOutcomes
 pub use Rattle.run_executor.proofs.Given.OthersRowPlans
+pub use Rattle.run_executor.proofs.Given.PointsCalls
 pub use Rattle.run_executor.proofs.Given.ScenesGoes
 pub use Rattle.run_executor.proofs.Given.ScenesMay
 pub use Rattle.run_executor.proofs.Given.ScenesNoCall
@@ -47,10 +51,13 @@ pub use Rattle.run_executor.proofs.Given.SeizeRuleRows
 pub use Rattle.run_executor.proofs.Given.SeizeRuleWords
 pub use Rattle.run_executor.proofs.Given.SeizeRuleWorld
 pub use Rattle.run_executor.proofs.Given.SeizeSetsReclaims
+pub use Rattle.run_executor.proofs.Given.SeizeSetsSlots
 pub use Rattle.run_executor.proofs.Given.SeizeSetsTurns
 pub use Rattle.run_executor.proofs.Given.SeizeWordsOneOwner
+pub use Rattle.run_executor.proofs.Given.SeizeWordsPlaces
 pub use Rattle.run_executor.proofs.Given.SpotsEffects
 pub use Rattle.run_executor.proofs.Given.SpotsUnreclaimed
+pub use Rattle.run_executor.proofs.Named.Called as NamedCalled
 pub use Rattle.run_logged.proofs.Given.HistoriesAnyCall
 pub use Rattle.run_logged.proofs.Given.HistoriesAside
 pub use Rattle.run_logged.proofs.Given.HistoriesCalling
@@ -92,13 +99,18 @@ pub use Rattle.run_logged.proofs.Given.OwesCalls
 pub use Rattle.run_logged.proofs.Given.OwesClear
 pub use Rattle.run_logged.proofs.Given.OwesEvents
 pub use Rattle.run_logged.proofs.Given.OwesKept
+pub use Rattle.run_logged.proofs.Given.OwesLooking
 pub use Rattle.run_logged.proofs.Given.OwesReady
+pub use Rattle.run_logged.proofs.Given.OwesShort
+pub use Rattle.run_logged.proofs.Given.OwesTables
 pub use Rattle.run_logged.proofs.Given.PromisesBrief
 pub use Rattle.run_logged.proofs.Given.PromisesGuards
 pub use Rattle.run_logged.proofs.Given.PromisesProtected
 pub use Rattle.run_logged.proofs.Given.PromisesShelters
 pub use Rattle.run_logged.proofs.Given.PromisesWeights
 pub use Rattle.run_logged.proofs.Given.RemainsLists
+pub use Rattle.run_logged.proofs.Given.RemainsSlots
+pub use Rattle.run_logged.proofs.Given.ScenesRows
 pub use Rattle.run_logged.proofs.Given.SettlesCalls
 pub use Rattle.run_logged.proofs.Given.SettlesHand
 pub use Rattle.run_logged.proofs.Given.SettlesUncounted
@@ -110,7 +122,9 @@ pub use Rattle.run_logged.proofs.Given.ShardsShardNumbers
 pub use Rattle.run_logged.proofs.Given.ShardsShardOthers
 pub use Rattle.run_logged.proofs.Given.ShedsReclaimGives
 pub use Rattle.run_logged.proofs.Given.ShedsReclaiming
+pub use Rattle.run_logged.proofs.Log.Kinds as LogKinds
 pub use Rattle.run_logged.proofs.Log.Reclaiming as LoggedReclaiming
+pub use Rattle.run_logged.proofs.Rows.Taking as RowsTaking
 pub use Rattle.run_sweeps.proofs.Given.FindsBegun
 pub use Rattle.run_sweeps.proofs.Given.FindsCapacities
 pub use Rattle.run_sweeps.proofs.Given.FindsClosed

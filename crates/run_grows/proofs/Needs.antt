@@ -7,3 +7,4 @@ pub mod Refusals
 pub mod Registering
 pub mod Steps
 pub mod TablesMade
+pub mod Shifts

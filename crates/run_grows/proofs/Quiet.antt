@@ -6,3 +6,5 @@ pub mod QuietCopies
 pub mod QuietWaits
 pub mod RoomSays
 pub mod SweepSays
+pub mod Saying
+pub mod Sweeps

@@ -1,6 +1,15 @@
 -- The words of the crates below, given on to the crates above: these list this crate in place of those.
+pub use Rattle.papaya_raw.specs.Answers as RawAnswers
+pub use Rattle.papaya_raw.specs.Call as RawCall
 pub use Rattle.papaya_raw.specs.CallAsks as RawCallAsks
+pub use Rattle.papaya_raw.specs.CallFills as RawCallFills
+pub use Rattle.papaya_raw.specs.CallPoints as RawCallPoints
 pub use Rattle.papaya_raw.specs.Given.ReservesDeclared
+pub use Rattle.papaya_raw.specs.Given.ReservesReserve
+pub use Rattle.papaya_raw.specs.Given.ResizeCopier
+pub use Rattle.papaya_raw.specs.Given.ResizeCopierStates
+pub use Rattle.papaya_raw.specs.Given.ResizeDispose
+pub use Rattle.papaya_raw.specs.Given.ResizeLookup
 pub use Rattle.papaya_raw.specs.Given.SeizeDeclared
 pub use Rattle.papaya_raw.specs.Given.SeizeDefer
 pub use Rattle.papaya_raw.specs.Given.SeizeEnter
@@ -12,15 +21,20 @@ pub use Rattle.papaya_raw.specs.Given.SeizeSequence
 pub use Rattle.papaya_raw.specs.Given.SeizeSettle
 pub use Rattle.papaya_raw.specs.Given.SeizeWaitingSets
 pub use Rattle.papaya_raw.specs.Given.SeizeWorld
+pub use Rattle.papaya_raw.specs.Given.SweepsSweep
 pub use Rattle.papaya_raw.specs.Given.SweepsSweepPoints
 pub use Rattle.papaya_raw.specs.Given.TablesChunks
 pub use Rattle.papaya_raw.specs.Given.TablesDeclared
 pub use Rattle.papaya_raw.specs.Given.TablesNodes
 pub use Rattle.papaya_raw.specs.Machine as RawMachine
+pub use Rattle.papaya_raw.specs.Progress as RawProgress
+pub use Rattle.papaya_raw.specs.Replies as RawReplies
 pub use Rattle.papaya_raw.specs.declared as RawDeclared
 pub use Rattle.run_executor.specs.Executing.IsThere as ExecutorIsThere
 pub use Rattle.run_executor.specs.Executing.OnSlots as ExecutorOnSlots
+pub use Rattle.run_executor.specs.Given.CallersAsked
 pub use Rattle.run_executor.specs.Given.CallersOverAll
+pub use Rattle.run_executor.specs.Given.CallersPairs
 pub use Rattle.run_executor.specs.Given.CallersRooms
 pub use Rattle.run_executor.specs.Given.CallersRows
 pub use Rattle.run_executor.specs.Given.CallersSights
@@ -44,6 +58,9 @@ pub use Rattle.run_executor.specs.Given.FollowsSteps
 pub use Rattle.run_executor.specs.Given.HandsAsked
 pub use Rattle.run_executor.specs.Given.HandsCalling
 pub use Rattle.run_executor.specs.Given.HandsHands
+pub use Rattle.run_executor.specs.Given.LateFaults
+pub use Rattle.run_executor.specs.Given.LateKinds
+pub use Rattle.run_executor.specs.Given.LateToldSweeps
 pub use Rattle.run_executor.specs.Given.MomentsEndings
 pub use Rattle.run_executor.specs.Given.MomentsNumbers
 pub use Rattle.run_executor.specs.Given.MomentsOnSlots
@@ -54,6 +71,8 @@ pub use Rattle.run_executor.specs.Given.OthersMakings
 pub use Rattle.run_executor.specs.Given.OthersRows
 pub use Rattle.run_executor.specs.Given.OthersWalks
 pub use Rattle.run_executor.specs.Given.PointsFactsCalls
+pub use Rattle.run_executor.specs.Given.PointsSteps
+pub use Rattle.run_executor.specs.Given.PointsTold
 pub use Rattle.run_executor.specs.Given.ReclaimsReclaims
 pub use Rattle.run_executor.specs.Given.ReclaimsSlots
 pub use Rattle.run_executor.specs.Given.RuleChart
@@ -84,6 +103,10 @@ pub use Rattle.run_executor.specs.Given.SpotsOnSlots
 pub use Rattle.run_executor.specs.Given.SpotsUnreclaimed
 pub use Rattle.run_executor.specs.Given.TellerTells
 pub use Rattle.run_executor.specs.Given.TellsSeen
+pub use Rattle.run_executor.specs.Named.Machines as NamedMachines
+pub use Rattle.run_executor.specs.Named.Places as NamedPlaces
+pub use Rattle.run_executor.specs.Named.Seen as NamedSeen
+pub use Rattle.run_executor.specs.Named.Telling as NamedTelling
 pub use Rattle.run_executor.specs.declared as ExecutorDeclared
 pub use Rattle.run_logged.specs.Given.HistoriesAnswers
 pub use Rattle.run_logged.specs.Given.HistoriesAsCalled
@@ -108,6 +131,8 @@ pub use Rattle.run_logged.specs.Given.ModelsOnSlots
 pub use Rattle.run_logged.specs.Given.ModelsReclaims
 pub use Rattle.run_logged.specs.Given.ModelsTurns
 pub use Rattle.run_logged.specs.Given.OwesEvents
+pub use Rattle.run_logged.specs.Given.OwesLooking
+pub use Rattle.run_logged.specs.Given.OwesMaking
 pub use Rattle.run_logged.specs.Given.OwesTables
 pub use Rattle.run_logged.specs.Given.PromisesGuards
 pub use Rattle.run_logged.specs.Given.PromisesMeanwhile
@@ -116,7 +141,11 @@ pub use Rattle.run_logged.specs.Given.PromisesProtected
 pub use Rattle.run_logged.specs.Given.PromisesReading
 pub use Rattle.run_logged.specs.Given.PromisesSheltered
 pub use Rattle.run_logged.specs.Given.PromisesWeights
+pub use Rattle.run_logged.specs.Given.RemainsSlots
 pub use Rattle.run_logged.specs.Given.ResizeDeclared
+pub use Rattle.run_logged.specs.Given.ResizeNewMap
+pub use Rattle.run_logged.specs.Given.ResizeNewTable
+pub use Rattle.run_logged.specs.Given.ResizeSum
 pub use Rattle.run_logged.specs.Given.SettlesCounts
 pub use Rattle.run_logged.specs.Given.SettlesDue
 pub use Rattle.run_logged.specs.Given.SettlesHand
@@ -126,6 +155,7 @@ pub use Rattle.run_logged.specs.Given.ShardsShardSteps
 pub use Rattle.run_logged.specs.Given.ShardsShardWords
 pub use Rattle.run_logged.specs.Log.Choosing as LoggedChoosing
 pub use Rattle.run_logged.specs.Log.OnSlots as LoggedOnSlots
+pub use Rattle.run_schedules.specs.Given.SeizeWordsPlace
 pub use Rattle.run_schedules.specs.Given.SeizeWordsSlotWords
 pub use Rattle.run_schedules.specs.Runs.Log as RunsLog
 pub use Rattle.run_schedules.specs.Runs.Present as RunsPresent

@@ -1,3 +1,5 @@
 pub mod Grows
 pub mod Needs
+pub mod Says
+pub mod OwnPairs
 pub mod Given

@@ -1,10 +1,8 @@
 -- What a moment shows of calls is so on between the steps of events, and where calls begin and go on.
-use Rattle.std.specs.Prelude.{◌≡◌, nat_lt, ℕ, Bool, true, false, List, [], ◌∷◌, Option, Some, None, if◌then◌else◌}
+use Rattle.std.specs.Prelude.{◌≡◌, ℕ, Bool, true, false, List, [], ◌∷◌, Option, Some, None}
 use Rattle.std.proofs.Common.{refl, ap, sym, subst, ◌∙◌, inl, inr}
 use Rattle.run_grows.specs.Given.SeizeWordsDeclared.fault.Fault.TheVariants.{Memory}
-use Rattle.run_grows.specs.Given.SweepsSweepPoints.{after_next, next_at}
-use Rattle.run_grows.specs.Given.ReservesDeclared.sweep.Sweep.{Sweep}
-use Rattle.run_grows.specs.Given.ReservesDeclared.sweep.Sweeping.{Sweeping}
+use Rattle.run_grows.specs.Given.SweepsSweepPoints.{after_next}
 use Rattle.run_grows.specs.Given.ReservesDeclared.sweep.Sweeping.TheVariants as sweeping
 use Rattle.run_grows.specs.Given.RawDeclared.machines.machine.Machine.{Machine}
 use Rattle.run_grows.specs.Given.PointsFactsCalls.{Unchanged}
@@ -29,7 +27,6 @@ use Rattle.run_grows.proofs.Given.HandsAsking.{which}
 use Rattle.run_grows.specs.Given.MomentsNumbers.{NumbersMaps, PairsAreBelow}
 use Rattle.run_grows.proofs.Given.MomentsCalls.{calls_begin_whole, calls_take_whole}
 use Rattle.run_grows.proofs.Given.MomentsWalks.{walks_go_on_whole, walks_stop_whole}
-use Rattle.run_grows.specs.Given.HistoriesAnswers.{NamesPair}
 use Rattle.run_grows.specs.Given.HistoriesAsCalled.{IsAsCalled, IsSweptAs, SweepAsks}
 use Rattle.run_grows.specs.Given.HistoriesAsking.{IsToldQuestion}
 use Rattle.run_grows.specs.Given.ChangesHistories.{ShowsHistory, began_of}
@@ -51,7 +48,7 @@ use Rattle.run_grows.specs.Given.PurposesKept.{AsksAboutIt}
 use Rattle.run_grows.proofs.Given.PurposesBetween.{calls_begin_purposes, events_keep_purposes}
 use Rattle.run_grows.proofs.Given.PurposesElsewhere.{purposes_stay}
 use Rattle.run_grows.proofs.Given.PurposesTold.{calls_take_purposes}
-use Rattle.run_grows.specs.Given.ShardsAdds.{adds_in_sweeping, adds_of}
+use Rattle.run_grows.specs.Given.ShardsAdds.{adds_of}
 use Rattle.run_grows.specs.Given.ShardsShardWords.{ShowsCounters}
 use Rattle.run_grows.proofs.Given.ShardsShardBetween.{calls_begin_counters, calls_take_counters, counters_stay, fewer_add}
 use Rattle.run_legal.specs.Between.{CallsBegin, CallsTake, LikesShow, LogsGrow, NamesChange, WalksGoOn, WalksStop}
@@ -69,6 +66,8 @@ use Rattle.run_grows.specs.Given.ScenesBeginning.{Begins}
 use Rattle.run_grows.specs.Given.ScenesReplying.{scene_with, unless_stopped}
 use Rattle.run_grows.specs.Given.ScenesScene.{HasCall, Scene}
 use Rattle.run_grows.proofs.Given.General.{same_some as one_of}
+use Rattle.run_grows.proofs.Quiet.Saying.{about_pair}
+use Rattle.run_grows.proofs.Quiet.Sweeps.{adds_next}
 
 pub likes_show : (K V : Type 0) (same : K → K → Bool) → LikesShow K V same
 likes_show K V same name log m v known s all like = subst (λ (x : Moment K V). ShowsCalls same name log x known s) (sym like) (record {
@@ -196,26 +195,11 @@ module _ {K V : Type 0} (same : K → K → Bool) (standing : Standing K) (i : �
   unchanged (Counting sum) begins x is = absurd (cc is)
   unchanged (OverAll o) begins x is = absurd (cc is)
 
--- what a retaining asks about is the pair of its word
-pub about_pair : (known : Known) (word : ℕ) (question : Option ℕ) → IsToldQuestion known (Some word) question → (q : ℕ) × (question ≡ Some q) × NamesPair known word q
-about_pair known word (Some q) told = (q, refl, told)
-about_pair known word None told = absurd told
-
 asks_about : {K V : Type 0} (known : Known) (u : UnderWay K V K) (question : Option ℕ) → ((o : CallOverAll) → u ≡ OverAll o → SweepAsks known o.sweep.stands question) → AsksAboutIt known u question
 asks_about known u question asks o is word stands =
     let it = asks o is in
     let same_word : it.0 ≡ word = (let both : sweeping.Asks it.0 ≡ sweeping.Asks word = sym it.1 ∙ stands in cc both) in
     about_pair known word question (subst (λ (x : ℕ). IsToldQuestion known (Some x) question) same_word it.2)
-
--- where one goes on otherwise, or is under way no more, what it is about to add is what it was
-
-pub not_ready : (q : Bool) (removed : ℕ) → adds_in_sweeping (if q then sweeping.Words else sweeping.Over) ≡ Some removed → ⊥
-not_ready true removed adds = absurd (cc adds)
-not_ready false removed adds = absurd (cc adds)
-
-pub adds_next : (p : Sweeping) (c : Sweep) (removed : ℕ) → c.stands ≡ p → adds_in_sweeping (next_at p c).stands ≡ Some removed → adds_in_sweeping c.stands ≡ Some removed
-adds_next sweeping.Ready c removed is adds = absurd (not_ready (nat_lt c.place c.table.len) removed adds)
-adds_next _ c removed is adds = adds
 
 module _ {K V : Type 0} (name : ℕ → List ℕ) (m : Moment K V) (s : Scene K V) (map i : ℕ) (next : Option (UnderWay K V K)) where
   abbrev then_at : Scene K V

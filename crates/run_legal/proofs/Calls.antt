@@ -42,7 +42,8 @@ use Rattle.run_legal.specs.CallEvents.{CallEventsBegin, CallEventsGoOn}
 use Rattle.run_grows.proofs.Given.PurposesShardsRead.{events_begin_uncounted}
 use Rattle.run_legal.proofs.CallChanges.{changes_first, reads_shards, unadded_still}
 use Rattle.run_grows.proofs.Given.HistoriesSeveral.{stands}
-use Rattle.run_legal.proofs.CallPairs.{begun_so, each_is_its_own, own_alike, pairs_first}
+use Rattle.run_legal.proofs.CallPairs.{begun_so, pairs_first}
+use Rattle.run_grows.proofs.OwnPairs.{each_is_its_own, own_alike}
 use Rattle.run_legal.proofs.CallReads.{does_nothing, readings_go_on}
 use Rattle.run_grows.proofs.Grows.Limits.Shows.{limits_at_first}
 use Rattle.run_grows.proofs.Grows.Limits.Steps.{limits_others}

@@ -39,3 +39,5 @@ pub mod Found
 pub mod Come
 pub mod Noted
 pub mod Heads
+pub mod Works
+pub mod Given

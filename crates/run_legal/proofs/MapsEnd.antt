@@ -3,15 +3,14 @@ use Rattle.std.specs.Prelude.{◌≡◌, ℕ, ◌+◌, Bool, true, false, not, �
 use Rattle.std.specs.List.{list_all, list_any}
 use Rattle.std.proofs.Common.{refl, ap, sym, subst, ◌∙◌}
 use Rattle.run_grows.specs.Given.RunsDeclared.effect.Effect.{Effect}
-use Rattle.run_grows.specs.Given.RunsDeclared.effect.Effect.TheVariants.{Asked, TableMade, Linked, Ended, Taken}
-use Rattle.run_grows.specs.Given.RunsDeclared.effect.Growth.TheVariants.{ABlock}
+use Rattle.run_grows.specs.Given.RunsDeclared.effect.Effect.TheVariants.{Ended, Taken}
 use Rattle.run_grows.specs.Given.RunsDeclared.event.Event.{Event}
 use Rattle.run_grows.specs.Given.RunsDeclared.event.Event.TheVariants.{MakeMap, EndMap, Step, Go, ReclaimAll, Close}
 use Rattle.run_grows.specs.Given.SchedulesAfter.{after, moment, moments_from}
 use Rattle.run_grows.specs.Given.SchedulesBeginning.{at_work}
 use Rattle.run_grows.specs.Given.SchedulesEffects.{AtEachEffect, worked}
 use Rattle.run_grows.specs.Given.SchedulesEntry.{IfCall, acted_on, acting, caller_of}
-use Rattle.run_grows.specs.Given.SchedulesHanding.{AllFind, LeavesOf, comes_clear, gives_all, is_ending, is_first_making, is_made, may_do, moments_of, refuses}
+use Rattle.run_grows.specs.Given.SchedulesHanding.{AllFind, LeavesOf, comes_clear, gives_all, is_ending, is_made, may_do, moments_of, refuses}
 use Rattle.run_grows.specs.Given.SchedulesLinearizable.{shift_of}
 use Rattle.run_grows.specs.Given.SchedulesLives.{Finds}
 use Rattle.run_grows.specs.Given.SchedulesMoment.{UnderWay as CallThere, Moment}
@@ -26,14 +25,9 @@ use Rattle.run_grows.proofs.Given.PurposesNothing.{no_calls_are_swept}
 use Rattle.run_legal.specs.MapEvents.{MapEventsAreLegal}
 use Rattle.run_grows.specs.Given.SchedulesTransition.{past, transition}
 use Rattle.run_grows.proofs.Given.General.{both_true as and_both}
+use Rattle.run_grows.proofs.Needs.Shifts.{making_none}
 
 -- Its effects bring no pair and take none out that is not ended.
-
-pub making_none : (f : Effect) → is_first_making f ≡ true → shift_of f ≡ []
-making_none (Asked ABlock) is = refl
-making_none (TableMade t) is = refl
-making_none (Linked t shape) is = refl
-making_none _ is = absurd (cc is)
 
 ending_none : (f : Effect) → is_ending f ≡ true → shift_of f ≡ []
 ending_none (Ended n) is = refl

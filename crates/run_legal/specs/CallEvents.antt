@@ -23,8 +23,7 @@ use Rattle.run_grows.specs.Given.SchedulesReclaims.{IsProtected}
 use Rattle.run_grows.specs.Given.SchedulesSteps.{ReadsBriefly}
 use Rattle.run_grows.specs.Given.SchedulesSweeps.{IsSwept}
 use Rattle.run_grows.specs.Given.SchedulesTerms.{Terms}
-use Rattle.run_grows.specs.Given.RunsLog.{pair_at}
-use Rattle.run_grows.specs.Given.SchedulesViews.{call_of, finite_map, is_in_map}
+use Rattle.run_grows.specs.Given.SchedulesViews.{call_of}
 use Rattle.run_grows.specs.Given.SweepsSweepPoints.{after_next}
 use Rattle.run_grows.specs.Given.CallersOverAll.{CallOverAll, gone_on}
 use Rattle.run_grows.specs.Given.CallersTogether.{UnderWay, OverAll, HandsOver}
@@ -62,10 +61,7 @@ use Rattle.run_grows.specs.Given.ScenesReplying.{AskLeads, scene_with}
 use Rattle.run_grows.specs.Given.ScenesScene.{Scene, slot_of}
 use Rattle.run_grows.specs.Given.ScenesStepping.{StepLeads, has_ended, scene_after}
 use Rattle.run_grows.specs.Given.SchedulesTransition.{past}
-
--- each pair that is in this map is the one of its class there
-abbrev pub EachIsItsOwn : {K V : Type 0} → (K → K → Bool) → ℕ → Moment K V → Type 0
-EachIsItsOwn {K} {V} same map m = (q : ℕ) → is_in_map map (m.place q) ≡ true → (p : K × V) × (pair_at m.stored q ≡ Some p) × (finite_map same map m p.0 ≡ Some q)
+use Rattle.run_grows.specs.OwnPairs.{EachIsItsOwn}
 
 module _ {K V : Type 0} (same : K → K → Bool) (name : ℕ → List ℕ) (terms : Terms) (log : List (Entry K V)) (event : Event K V) (beginning : Moment K V) (map i : ℕ) (c : CallThere K V) where
   -- In the midst of an event of the call of caller i, which has made so many steps, and done this, since the moment at which it has begun what it begins.

@@ -12,3 +12,5 @@ pub mod AllEvents
 pub mod Promises
 pub mod Found
 pub mod Noted
+pub mod Works
+pub mod Given

@@ -19,7 +19,9 @@ pub use Rattle.run_kept.proofs.Given.OwesGrown
 pub use Rattle.run_kept.proofs.Given.OwesInHand
 pub use Rattle.run_kept.proofs.Given.OwesKept
 pub use Rattle.run_kept.proofs.Given.OwesLasting
+pub use Rattle.run_kept.proofs.Given.OwesLooking
 pub use Rattle.run_kept.proofs.Given.OwesReady
+pub use Rattle.run_kept.proofs.Given.OwesShort
 pub use Rattle.run_kept.proofs.Given.OwesTables
 pub use Rattle.run_kept.proofs.Given.OwesWalks
 pub use Rattle.run_kept.proofs.Given.PromisesBrief
@@ -59,6 +61,7 @@ pub use Rattle.run_kept.proofs.Sheds.KeptGiven as ShedsKeptGiven
 pub use Rattle.run_kept.proofs.Sheds.ReclaimGives as ShedsReclaimGives
 pub use Rattle.run_kept.proofs.Sheds.Reclaiming as ShedsReclaiming
 pub use Rattle.run_kept.proofs.Values.Values as ValuesValues
+pub use Rattle.run_shows.proofs.Scenes.Rows as ScenesRows
 pub use Rattle.run_waiting.proofs.Given.SettlesCalls
 pub use Rattle.run_waiting.proofs.Given.SettlesHand
 pub use Rattle.run_waiting.proofs.Given.SettlesPassed
@@ -77,4 +80,5 @@ pub use Rattle.run_waiting.proofs.Remains.Leads as RemainsLeads
 pub use Rattle.run_waiting.proofs.Remains.Lists as RemainsLists
 pub use Rattle.run_waiting.proofs.Remains.Maps as RemainsMaps
 pub use Rattle.run_waiting.proofs.Remains.Numbered as RemainsNumbered
+pub use Rattle.run_waiting.proofs.Remains.Slots as RemainsSlots
 pub use Rattle.run_waiting.proofs.Remains.Stays as RemainsStays

@@ -26,3 +26,4 @@ pub mod ReclaimsRun
 pub mod BroughtBack
 pub mod ReclaimBack
 pub mod Choosing
+pub mod Kinds

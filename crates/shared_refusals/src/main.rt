@@ -139,13 +139,20 @@ fn slots(alloc: Global) -> Result<bool, AllocError> {
     Ok(are_next)
 }
 
-/// A memory for numbers without lists, with enough numbers for their blocks, also where one request is refused.
+/// A memory for numbers without lists, with enough numbers for their blocks.
+fn open_plain(alloc: Global) -> Result<Home<Plain, OfRows>, AllocError>
+    ensures { IfOk result (λ home. home.blocks.words.fixed ≡ record { batch_size = 5; roots = 1 }) }
+{
+    Home::<Plain, OfRows>::open(alloc, 1, 64, &CHOSEN)
+}
+
+/// Such a memory, also where one request is refused.
 fn opens_plain(alloc: Global) -> Result<Home<Plain, OfRows>, AllocError>
     ensures { IfOk result (λ home. home.blocks.words.fixed ≡ record { batch_size = 5; roots = 1 }) }
 {
-    match Home::<Plain, OfRows>::open(alloc, 1, 64, &CHOSEN) {
+    match open_plain(alloc) {
         Ok(home) => Ok(home),
-        Err(_) => Home::<Plain, OfRows>::open(alloc, 1, 64, &CHOSEN),
+        Err(_) => open_plain(alloc),
     }
 }
 

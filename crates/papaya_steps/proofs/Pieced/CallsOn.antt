@@ -19,7 +19,7 @@ use Rattle.play_events.specs.Given.ExecutorDeclared.kind.CallKind.{CallKind}
 use Rattle.play_events.specs.Given.NamedTelling.{kept, number_by}
 use Rattle.play_events.specs.Given.PlayedPlay.{Calling, State, call_stepped, going, keeps}
 use Rattle.play_events.specs.Given.PlayedPlay as play
-use Rattle.play_events.specs.Given.SteppingStepping.{caller_then, callers_then}
+use Rattle.play_events.specs.Given.Says.{caller_then, callers_then}
 use Rattle.play_events.specs.Given.SteppingStepping as stepping
 use Rattle.play_events.specs.Given.GroupedGrouping.{Names}
 use Rattle.play_events.specs.Given.GroupedCalled.{CallersAre, IsCalledAs}

@@ -19,7 +19,8 @@ use Rattle.play_events.specs.Given.ExecutorDeclared.caller.NamedCaller.{NamedCal
 use Rattle.play_events.specs.Given.ExecutorDeclared.kind.CallKind.{CallKind}
 use Rattle.play_events.specs.Given.ActsLists.{Course}
 use Rattle.run_schedules.specs.Deeds.Deeds.{Steps}
-use Rattle.play_events.specs.Given.SteppingStepping.{GoneBy, GoneFor, IsStepped, caller_then, outcome_of}
+use Rattle.play_events.specs.Given.SteppingStepping.{GoneBy, GoneFor, IsStepped}
+use Rattle.play_events.specs.Given.Says.{caller_then, outcome_of}
 use Rattle.play_events.specs.Given.GroupedGrouping.{MayHave, Names, number_called}
 use Rattle.play_events.specs.Given.GroupedReach.{Reach}
 use Rattle.play_events.proofs.Given.GroupedCallers.{set_there}

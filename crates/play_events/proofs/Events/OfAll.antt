@@ -49,7 +49,7 @@ use Rattle.play_events.proofs.Events.OfCalls.Worth.{have_values_then, nobody_say
 use Rattle.play_events.specs.Events.Asked.{Holds, is_of_calls, is_of_maps}
 use Rattle.play_events.specs.Events.OfAll.{KeepsAll}
 use Rattle.play_events.specs.Events.OfCalls.{HaveValues, Runs, RunsOn}
-use Rattle.play_events.proofs.Works.Reached.{all_note_more}
+use Rattle.run_legal.proofs.Works.Reached.{all_note_more}
 use Rattle.play_events.proofs.Events.OfAll.Behind.{behind_so}
 use Rattle.play_events.proofs.Events.OfAll.Chain.{AllComes, all_back, all_come, all_comes, is_over, leads, over_there, step_so, then_now, then_scene}
 use Rattle.play_events.proofs.Events.OfCalls.Scenes.{AreNamed, its_named, stands_in}

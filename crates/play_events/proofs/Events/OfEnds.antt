@@ -71,7 +71,7 @@ use Rattle.play_events.specs.Events.Asked.{Holds}
 use Rattle.play_events.specs.Events.OfCalls.{HaveShards, Runs, RunsOn}
 use Rattle.play_events.specs.Events.OfRows.{KeepsRun}
 use Rattle.play_stepping.proofs.Given.NeedsEnds.{ends_find_all}
-use Rattle.play_events.proofs.Works.Reached.{ends_note_more}
+use Rattle.run_legal.proofs.Works.Reached.{ends_note_more}
 use Rattle.play_events.proofs.Events.OfRows.Over.{over_runs}
 use Rattle.play_events.proofs.Events.OfRows.Chain.{come_as, come_by}
 use Rattle.play_events.proofs.Events.OfRows.Lone.{alone_follows}

@@ -69,7 +69,7 @@ use Rattle.play_stepping.proofs.Given.SchedulerRights.{entry, entry_is}
 use Rattle.play_events.specs.Events.Asked.{Holds}
 use Rattle.play_events.specs.Events.OfCalls.{HaveShards, Runs, RunsOn}
 use Rattle.play_events.specs.Events.OfRows.{KeepsRun}
-use Rattle.play_events.proofs.Works.Reached.{makings_note_more}
+use Rattle.run_legal.proofs.Works.Reached.{makings_note_more}
 use Rattle.play_events.proofs.Events.OfMakings.Begun.{begun_as, begun_in, begun_shown, none_begun}
 use Rattle.play_events.proofs.Events.OfMakings.Chain.{HasFound, MakingComes, Midway, comes_on, counts_on, found_on, makings_come, masks}
 use Rattle.play_events.proofs.Events.OfMakings.Unmade.{refused_runs}

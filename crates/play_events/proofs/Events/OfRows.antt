@@ -58,10 +58,10 @@ use Rattle.play_stepping.proofs.Given.SchedulerRights.{entry, entry_is}
 use Rattle.play_events.specs.Events.OfCalls.{HaveShards, Runs, RunsOn}
 use Rattle.play_events.specs.Events.OfRows.{KeepsRun, is_of_rows}
 use Rattle.play_stepping.proofs.Given.SchedulerVacancies.{first_is, none_on_vacant}
-use Rattle.play_events.specs.Works.Rows.{may_row}
-use Rattle.play_events.proofs.Works.Mays.{rows_do_theirs}
-use Rattle.play_events.proofs.Works.Needs.{none_need, reclaiming_asks_none, registers_need}
-use Rattle.play_events.proofs.Works.Reached.{rows_note_more}
+use Rattle.run_legal.specs.Works.Rows.{may_row}
+use Rattle.run_legal.proofs.Works.Mays.{rows_do_theirs}
+use Rattle.run_legal.proofs.Works.Needs.{none_need, reclaiming_asks_none, registers_need}
+use Rattle.run_legal.proofs.Works.Reached.{rows_note_more}
 use Rattle.play_events.proofs.Events.OfRows.Over.{over_runs}
 use Rattle.play_events.proofs.Events.OfRows.Chain.{RowComes, come_by, rows_come}
 use Rattle.play_events.proofs.Events.OfRows.Facts.{RowFacts, facts}

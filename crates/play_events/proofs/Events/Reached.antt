@@ -41,7 +41,7 @@ use Rattle.play_lists.proofs.Given.RowsInUse.{among_used, unused_by}
 use Rattle.play_stepping.specs.Given.SchedulerPlayed.{IsPlayed, StandsFor}
 use Rattle.play_stepping.specs.Given.SchedulerDeclared.scheduler.Scheduler.{Scheduler}
 use Rattle.play_stepping.specs.Given.NeedsNeeds.{AreReached}
-use Rattle.play_events.proofs.Works.Reached.{reached_still}
+use Rattle.run_legal.proofs.Works.Reached.{reached_still}
 use Rattle.play_stepping.specs.Given.ExecutorIsThere.{use_at}
 use Rattle.play_stepping.proofs.Given.General.{or_second as or_so}
 

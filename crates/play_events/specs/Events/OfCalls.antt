@@ -36,7 +36,8 @@ use Rattle.play_stepping.specs.Given.SchedulerPlayed.{IsPlayed, entry_of}
 use Rattle.play_stepping.specs.Given.NamedSeen.{kind_of}
 use Rattle.play_stepping.specs.Given.SchedulerDeclared.played.Played.{Played}
 use Rattle.play_stepping.specs.Given.SchedulerDeclared.scheduler.Scheduler.{Scheduler}
-use Rattle.play_stepping.specs.EventSteps.Stepping.{ComesAs, outcome_of}
+use Rattle.play_stepping.specs.EventSteps.Stepping.{ComesAs}
+use Rattle.play_stepping.specs.Given.Says.{outcome_of}
 use Rattle.play_stepping.specs.Given.NeedsNeeds.{AreReached}
 use Rattle.play_events.specs.Events.Asked.{FindsRight, is_of_calls}
 use Rattle.run_kept.specs.Given.ScenesScene.{Scene}

@@ -2,14 +2,14 @@
 use Rattle.std.specs.Prelude.{◌≡◌, ◌≢◌, ◌<◌, ◌≤◌, ◌⊎◌, ◌++◌, ℕ, Bool, false, List, [], ◌∷◌, Some, None}
 use Rattle.std.proofs.Common.{refl, ap, sym, subst, ◌∙◌, arith, inl, inr}
 use Rattle.std.proofs.lemmas.List.{append-nil, append_assoc}
-use Rattle.play_stepping.specs.Given.SeizeWorld.{World, times}
-use Rattle.play_stepping.specs.Given.SeizeDeclared.rows.settle.Settled.{Settled}
-use Rattle.play_stepping.specs.Given.SeizeDeclared.rows.settle.Settled.TheVariants as settled
+use Rattle.run_grows.specs.Given.SeizeWorld.{World, times}
+use Rattle.run_grows.specs.Given.SeizeDeclared.rows.settle.Settled.{Settled}
+use Rattle.run_grows.specs.Given.SeizeDeclared.rows.settle.Settled.TheVariants as settled
 use Rattle.play_lists.specs.Given.TablesDeclared.node.Node.{Node}
-use Rattle.play_stepping.specs.Given.RawDeclared.machines.end_map.EndMap.{EndMap}
+use Rattle.run_grows.specs.Given.RawDeclared.machines.end_map.EndMap.{EndMap}
 use Rattle.play_lists.specs.Given.FinishesEndings.{Finishing, FinishingFacts, StepsOfEnding, waiting_by}
 use Rattle.play_lists.specs.Given.FinishesFactsEnds.{back_of, taken_by as taken_of}
-use Rattle.play_stepping.proofs.Given.CallersTogether.At.{at_same}
+use Rattle.run_grows.proofs.Given.CallersTogether.At.{at_same}
 use Rattle.play_lists.proofs.Given.FinishesEnds.CountedBlocks.{later_apart, next_apart}
 use Rattle.play_lists.proofs.Given.FinishesEnds.OrdersOn.{back_same}
 use Rattle.play_lists.proofs.Given.FinishesEnds.OrdersOnce.{plain_order}
@@ -27,7 +27,7 @@ use Rattle.play_lists.specs.Given.ScenesHeld.{Held, IsAt}
 use Rattle.play_lists.specs.Given.ScenesScene.{Scene, slot_of}
 use Rattle.play_lists.specs.Given.EffectsDeclared.changed.Changed.{Changed}
 use Rattle.play_lists.specs.Given.EffectsDeclared.changed.Changed.TheVariants as changed
-use Rattle.play_stepping.specs.Given.MomentsWhole.{ShowsWhole}
+use Rattle.run_grows.specs.Given.MomentsWhole.{ShowsWhole}
 use Rattle.play_lists.proofs.Given.FollowsAlike.{put_elsewhere}
 use Rattle.play_lists.proofs.Given.OthersEnds.{tells_next}
 use Rattle.play_lists.specs.Given.LoggedEnds.{ended_as}

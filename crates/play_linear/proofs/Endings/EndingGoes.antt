@@ -2,11 +2,11 @@
 use Rattle.std.specs.Prelude.{map as mapped, ◌≡◌, ◌≢◌, ◌<◌, ◌⊎◌, ℕ, Bool, true, false, List, [], Option, Some, None, option_map}
 use Rattle.std.proofs.Common.{refl, ap, sym, subst, ◌∙◌, inl, inr}
 use Rattle.std.proofs.lemmas.Bool.{cases_eq}
-use Rattle.play_stepping.specs.Given.SeizeWorld.{with_at}
+use Rattle.run_grows.specs.Given.SeizeWorld.{with_at}
 use Rattle.play_lists.specs.Given.TablesChunks.{is_incremental}
-use Rattle.play_stepping.specs.Given.RawEndMap.{ending}
-use Rattle.play_stepping.specs.Given.RawDeclared.machines.end_map.EndMap.{EndMap}
-use Rattle.play_stepping.proofs.Given.CallersTogether.At.{at_other, at_same}
+use Rattle.run_schedules.specs.Given.RawEndMap.{ending}
+use Rattle.run_grows.specs.Given.RawDeclared.machines.end_map.EndMap.{EndMap}
+use Rattle.run_grows.proofs.Given.CallersTogether.At.{at_other, at_same}
 use Rattle.play_lists.specs.Given.FinishesEndings.{AllPairsOnce, Finishing, finishing_of}
 use Rattle.play_lists.specs.Given.FinishesFactsEnds.{back_of}
 use Rattle.play_lists.specs.Given.FinishesMaps.{Standing}
@@ -25,7 +25,7 @@ use Rattle.play_lists.specs.Given.FollowsMaps.{ShowsMap}
 use Rattle.play_lists.specs.Given.EffectsDeclared.changed.Changed.TheVariants.{Nothing as NoChange}
 use Rattle.play_lists.specs.Given.ScenesHeld.{Held, IsAt}
 use Rattle.play_lists.specs.Given.ScenesScene.{Scene, slot_of}
-use Rattle.play_stepping.specs.Given.MomentsWhole.{ShowsWhole}
+use Rattle.run_grows.specs.Given.MomentsWhole.{ShowsWhole}
 use Rattle.play_lists.proofs.Given.RuleLaws.{current_is_known}
 use Rattle.play_lists.specs.Given.LoggedEnds.{NotesMap}
 use Rattle.play_lists.proofs.Given.LoggedEndAll.{all_end}
@@ -44,7 +44,7 @@ use Rattle.play_lists.specs.MapsEnd.Going.{GoesOnToEnd}
 use Rattle.play_linear.specs.Endings.GoingOn.{EndsGoOn}
 use Rattle.play_lists.proofs.MapsEnd.Begins.{are_stored, would_end}
 use Rattle.play_linear.proofs.Endings.Played.{goes_of}
-use Rattle.play_stepping.proofs.Given.General.{same_some}
+use Rattle.run_grows.proofs.Given.General.{same_some}
 
 -- Where the end of a map begins it goes on to end.
 module _ {K V : Type 0} (same : K → K → Bool) (hash : ℕ → K → ℕ) (old : Held K V) (m : Moment K V) (known : Known) (s : Scene K V) (at : IsAt same hash old s) (whole : ShowsWhole same named m known s) (map : ℕ)

@@ -1,15 +1,15 @@
 -- By the history of each list of acts maps end in order.
 use Rattle.std.specs.Prelude.{◌≡◌, ◌==◌, ℕ, Bool, true, false, List, ◌∷◌, Option, is_ok, if◌then◌else◌}
 use Rattle.std.proofs.Common.{refl, ap, sym, subst}
-use Rattle.play_stepping.specs.Given.SeizeDeclared.rows.leave.Leave.{Leave}
-use Rattle.play_stepping.specs.Given.SeizeDeclared.rows.leave.Leaving.{Leaving}
-use Rattle.play_stepping.specs.Given.SeizeDeclared.rows.leave.Leaving.TheVariants as leaving
-use Rattle.play_stepping.specs.Given.SeizeDeclared.rows.reclaim_all.ReclaimAll.{ReclaimAll}
-use Rattle.play_stepping.specs.Given.SeizeDeclared.rows.register.Registering.{Registering}
-use Rattle.play_stepping.specs.Given.SeizeDeclared.rows.register.Registering.TheVariants as registers
-use Rattle.play_stepping.specs.Given.SeizeDeclared.states.TheConstants.{ACTIVE}
-use Rattle.play_stepping.specs.Given.ResizeDeclared.new_map.NewMap.{NewMap}
-use Rattle.play_stepping.specs.Given.RawMachine.{machine_asked, machine_replied}
+use Rattle.run_grows.specs.Given.SeizeDeclared.rows.leave.Leave.{Leave}
+use Rattle.run_grows.specs.Given.SeizeDeclared.rows.leave.Leaving.{Leaving}
+use Rattle.run_grows.specs.Given.SeizeDeclared.rows.leave.Leaving.TheVariants as leaving
+use Rattle.run_grows.specs.Given.SeizeDeclared.rows.reclaim_all.ReclaimAll.{ReclaimAll}
+use Rattle.run_grows.specs.Given.SeizeDeclared.rows.register.Registering.{Registering}
+use Rattle.run_grows.specs.Given.SeizeDeclared.rows.register.Registering.TheVariants as registers
+use Rattle.run_grows.specs.Given.SeizeDeclared.states.TheConstants.{ACTIVE}
+use Rattle.run_grows.specs.Given.ResizeDeclared.new_map.NewMap.{NewMap}
+use Rattle.run_grows.specs.Given.RawMachine.{machine_asked, machine_replied}
 use Rattle.run_schedules.specs.Schedules.After.{AtEachEvent}
 use Rattle.run_schedules.specs.declared.effect.Effect.{Effect}
 use Rattle.run_schedules.specs.Schedules.Moment.{Moment}

@@ -2,9 +2,9 @@
 use Rattle.std.specs.Prelude.{◌≡◌, ◌≢◌, ◌<◌, ℕ, Bool, true, false, List, [], ◌∷◌, Option, Some, None, is_ok, length, if◌then◌else◌}
 use Rattle.std.proofs.Common.{refl, ap, sym, subst, ◌∙◌}
 use Rattle.seize_acts.specs.Acts.Answers.{Grant}
-use Rattle.play_stepping.specs.Given.SeizeWorld.{Row, times}
-use Rattle.play_stepping.specs.Given.RawMachine.{machine_asked, machine_plan, machine_replied}
-use Rattle.play_stepping.specs.Given.RawDeclared.machines.asking.MachineReply.{MachineReply as Told}
+use Rattle.run_grows.specs.Given.SeizeWorld.{Row, times}
+use Rattle.run_grows.specs.Given.RawMachine.{machine_asked, machine_plan, machine_replied}
+use Rattle.run_grows.specs.Given.RawDeclared.machines.asking.MachineReply.{MachineReply as Told}
 use Rattle.play_lists.specs.Given.FinishesEndings.{Finishing, FinishingFacts}
 use Rattle.play_lists.specs.Given.FinishesMachines.{machine_of}
 use Rattle.play_lists.proofs.Given.FinishesEnds.CountedBlocks.{some_last}
@@ -29,7 +29,7 @@ use Rattle.play_lists.specs.Given.ActsAsSteps.{LeadsAs, changed_by, held_in, row
 use Rattle.play_lists.specs.Given.ActsLeads.{Led}
 use Rattle.run_schedules.specs.Deeds.Deeds.{Entry, Replies, Steps, Stops, acted_on, after, map_of_call, moment, named}
 use Rattle.play_lists.proofs.Given.ShedsEndLists.{one_of}
-use Rattle.play_stepping.specs.Given.NamedSeen.{kind_of}
+use Rattle.run_grows.specs.Given.NamedSeen.{kind_of}
 use Rattle.play_lists.specs.Played.Play.{Ending, State, is_refusal, outcome_of, reply_for, row_deed, row_outcome, row_stepped}
 use Rattle.play_lists.specs.Played.Reached.{IsOf, row_or_rests}
 use Rattle.play_lists.proofs.Played.PlayedAs.{PlayedAs}

@@ -2,13 +2,13 @@
 use Rattle.std.specs.Prelude.{◌≡◌, ◌≢◌, ℕ, Bool, true, false, List, [], ◌∷◌, Option, Some, None, is_ok, length, if◌then◌else◌}
 use Rattle.std.specs.List.{All}
 use Rattle.std.proofs.Common.{refl, ap, sym, subst, ◌∙◌}
-use Rattle.play_stepping.specs.Given.SeizeDeclared.rows.reclaim_all.ReclaimAll.{ReclaimAll}
-use Rattle.play_stepping.specs.Given.SeizeDeclared.rows.settle.Settled.{Settled}
+use Rattle.run_grows.specs.Given.SeizeDeclared.rows.reclaim_all.ReclaimAll.{ReclaimAll}
+use Rattle.run_grows.specs.Given.SeizeDeclared.rows.settle.Settled.{Settled}
 use Rattle.play_lists.specs.Given.TablesDeclared.node.Node.{Node}
-use Rattle.play_stepping.specs.Given.RawMachine.{machine_asked, machine_plan, machine_replied}
-use Rattle.play_stepping.specs.Given.RawDeclared.machines.asking.MachineReply.{MachineReply as Told}
-use Rattle.play_stepping.specs.Given.RawDeclared.machines.progress.Progress.{Progress}
-use Rattle.play_stepping.specs.Given.CallersTogether.{UnderWay}
+use Rattle.run_grows.specs.Given.RawMachine.{machine_asked, machine_plan, machine_replied}
+use Rattle.run_grows.specs.Given.RawDeclared.machines.asking.MachineReply.{MachineReply as Told}
+use Rattle.run_grows.specs.Given.RawDeclared.machines.progress.Progress.{Progress}
+use Rattle.run_grows.specs.Given.CallersTogether.{UnderWay}
 use Rattle.play_lists.specs.Given.FinishesEndings.{Finishing}
 use Rattle.play_lists.specs.Given.FinishesMachines.{machine_of}
 use Rattle.play_lists.specs.Given.FinishesMakings.{Beginning}
@@ -31,8 +31,8 @@ use Rattle.play_lists.specs.Given.EffectsEffects.{effects_of, known_after}
 use Rattle.play_lists.specs.Given.EffectsKnown.{Known}
 use Rattle.play_lists.specs.Given.EffectsDeclared.acting.Acting.{Acting}
 use Rattle.play_lists.specs.Given.EffectsDeclared.acting.Acting.TheVariants as acts
-use Rattle.play_stepping.specs.Given.MomentsNumbers.{MapsAreBelow}
-use Rattle.play_stepping.specs.Given.MomentsWhole.{ShowsWhole}
+use Rattle.run_grows.specs.Given.MomentsNumbers.{MapsAreBelow}
+use Rattle.run_grows.specs.Given.MomentsWhole.{ShowsWhole}
 use Rattle.play_lists.proofs.Given.FollowsOperations.{Operated, operated}
 use Rattle.play_lists.proofs.Given.OthersRowPlans.{row_operated, row_tells}
 use Rattle.play_lists.specs.Given.RemainsNumbered.{NumbersUpTo}

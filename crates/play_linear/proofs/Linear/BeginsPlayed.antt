@@ -1,22 +1,22 @@
 -- Where a call begins, is asked for its next pair, or is given up, as it is played, the entry is linearizable, if there is one, and what the moment shows of calls and of what they were told it shows then.
 use Rattle.std.specs.Prelude.{◌≡◌, ◌⊎◌, ℕ, Bool, true, false, List, [], ◌∷◌, Option, Some, None}
 use Rattle.std.proofs.Common.{refl, ap, sym, subst, ◌∙◌, inl, inr}
-use Rattle.play_stepping.specs.Given.SeizeWorld.{Rests, with_at}
+use Rattle.run_grows.specs.Given.SeizeWorld.{Rests, with_at}
 use Rattle.play_lists.specs.Given.TablesDeclared.setting.Setting.{Setting}
-use Rattle.play_stepping.specs.Given.RawMachine.{machine_asked}
-use Rattle.play_stepping.specs.Given.RawDeclared.machines.machine.Machine.{Machine}
-use Rattle.play_stepping.specs.Given.RawDeclared.machines.machine.Machine.TheVariants as kinds
-use Rattle.play_stepping.specs.Given.SweepsSweepPoints.{after_next, next_at}
-use Rattle.play_stepping.specs.Given.ReservesDeclared.sweep.Sweep.{Sweep}
-use Rattle.play_stepping.specs.Given.ReservesDeclared.sweep.Sweeping.{Sweeping}
-use Rattle.play_stepping.specs.Given.ReservesDeclared.sweep.Sweeping.TheVariants as sweeping
-use Rattle.play_stepping.specs.Given.CallersOverAll.{CallOverAll, gone_on}
-use Rattle.play_stepping.specs.Given.CallersTogether.{UnderWay, OnKey, ForRoom, Counting, OverAll, in_slot}
+use Rattle.run_grows.specs.Given.RawMachine.{machine_asked}
+use Rattle.run_grows.specs.Given.RawDeclared.machines.machine.Machine.{Machine}
+use Rattle.run_grows.specs.Given.RawDeclared.machines.machine.Machine.TheVariants as kinds
+use Rattle.run_grows.specs.Given.SweepsSweepPoints.{after_next, next_at}
+use Rattle.run_grows.specs.Given.ReservesDeclared.sweep.Sweep.{Sweep}
+use Rattle.run_grows.specs.Given.ReservesDeclared.sweep.Sweeping.{Sweeping}
+use Rattle.run_grows.specs.Given.ReservesDeclared.sweep.Sweeping.TheVariants as sweeping
+use Rattle.run_grows.specs.Given.CallersOverAll.{CallOverAll, gone_on}
+use Rattle.run_grows.specs.Given.CallersTogether.{UnderWay, OnKey, ForRoom, Counting, OverAll, in_slot}
 use Rattle.play_lists.specs.Given.FinishesMachines.{machine_of}
 use Rattle.play_lists.specs.Given.FinishesMaps.{Standing, with_call}
 use Rattle.play_lists.specs.Given.FollowsCalling.{NoneNamed}
 use Rattle.play_lists.proofs.Given.FollowsCalling.{is_same_refl}
-use Rattle.play_stepping.proofs.Given.HandsAsking.{which}
+use Rattle.run_grows.proofs.Given.HandsAsking.{which}
 use Rattle.run_schedules.specs.Runs.Same.{is_same}
 use Rattle.run_schedules.specs.declared.call.Call.{Call}
 use Rattle.run_schedules.specs.declared.call.Call.TheVariants.{On}
@@ -45,7 +45,7 @@ use Rattle.play_linear.proofs.Linear.CallsGo.{walks_go_on}
 use Rattle.play_linear.proofs.Linear.Heard.{IsHeard, SaidOn, begins_aside, begins_itself, stops_aside}
 use Rattle.play_linear.proofs.Linear.HeardAll.{AreHeard, AreHeardAt, none_other, one_heard}
 use Rattle.play_linear.proofs.Linear.TakesReply.{TakesNone, asked_none, begins_none}
-use Rattle.play_stepping.proofs.Given.General.{same_some}
+use Rattle.run_grows.proofs.Given.General.{same_some}
 
 -- one that is not the other's has another name
 not_named : (i j : ℕ) → (j ≡ i → ⊥) → is_same (named i) (named j) ≡ false

@@ -3,13 +3,13 @@ use Rattle.std.specs.Prelude.{◌≡◌, ℕ, Bool, true, false, Some, None, Res
 use Rattle.std.proofs.Common.{refl, ap, sym, subst, ◌∙◌}
 use Rattle.seize_acts.specs.Acts.Acts.{rests}
 use Rattle.seize_acts.specs.Acts.Answers.{Grant}
-use Rattle.play_stepping.specs.Given.RawMachine.{machine_asked, machine_replied}
-use Rattle.play_stepping.specs.Given.RawDeclared.machines.asking.MachineReply.{MachineReply as Told}
-use Rattle.play_stepping.specs.Given.RawDeclared.machines.machine.Machine.{Machine}
-use Rattle.play_stepping.specs.Given.RawDeclared.machines.progress.Progress.{Progress}
-use Rattle.play_stepping.specs.Given.SeizeWorld.{Rests, Row}
+use Rattle.run_grows.specs.Given.RawMachine.{machine_asked, machine_replied}
+use Rattle.run_grows.specs.Given.RawDeclared.machines.asking.MachineReply.{MachineReply as Told}
+use Rattle.run_grows.specs.Given.RawDeclared.machines.machine.Machine.{Machine}
+use Rattle.run_grows.specs.Given.RawDeclared.machines.progress.Progress.{Progress}
+use Rattle.run_grows.specs.Given.SeizeWorld.{Rests, Row}
 use Rattle.play_lists.specs.Given.TablesDeclared.node.Node.{Node}
-use Rattle.play_stepping.specs.Given.CallersTogether.{UnderWay}
+use Rattle.run_grows.specs.Given.CallersTogether.{UnderWay}
 use Rattle.play_lists.specs.Given.FinishesMachines.{machine_of}
 use Rattle.play_lists.specs.Given.FinishesMaps.{with_call}
 use Rattle.play_lists.specs.Given.EffectsDeclared.changed.Changed.{Changed}
@@ -18,7 +18,7 @@ use Rattle.play_lists.specs.Given.ScenesHeld.{Held, IsAt}
 use Rattle.play_lists.specs.Given.ScenesReplying.{StopLeads, scene_with, unless_stopped}
 use Rattle.play_lists.specs.Given.ScenesScene.{Scene, slot_of}
 use Rattle.run_schedules.specs.declared.outcome.Outcome.TheVariants as outcome
-use Rattle.play_stepping.specs.Given.NamedMachines.{aborted_by}
+use Rattle.run_grows.specs.Given.NamedMachines.{aborted_by}
 use Rattle.play_lists.specs.Given.ActsActs.{Act, Answer, OfAsking, OfCall, OfReply, Wanted, begun, BeginsCall, StepsCall, TellsCall, AsksCall, StopsCall}
 use Rattle.play_lists.specs.Given.ActsAsSteps.{LeadsAs, changed_by, held_in}
 use Rattle.play_lists.specs.Given.ActsLeads.{Led, MayBe, asked_on}
@@ -34,7 +34,7 @@ use Rattle.play_linear.proofs.Linear.Holds.{Holds, onto}
 use Rattle.play_linear.proofs.Linear.RepliesPlayed.{played_replies, played_replies_are_heard}
 use Rattle.play_linear.proofs.Linear.StepsPlayed.{led, played_steps_answer, played_steps_are_heard, played_steps_are_linearizable, there_alike, there_is}
 use Rattle.play_lists.proofs.Played.Tied.{call_tied}
-use Rattle.play_stepping.proofs.Given.General.{same_some, none_mapped as nothing_told}
+use Rattle.run_grows.proofs.Given.General.{same_some, none_mapped as nothing_told}
 
 pub ok_is : {E : Type 0} (r : Result Unit E) → is_ok r ≡ true → r ≡ Ok tt
 ok_is (Ok done) e = refl

@@ -1,9 +1,9 @@
 -- The entries of a call that begins, takes a reply, or is given up: each is linearizable, and the moment after it shows what the next entry asks for.
 use Rattle.std.specs.Prelude.{◌≡◌, ℕ, Bool, true, false, List, [], ◌∷◌, flat_map, Option, Some, None, Ok}
 use Rattle.std.proofs.Common.{refl, arith}
-use Rattle.play_stepping.specs.Given.SeizeWorld.{Rests}
-use Rattle.play_stepping.specs.Given.RawMachine.{machine_replied}
-use Rattle.play_stepping.specs.Given.CallersTogether.{UnderWay}
+use Rattle.run_grows.specs.Given.SeizeWorld.{Rests}
+use Rattle.run_grows.specs.Given.RawMachine.{machine_replied}
+use Rattle.run_grows.specs.Given.CallersTogether.{UnderWay}
 use Rattle.play_lists.specs.Given.FinishesMachines.{ToldOfKind, machine_of}
 use Rattle.play_lists.specs.Given.FinishesMaps.{Standing, with_call as with_call_of}
 use Rattle.run_schedules.specs.declared.call.Call.{Call}
@@ -22,11 +22,11 @@ use Rattle.play_lists.specs.Given.ScenesReplying.{StopLeads, scene_with, unless_
 use Rattle.play_lists.specs.Given.ScenesScene.{Scene, slot_of}
 use Rattle.play_lists.specs.Given.FollowsCalling.{NoneNamed, told}
 use Rattle.play_lists.specs.Given.FollowsCalls.{IsCalled}
-use Rattle.play_stepping.specs.Given.HandsAsked.{as_told}
-use Rattle.play_stepping.specs.Given.HandsCalling.{IsBegunFor}
+use Rattle.run_grows.specs.Given.HandsAsked.{as_told}
+use Rattle.run_grows.specs.Given.HandsCalling.{IsBegunFor}
 use Rattle.play_lists.specs.Given.OthersWalks.{given_up}
 use Rattle.play_lists.specs.Given.HistoriesAsCalled.{IsBegunAs}
-use Rattle.play_stepping.specs.Given.ChangesChanges.{IsTaken}
+use Rattle.run_grows.specs.Given.ChangesChanges.{IsTaken}
 use Rattle.play_lists.proofs.Given.HistoriesOtherCalls.{no_calls_are_linearizable}
 use Rattle.run_schedules.specs.Deeds.Deeds.{Begins, Deed, Entry, Replies, Stops, after, caller_of, moment, named}
 use Rattle.run_schedules.specs.Deeds.History.{IsLinearizable, past, transition}

@@ -2,11 +2,11 @@
 use Rattle.std.specs.Prelude.{◌≡◌, ℕ, suc, Bool, true, false, List, [], ◌∷◌, length, Option, Some, None}
 use Rattle.std.proofs.Common.{refl, ap, sym, subst, ◌∙◌, inl, inr, arith}
 use Rattle.play_lists.specs.Given.TablesDeclared.node.Node.{Node}
-use Rattle.play_stepping.specs.Given.RawDeclared.machines.machine.Machine.{Machine}
-use Rattle.play_stepping.specs.Given.RawDeclared.machines.progress.Progress.{Progress}
-use Rattle.play_stepping.specs.Given.RawDeclared.machines.progress.Progress.TheVariants as progress
+use Rattle.run_grows.specs.Given.RawDeclared.machines.machine.Machine.{Machine}
+use Rattle.run_grows.specs.Given.RawDeclared.machines.progress.Progress.{Progress}
+use Rattle.run_grows.specs.Given.RawDeclared.machines.progress.Progress.TheVariants as progress
 use Rattle.play_lists.specs.Given.FinishesMachines.{GoesOnAs}
-use Rattle.play_stepping.specs.Given.CallersTogether.{UnderWay}
+use Rattle.run_grows.specs.Given.CallersTogether.{UnderWay}
 use Rattle.run_schedules.specs.Runs.Same.{is_same}
 use Rattle.run_schedules.specs.declared.effect.Effect.{Effect}
 use Rattle.run_schedules.specs.declared.outcome.Outcome.{Outcome}
@@ -22,8 +22,8 @@ use Rattle.play_lists.specs.Given.ScenesHeld.{Held, IsAt}
 use Rattle.play_lists.specs.Given.ScenesScene.{Scene}
 use Rattle.play_lists.specs.Given.ScenesStepping.{StepLeads, has_ended, scene_after}
 use Rattle.play_lists.specs.Given.FollowsCalling.{NoneNamed, come_to}
-use Rattle.play_stepping.specs.Given.HandsCalling.{AsksJust}
-use Rattle.play_stepping.proofs.Given.HandsAsking.{which}
+use Rattle.run_grows.specs.Given.HandsCalling.{AsksJust}
+use Rattle.run_grows.proofs.Given.HandsAsking.{which}
 use Rattle.play_lists.proofs.Given.FollowsCalling.{is_same_is, is_same_refl}
 use Rattle.play_lists.specs.Given.HistoriesAsCalled.{AsksAsCalled}
 use Rattle.play_lists.specs.Given.HistoriesInEvent.{ComesSo, InEvent, here_of}

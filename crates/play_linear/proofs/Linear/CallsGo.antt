@@ -2,15 +2,15 @@
 use Rattle.std.specs.Prelude.{◌≡◌, ℕ, Bool, true, false, List, Option, Some, Ok}
 use Rattle.std.proofs.Common.{refl, ap, sym, ◌∙◌}
 use Rattle.run_schedules.specs.Given.SeizeWordsDeclared.fault.Fault.TheVariants.{Memory}
-use Rattle.play_stepping.specs.Given.SeizeWorld.{Rests}
-use Rattle.play_stepping.specs.Given.SweepsSweepPoints.{after_next}
+use Rattle.run_grows.specs.Given.SeizeWorld.{Rests}
+use Rattle.run_grows.specs.Given.SweepsSweepPoints.{after_next}
 use Rattle.play_lists.specs.Given.TablesDeclared.node.Node.{Node}
-use Rattle.play_stepping.specs.Given.RawMachine.{machine_replied}
-use Rattle.play_stepping.specs.Given.RawDeclared.machines.progress.Progress.{Progress}
-use Rattle.play_stepping.specs.Given.PointsFactsCalls.{Unchanged}
-use Rattle.play_stepping.specs.Given.CallersOverAll.{CallOverAll, gone_on}
-use Rattle.play_stepping.specs.Given.CallersRooms.{CallForRoom}
-use Rattle.play_stepping.specs.Given.CallersTogether.{CallOnKey, Counting, ForRoom, OnKey, OverAll, UnderWay}
+use Rattle.run_grows.specs.Given.RawMachine.{machine_replied}
+use Rattle.run_grows.specs.Given.RawDeclared.machines.progress.Progress.{Progress}
+use Rattle.run_grows.specs.Given.PointsFactsCalls.{Unchanged}
+use Rattle.run_grows.specs.Given.CallersOverAll.{CallOverAll, gone_on}
+use Rattle.run_grows.specs.Given.CallersRooms.{CallForRoom}
+use Rattle.run_grows.specs.Given.CallersTogether.{CallOnKey, Counting, ForRoom, OnKey, OverAll, UnderWay}
 use Rattle.play_lists.specs.Given.FinishesMachines.{ToldOfKind, machine_of}
 use Rattle.play_lists.specs.Given.FinishesMaps.{Standing, with_call as with_call_of}
 use Rattle.run_schedules.specs.Runs.Same.{is_same}
@@ -36,14 +36,14 @@ use Rattle.play_lists.specs.Given.ScenesScene.{Scene, slot_of}
 use Rattle.play_lists.specs.Given.ScenesStepping.{StepLeads, scene_after}
 use Rattle.play_lists.specs.Given.FollowsCalling.{NoneNamed, come_to, told}
 use Rattle.play_lists.specs.Given.FollowsCalls.{IsCalled}
-use Rattle.play_stepping.specs.Given.HandsAsked.{as_told}
-use Rattle.play_stepping.specs.Given.HandsCalling.{AsksJust, IsBegunFor}
+use Rattle.run_grows.specs.Given.HandsAsked.{as_told}
+use Rattle.run_grows.specs.Given.HandsCalling.{AsksJust, IsBegunFor}
 use Rattle.play_lists.specs.Given.OthersWalks.{given_up}
-use Rattle.play_stepping.proofs.Given.MomentsCalls.{calls_begin_whole, calls_come_to_whole, calls_keep_whole, calls_take_whole}
-use Rattle.play_stepping.proofs.Given.MomentsWalks.{walks_go_on_whole, walks_stop_whole}
+use Rattle.run_grows.proofs.Given.MomentsCalls.{calls_begin_whole, calls_come_to_whole, calls_keep_whole, calls_take_whole}
+use Rattle.run_grows.proofs.Given.MomentsWalks.{walks_go_on_whole, walks_stop_whole}
 use Rattle.play_lists.specs.Given.HistoriesAsCalled.{AsksAsCalled, IsBegunAs}
-use Rattle.play_stepping.specs.Given.ChangesChanges.{IsTaken}
-use Rattle.play_stepping.specs.Given.ChangesHistories.{began_of}
+use Rattle.run_grows.specs.Given.ChangesChanges.{IsTaken}
+use Rattle.run_grows.specs.Given.ChangesHistories.{began_of}
 use Rattle.play_lists.specs.Given.HistoriesQuestions.{AsksStill, ShowsQuestions}
 use Rattle.play_lists.proofs.Given.HistoriesAside.Stays.{as_called_stays, dues_stay}
 use Rattle.play_lists.proofs.Given.HistoriesCalling.{first_steps_change_first}

@@ -3,21 +3,21 @@ use Rattle.std.specs.Prelude.{◌≡◌, ◌≢◌, ◌⊎◌, ◌+◌, ℕ, Boo
 use Rattle.std.proofs.Common.{refl, ap, sym, subst, ◌∙◌, arith, inl, inr}
 use Rattle.std.proofs.lemmas.Bool.{cases_eq}
 use Rattle.seize_acts.specs.Acts.Answers.{Grant}
-use Rattle.play_stepping.specs.Given.SeizeWorld.{Row, World, with_at}
-use Rattle.play_stepping.specs.Given.SeizeDeclared.advance.Advance.{Advance}
-use Rattle.play_stepping.specs.Given.SeizeDeclared.advance.Advance.TheVariants as progress
-use Rattle.play_stepping.specs.Given.SeizeDeclared.rows.settle.Settled.{Settled}
-use Rattle.play_stepping.specs.Given.SeizeDeclared.rows.settle.Settled.TheVariants as settled
+use Rattle.run_grows.specs.Given.SeizeWorld.{Row, World, with_at}
+use Rattle.run_grows.specs.Given.SeizeDeclared.advance.Advance.{Advance}
+use Rattle.run_grows.specs.Given.SeizeDeclared.advance.Advance.TheVariants as progress
+use Rattle.run_grows.specs.Given.SeizeDeclared.rows.settle.Settled.{Settled}
+use Rattle.run_grows.specs.Given.SeizeDeclared.rows.settle.Settled.TheVariants as settled
 use Rattle.play_lists.specs.Given.TablesDeclared.node.Node.{Node}
 use Rattle.play_lists.specs.Given.TablesDeclared.setting.Setting.{Setting}
 use Rattle.play_lists.specs.Given.EffectsDeclared.changed.Changed.{Changed}
-use Rattle.play_stepping.specs.Given.ResizeNewMap.{new_map_plan}
-use Rattle.play_stepping.specs.Given.ResizeDeclared.new_map.NewMap.{NewMap}
-use Rattle.play_stepping.specs.Given.RawEndMap.{ending}
+use Rattle.run_grows.specs.Given.ResizeNewMap.{new_map_plan}
+use Rattle.run_grows.specs.Given.ResizeDeclared.new_map.NewMap.{NewMap}
+use Rattle.run_schedules.specs.Given.RawEndMap.{ending}
 use Rattle.play_lists.specs.Given.FinishesEndings.{Finishing, finishing_of}
 use Rattle.play_lists.specs.Given.FinishesMakings.{Beginning}
 use Rattle.play_lists.specs.Given.FinishesMaps.{Standing}
-use Rattle.play_stepping.proofs.Given.CallersTogether.At.{at_other, at_same}
+use Rattle.run_grows.proofs.Given.CallersTogether.At.{at_other, at_same}
 use Rattle.play_lists.proofs.Given.ScenesMay.{may_make}
 use Rattle.play_lists.specs.Given.ScenesHeld.{Held, IsAt}
 use Rattle.play_lists.specs.Given.ScenesMaking.{MakingLeads, making_begun}
@@ -27,8 +27,8 @@ use Rattle.play_lists.specs.Given.EffectsEffects.{effects_of, known_after}
 use Rattle.play_lists.specs.Given.EffectsKnown.{Known}
 use Rattle.play_lists.specs.Given.EffectsDeclared.acting.Acting.TheVariants as acts
 use Rattle.play_lists.specs.Given.FollowsShows.{Shows}
-use Rattle.play_stepping.specs.Given.MomentsNumbers.{MapsAreBelow}
-use Rattle.play_stepping.specs.Given.MomentsWhole.{ShowsWhole}
+use Rattle.run_grows.specs.Given.MomentsNumbers.{MapsAreBelow}
+use Rattle.run_grows.specs.Given.MomentsWhole.{ShowsWhole}
 use Rattle.play_lists.proofs.Given.FollowsOperations.{Operated, operated}
 use Rattle.play_lists.proofs.Given.RuleLaws.{current_is_known}
 use Rattle.play_lists.specs.Given.LoggedEnds.{NotesMap}
@@ -41,7 +41,7 @@ use Rattle.play_lists.specs.Played.Play.{Ending, Making, Now, State, ending_step
 use Rattle.play_lists.specs.Played.Reached.{IsOf, row_or_rests}
 use Rattle.play_lists.proofs.Played.Noted.{CallsAreNoted}
 use Rattle.play_lists.proofs.Played.PlayedAs.{PlayedAs}
-use Rattle.play_stepping.specs.Given.NamedSeen.{kind_of}
+use Rattle.run_grows.specs.Given.NamedSeen.{kind_of}
 use Rattle.play_linear.specs.Linear.Coming.{Comes, Goes, IsByNewNumber, IsGone, MapsComeAndGo}
 use Rattle.play_linear.proofs.Linear.AsideActs.{IsQuiet, aside_quiet, call_steps_aside, quiet_led, quiet_played, row_steps_aside}
 use Rattle.play_linear.proofs.Linear.Below.{BeginsBelow, acts_stay_below, more_below}
@@ -50,7 +50,7 @@ use Rattle.play_linear.proofs.Linear.Going.{goes_alike, goes_beside}
 use Rattle.play_linear.proofs.Linear.Gone.{BeginsOther, acts_leave_gone}
 use Rattle.play_linear.proofs.Linear.MakesRight.{made_coming, made_names, made_numbers}
 use Rattle.play_lists.proofs.Played.Tied.{EndingTied, MakingTied, call_tied, ending_tied, making_tied}
-use Rattle.play_stepping.proofs.Given.General.{same_some}
+use Rattle.run_grows.proofs.Given.General.{same_some}
 
 -- What is noted of a map that stands.
 module _ {K V : Type 0} (same : K → K → Bool) (hash : ℕ → K → ℕ) (old : Held K V) (m : Moment K V) (known : Known) (s : Scene K V) (at : IsAt same hash old s) (shown : Shows same named m known s) (map : ℕ) (standing : Standing K)

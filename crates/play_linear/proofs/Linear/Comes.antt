@@ -2,12 +2,12 @@
 use Rattle.std.specs.Prelude.{◌≡◌, ℕ, Bool, List, [], Option, Some}
 use Rattle.std.proofs.Common.{refl, subst}
 use Rattle.play_lists.specs.Given.TablesDeclared.node.Node.{Node}
-use Rattle.play_stepping.specs.Given.RawDeclared.machines.answer.KeyAnswer.{KeyAnswer}
-use Rattle.play_stepping.specs.Given.RawDeclared.machines.answer.KeyAnswer.TheVariants as says
-use Rattle.play_stepping.specs.Given.RawDeclared.machines.progress.Answer.TheVariants as answers
-use Rattle.play_stepping.specs.Given.RawDeclared.machines.progress.Progress.{Progress}
-use Rattle.play_stepping.specs.Given.RawDeclared.machines.progress.Progress.TheVariants as progress
-use Rattle.play_stepping.specs.Given.CallersTogether.{UnderWay, OnKey, ForRoom, Counting, OverAll}
+use Rattle.run_grows.specs.Given.RawDeclared.machines.answer.KeyAnswer.{KeyAnswer}
+use Rattle.run_grows.specs.Given.RawDeclared.machines.answer.KeyAnswer.TheVariants as says
+use Rattle.run_grows.specs.Given.RawDeclared.machines.progress.Answer.TheVariants as answers
+use Rattle.run_grows.specs.Given.RawDeclared.machines.progress.Progress.{Progress}
+use Rattle.run_grows.specs.Given.RawDeclared.machines.progress.Progress.TheVariants as progress
+use Rattle.run_grows.specs.Given.CallersTogether.{UnderWay, OnKey, ForRoom, Counting, OverAll}
 use Rattle.play_lists.specs.Given.FinishesMachines.{machine_of}
 use Rattle.run_schedules.specs.declared.call.Call.{Call}
 use Rattle.run_schedules.specs.declared.call.Call.TheVariants.{On}
@@ -22,14 +22,14 @@ use Rattle.play_lists.specs.Given.EffectsDeclared.acting.Acting.TheVariants as a
 use Rattle.play_lists.specs.Given.ScenesHeld.{Held, IsAt}
 use Rattle.play_lists.specs.Given.ScenesScene.{Scene}
 use Rattle.play_lists.specs.Given.ScenesStepping.{StepLeads}
-use Rattle.play_stepping.specs.Given.NamedSeen.{kind_of}
+use Rattle.run_grows.specs.Given.NamedSeen.{kind_of}
 use Rattle.play_lists.specs.Given.HistoriesInEvent.{ComesSo, InEvent}
 use Rattle.play_lists.specs.Given.HistoriesOtherCalls.{IsOnNoKey}
 use Rattle.play_lists.proofs.Given.HistoriesAnyCall.InEvent.{events_begin, events_have_words}
-use Rattle.play_stepping.specs.EventSteps.Stepping.{outcome_of as outcome_as}
+use Rattle.run_grows.specs.Says.{outcome_of as outcome_as}
 use Rattle.play_lists.specs.Given.ValuesValues.{KeepsValue}
 use Rattle.play_lists.proofs.Given.ValuesValues.{inserts_tell_theirs}
-use Rattle.play_stepping.proofs.SaysSo.OfCalls.Saying.{Tells, comes_so}
+use Rattle.run_grows.proofs.Quiet.Saying.{Tells, comes_so}
 use Rattle.run_schedules.specs.Deeds.Deeds.{Entry, moment, named}
 use Rattle.run_schedules.specs.Deeds.History.{past}
 use Rattle.play_lists.specs.Played.Play.{outcome_of}

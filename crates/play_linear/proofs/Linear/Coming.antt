@@ -20,10 +20,10 @@ use Rattle.play_lists.specs.Given.EffectsDeclared.acting.Acting.{Acting}
 use Rattle.play_lists.specs.Given.EffectsDeclared.acting.Acting.TheVariants as acts
 use Rattle.play_lists.specs.Given.EffectsDeclared.role.Role.TheVariants as role
 use Rattle.play_lists.specs.Given.OthersMakings.{IsNew}
-use Rattle.play_stepping.specs.Given.SpotsUnreclaimed.{ShowsUnreclaimed}
+use Rattle.run_grows.specs.Given.SpotsUnreclaimed.{ShowsUnreclaimed}
 use Rattle.play_lists.proofs.Given.OthersEndBegins.{found_still}
 use Rattle.play_lists.proofs.Given.OthersRowPlans.{TellsRow}
-use Rattle.play_stepping.proofs.Given.MomentsNumbers.{found_of}
+use Rattle.run_grows.proofs.Given.MomentsNumbers.{found_of}
 use Rattle.play_lists.proofs.Agrees.Elsewhere.{SameOf, acting_elsewhere, effects_elsewhere, rows_elsewhere}
 use Rattle.run_schedules.specs.Deeds.Deeds.{come, named, without_map}
 use Rattle.play_lists.specs.Played.Play.{has_root}

@@ -3,16 +3,16 @@ use Rattle.std.specs.Prelude.{◌≡◌, ◌≢◌, ◌⊎◌, ℕ, Bool, true, 
 use Rattle.std.proofs.Common.{refl, ap, sym, subst, ◌∙◌, inl, inr}
 use Rattle.std.proofs.lemmas.Bool.{cases_eq}
 use Rattle.std.proofs.lemmas.List.{append-nil}
-use Rattle.play_stepping.specs.Given.SeizeWorld.{World, times, with_at}
-use Rattle.play_stepping.specs.Given.SeizeDeclared.rows.settle.Settled.{Settled}
-use Rattle.play_stepping.specs.Given.SeizeDeclared.rows.settle.Settled.TheVariants as settled
+use Rattle.run_grows.specs.Given.SeizeWorld.{World, times, with_at}
+use Rattle.run_grows.specs.Given.SeizeDeclared.rows.settle.Settled.{Settled}
+use Rattle.run_grows.specs.Given.SeizeDeclared.rows.settle.Settled.TheVariants as settled
 use Rattle.play_lists.specs.Given.TablesDeclared.node.Node.{Node}
-use Rattle.play_stepping.specs.Given.RawEndMap.{end_map_plan}
-use Rattle.play_stepping.specs.Given.RawDeclared.machines.end_map.EndMap.{EndMap}
+use Rattle.run_schedules.specs.Given.RawEndMap.{end_map_plan}
+use Rattle.run_grows.specs.Given.RawDeclared.machines.end_map.EndMap.{EndMap}
 use Rattle.play_lists.specs.Given.FinishesEndings.{Finishing, waiting_by}
 use Rattle.play_lists.specs.Given.FinishesFactsEnds.{Deed as FactsDeed, taken_by as taken_of}
 use Rattle.play_lists.specs.Given.FinishesMakings.{Beginning}
-use Rattle.play_stepping.proofs.Given.CallersTogether.At.{at_other, at_same}
+use Rattle.run_grows.proofs.Given.CallersTogether.At.{at_other, at_same}
 use Rattle.play_lists.proofs.Given.ScenesMay.{may_end}
 use Rattle.play_lists.specs.Given.ScenesEnding.{EndingComesTo, EndingLeads}
 use Rattle.play_lists.specs.Given.ScenesHeld.{Held, IsAt}
@@ -25,9 +25,9 @@ use Rattle.run_schedules.specs.Schedules.Views.{tables_of}
 use Rattle.play_lists.specs.Given.EffectsEffects.{effects_of, known_after, taken_by}
 use Rattle.play_lists.specs.Given.EffectsKnown.{Known}
 use Rattle.play_lists.specs.Given.EffectsDeclared.acting.Acting.TheVariants as acts
-use Rattle.play_stepping.specs.Given.MomentsNumbers.{AreFound}
-use Rattle.play_stepping.specs.Given.MomentsWhole.{ShowsWhole}
-use Rattle.play_stepping.proofs.Given.MomentsAfter.{effects_after}
+use Rattle.run_grows.specs.Given.MomentsNumbers.{AreFound}
+use Rattle.run_grows.specs.Given.MomentsWhole.{ShowsWhole}
+use Rattle.run_grows.proofs.Given.MomentsAfter.{effects_after}
 use Rattle.play_lists.proofs.Given.FollowsOperations.{Operated, operated}
 use Rattle.play_lists.specs.Given.RemainsNumbered.{NumbersUpTo}
 use Rattle.play_lists.specs.Given.LoggedEnds.{NotedStill, ended_as}
@@ -45,7 +45,7 @@ use Rattle.play_linear.proofs.Linear.MapsPlayed.{IsApart}
 use Rattle.play_linear.proofs.Linear.Names.{apart_so}
 use Rattle.play_lists.specs.Agrees.Fresh.{AreNamed}
 use Rattle.play_lists.proofs.Agrees.Names.{effects_named, gone_named}
-use Rattle.play_stepping.proofs.Given.General.{same_some}
+use Rattle.run_grows.proofs.Given.General.{same_some}
 
 -- what ends with a map leaves numbers below the count
 ends_count : {K V : Type 0} (count map : ℕ) (first : Known) (blocks : List ℕ) (m : Moment K V) → NumbersUpTo count m → NumbersUpTo count (with_effects None (Some map) (ended_as map first blocks) m)

@@ -3,7 +3,7 @@ use Rattle.std.specs.Prelude.{◌≡◌, ◌==◌, ℕ, Bool, true, false, Some,
 use Rattle.std.proofs.Common.{refl, ap, sym, subst, ◌∙◌, arith, inl, inr}
 use Rattle.std.proofs.lemmas.Bool.{eq-eqb}
 use Rattle.run_schedules.specs.Given.SeizeWordsMem.{Mem, value_at}
-use Rattle.play_stepping.specs.Given.SeizeWorld.{times}
+use Rattle.run_grows.specs.Given.SeizeWorld.{times}
 use Rattle.play_lists.specs.Given.TablesDeclared.node.Node.{Node}
 use Rattle.play_lists.specs.Given.FinishesEndings.{Finishing, FinishingFacts}
 use Rattle.run_schedules.specs.Schedules.Moment.{Moment}

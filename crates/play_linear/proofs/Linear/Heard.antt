@@ -1,7 +1,7 @@
 -- What a moment says that a caller's call was told, and whether it asks, while the call keeps its value and may take a reply: after each kind of entry.
 use Rattle.std.specs.Prelude.{◌+◌, cond, not, find, map, Option, Some, None, if◌then◌else◌}
 use Rattle.std.proofs.Common.{◌≡◌, ◌⊎◌, ℕ, Bool, true, false, List, [], ◌∷◌, refl, ap, sym, subst, ◌∙◌}
-use Rattle.play_stepping.specs.Given.RawDeclared.machines.machine.Machine.{Machine}
+use Rattle.run_grows.specs.Given.RawDeclared.machines.machine.Machine.{Machine}
 use Rattle.run_schedules.specs.Runs.Same.{is_same}
 use Rattle.run_schedules.specs.declared.call.Call.{Call}
 use Rattle.run_schedules.specs.declared.call.Reply.{Reply}
@@ -16,7 +16,7 @@ use Rattle.run_schedules.specs.Schedules.Moment.{Asking, Moment, Stands, Told, U
 use Rattle.run_schedules.specs.Schedules.Views.{call_of}
 use Rattle.play_lists.proofs.Given.FollowsCalling.{apart_back, come_same, found_kept, found_passes, is_same_is, is_same_refl, replied_same}
 use Rattle.play_lists.proofs.Given.FollowsCalls.{IsOfSame, changed, found}
-use Rattle.play_stepping.proofs.Given.HandsReplacing.{calls_after}
+use Rattle.run_grows.proofs.Given.HandsReplacing.{calls_after}
 use Rattle.play_lists.specs.Given.ValuesValues.{KeepsValue}
 use Rattle.run_schedules.specs.Deeds.Deeds.{Begins, Entry, Replies, Steps, Stops, acted_on, after, at_work, caller_of, named, worked}
 use Rattle.play_lists.proofs.Played.Noted.{OfNoCall}

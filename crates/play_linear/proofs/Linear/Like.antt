@@ -8,10 +8,10 @@ use Rattle.play_lists.specs.Given.EffectsKnown.{Known}
 use Rattle.play_lists.specs.Given.OthersAfter.{ShowsAfter}
 use Rattle.play_lists.specs.Given.OthersElsewhere.{HasSame}
 use Rattle.play_lists.specs.Given.ScenesScene.{Scene}
-use Rattle.play_stepping.specs.Given.MomentsWhole.{ShowsWhole}
+use Rattle.run_grows.specs.Given.MomentsWhole.{ShowsWhole}
 use Rattle.play_lists.proofs.Given.OthersElsewhere.{shown_elsewhere}
 use Rattle.play_lists.proofs.Given.OthersStays.{same_maps}
-use Rattle.play_stepping.proofs.Given.MomentsMapsCome.{asked_still}
+use Rattle.run_grows.proofs.Given.MomentsMapsCome.{asked_still}
 use Rattle.play_lists.proofs.Given.HistoriesAside.Stays.{as_called_stays, dues_stay}
 use Rattle.play_lists.proofs.Given.HistoriesDueOn.{events_keep_due}
 use Rattle.play_lists.proofs.Given.KeptStays.{stays_kept}

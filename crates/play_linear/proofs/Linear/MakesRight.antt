@@ -4,21 +4,21 @@ use Rattle.std.proofs.Common.{refl, ap, sym, subst, ◌∙◌, inl, inr}
 use Rattle.std.proofs.lemmas.Bool.{cases_eq}
 use Rattle.seize_acts.specs.Acts.Answers.{Grant}
 use Rattle.run_schedules.specs.Given.SeizeWordsMem.{Mem}
-use Rattle.play_stepping.specs.Given.SeizeWorld.{World, with_at}
-use Rattle.play_stepping.specs.Given.SeizeDeclared.advance.Advance.{Advance}
-use Rattle.play_stepping.specs.Given.SeizeDeclared.advance.Advance.TheVariants as progress
+use Rattle.run_grows.specs.Given.SeizeWorld.{World, with_at}
+use Rattle.run_grows.specs.Given.SeizeDeclared.advance.Advance.{Advance}
+use Rattle.run_grows.specs.Given.SeizeDeclared.advance.Advance.TheVariants as progress
 use Rattle.play_lists.specs.Given.EffectsDeclared.changed.Changed.{Changed}
 use Rattle.play_lists.specs.Given.TablesDeclared.node.Node.{Node}
 use Rattle.play_lists.specs.Given.TablesDeclared.setting.Setting.{Setting}
-use Rattle.play_stepping.specs.Given.ResizeNewMap.{at_root, new_map_plan}
-use Rattle.play_stepping.specs.Given.ResizeDeclared.new_map.NewMap.{NewMap}
-use Rattle.play_stepping.specs.Given.ResizeDeclared.new_map.Opening.{Opening}
-use Rattle.play_stepping.specs.Given.ResizeDeclared.new_map.Opening.TheVariants as opens
+use Rattle.run_grows.specs.Given.ResizeNewMap.{at_root, new_map_plan}
+use Rattle.run_grows.specs.Given.ResizeDeclared.new_map.NewMap.{NewMap}
+use Rattle.run_grows.specs.Given.ResizeDeclared.new_map.Opening.{Opening}
+use Rattle.run_grows.specs.Given.ResizeDeclared.new_map.Opening.TheVariants as opens
 use Rattle.play_lists.specs.Given.TellerTells.{StepsTold}
 use Rattle.play_lists.specs.Given.EffectsDeclared.changed.Changed.TheVariants as changed
 use Rattle.play_lists.specs.Given.FinishesEndings.{MakingStepsAmong}
 use Rattle.play_lists.specs.Given.FinishesMakings.{Beginning, HasTaken, KeepsIts, MakingFacts, OpeningFacts}
-use Rattle.play_stepping.proofs.Given.CallersTogether.At.{at_other, at_same}
+use Rattle.run_grows.proofs.Given.CallersTogether.At.{at_other, at_same}
 use Rattle.play_lists.specs.Given.ScenesHeld.{Held, IsAt}
 use Rattle.play_lists.specs.Given.ScenesMaking.{MakingLeads}
 use Rattle.play_lists.specs.Given.ScenesScene.{Scene, slot_of}
@@ -31,8 +31,8 @@ use Rattle.play_lists.specs.Given.EffectsEffects.{effects_of}
 use Rattle.play_lists.specs.Given.EffectsKnown.{Known}
 use Rattle.play_lists.specs.Given.EffectsDeclared.acting.Acting.TheVariants as acts
 use Rattle.play_lists.specs.Given.OthersMakings.{IsNew, WasNew}
-use Rattle.play_stepping.specs.Given.MomentsNumbers.{AreFound}
-use Rattle.play_stepping.specs.Given.MomentsWhole.{ShowsWhole}
+use Rattle.run_grows.specs.Given.MomentsNumbers.{AreFound}
+use Rattle.run_grows.specs.Given.MomentsWhole.{ShowsWhole}
 use Rattle.play_lists.proofs.Given.OthersMakingGoes.{new_maps_stay}
 use Rattle.play_lists.specs.Given.RemainsNumbered.{NumbersUpTo}
 use Rattle.play_lists.proofs.Given.RemainsNumbered.{makings_keep_count}
@@ -51,7 +51,7 @@ use Rattle.play_linear.proofs.Linear.MapsPlayed.{IsApart}
 use Rattle.play_linear.proofs.Linear.Names.{apart_so}
 use Rattle.play_lists.specs.Agrees.Fresh.{AreNamed}
 use Rattle.play_lists.proofs.Agrees.Names.{come_named, effects_named, gone_named}
-use Rattle.play_stepping.proofs.Given.General.{same_some}
+use Rattle.run_grows.proofs.Given.General.{same_some}
 
 -- it has taken its root where it has it
 has_taken : {K V : Type 0} (w : World (Node K V)) (roots i : ℕ) (n : NewMap) (p : Opening) → OpeningFacts w roots i n p → has_root p ≡ true → HasTaken p

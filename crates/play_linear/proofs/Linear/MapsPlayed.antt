@@ -1,11 +1,11 @@
 -- A step of the making of a map, and of its end, as it is played: the entry is linearizable, and what the moment shows of calls it shows then, while the map comes as it must and goes as it was noted.
 use Rattle.std.specs.Prelude.{◌≡◌, ℕ, Bool, false, List, [], ◌∷◌, flat_map, Some, None}
 use Rattle.std.proofs.Common.{refl, sym, subst}
-use Rattle.play_stepping.specs.Given.SeizeDeclared.advance.Advance.{Advance as Making}
-use Rattle.play_stepping.specs.Given.SeizeDeclared.rows.settle.Settled.{Settled}
+use Rattle.run_grows.specs.Given.SeizeDeclared.advance.Advance.{Advance as Making}
+use Rattle.run_grows.specs.Given.SeizeDeclared.rows.settle.Settled.{Settled}
 use Rattle.play_lists.specs.Given.TablesDeclared.node.Node.{Node}
 use Rattle.play_lists.specs.Given.TablesDeclared.setting.Setting.{Setting}
-use Rattle.play_stepping.specs.Given.ResizeDeclared.new_map.NewMap.{NewMap}
+use Rattle.run_grows.specs.Given.ResizeDeclared.new_map.NewMap.{NewMap}
 use Rattle.run_schedules.specs.Runs.Same.{is_same}
 use Rattle.play_lists.specs.Given.FinishesEndings.{Finishing}
 use Rattle.play_lists.specs.Given.FinishesFactsEnds.{taken_by as taken_of}
@@ -27,10 +27,10 @@ use Rattle.play_lists.specs.Given.ScenesEnding.{EndingLeads}
 use Rattle.play_lists.specs.Given.ScenesHeld.{Held, IsAt}
 use Rattle.play_lists.specs.Given.ScenesMaking.{MakingLeads}
 use Rattle.play_lists.specs.Given.ScenesScene.{Scene}
-use Rattle.play_stepping.specs.Given.MomentsNumbers.{AreFound}
+use Rattle.run_grows.specs.Given.MomentsNumbers.{AreFound}
 use Rattle.play_lists.specs.Given.LoggedEnds.{NotedStill, NotesMap}
 use Rattle.play_lists.proofs.Given.LoggedEndTold.{did_end, ends_alone}
-use Rattle.play_stepping.proofs.Given.NeedsMakings.{makings_do_theirs}
+use Rattle.run_grows.proofs.Needs.Makings.{makings_do_theirs}
 use Rattle.run_schedules.specs.Deeds.Deeds.{Deed, Ends, Entry, Makes, MapComes, MapFails, MapGoes, caller_of, come, moment, named}
 use Rattle.run_schedules.specs.Deeds.History.{IsLinearizable, past}
 use Rattle.play_lists.specs.Played.Play.{State, is_refusal, pairs_for}

@@ -1,15 +1,15 @@
 -- What a moment shows of calls it shows where a row begins on a slot, a map comes or goes, its making or its end begins, after each step of these, and after one by which all is reclaimed.
 use Rattle.std.specs.Prelude.{◌≡◌, ℕ, Bool, false, List, [], Some, None}
 use Rattle.std.proofs.Common.{refl, sym, ◌∙◌}
-use Rattle.play_stepping.specs.Given.SeizeWorld.{Begin, Step}
-use Rattle.play_stepping.specs.Given.SeizeDeclared.advance.Advance.{Advance as Making}
-use Rattle.play_stepping.specs.Given.SeizeDeclared.advance.Advance.TheVariants as progress
-use Rattle.play_stepping.specs.Given.SeizeDeclared.rows.reclaim_all.ReclaimAll.{ReclaimAll}
-use Rattle.play_stepping.specs.Given.SeizeDeclared.rows.settle.Settled.{Settled}
-use Rattle.play_stepping.specs.Given.SeizeDeclared.rows.settle.Settled.TheVariants as settled
+use Rattle.run_grows.specs.Given.SeizeWorld.{Begin, Step}
+use Rattle.run_grows.specs.Given.SeizeDeclared.advance.Advance.{Advance as Making}
+use Rattle.run_grows.specs.Given.SeizeDeclared.advance.Advance.TheVariants as progress
+use Rattle.run_grows.specs.Given.SeizeDeclared.rows.reclaim_all.ReclaimAll.{ReclaimAll}
+use Rattle.run_grows.specs.Given.SeizeDeclared.rows.settle.Settled.{Settled}
+use Rattle.run_grows.specs.Given.SeizeDeclared.rows.settle.Settled.TheVariants as settled
 use Rattle.play_lists.specs.Given.TablesDeclared.node.Node.{Node}
 use Rattle.play_lists.specs.Given.TablesDeclared.setting.Setting.{Setting}
-use Rattle.play_stepping.specs.Given.CallersTogether.{OnKey, UnderWay}
+use Rattle.run_grows.specs.Given.CallersTogether.{OnKey, UnderWay}
 use Rattle.play_lists.specs.Given.FinishesEndings.{Finishing}
 use Rattle.play_lists.specs.Given.FinishesMakings.{Beginning, HasMade}
 use Rattle.play_lists.specs.Given.FinishesMaps.{Standing}
@@ -35,13 +35,13 @@ use Rattle.play_lists.specs.Given.ScenesDeclared.row.SlotRow.{SlotRow}
 use Rattle.play_lists.specs.Given.OthersEndings.{ending_after, without_map}
 use Rattle.play_lists.specs.Given.OthersMakings.{WasNew, making_after}
 use Rattle.play_lists.specs.Given.OthersRows.{scene_then}
-use Rattle.play_stepping.specs.Given.MomentsEndings.{IsOfIts}
-use Rattle.play_stepping.specs.Given.MomentsNumbers.{AreFound}
-use Rattle.play_stepping.proofs.Given.MomentsEnds.{endings_begin_whole, endings_keep_whole}
-use Rattle.play_stepping.proofs.Given.MomentsMakingSteps.{makings_keep_whole}
-use Rattle.play_stepping.proofs.Given.MomentsMapsCome.{makings_begin_whole, maps_come_whole}
-use Rattle.play_stepping.proofs.Given.MomentsOnSlots.{rows_begin_whole, rows_keep_whole}
-use Rattle.play_stepping.proofs.Given.MomentsOver.{endings_are_over_whole}
+use Rattle.run_grows.specs.Given.MomentsEndings.{IsOfIts}
+use Rattle.run_grows.specs.Given.MomentsNumbers.{AreFound}
+use Rattle.run_grows.proofs.Given.MomentsEnds.{endings_begin_whole, endings_keep_whole}
+use Rattle.run_grows.proofs.Given.MomentsMakingSteps.{makings_keep_whole}
+use Rattle.run_grows.proofs.Given.MomentsMapsCome.{makings_begin_whole, maps_come_whole}
+use Rattle.run_grows.proofs.Given.MomentsOnSlots.{rows_begin_whole, rows_keep_whole}
+use Rattle.run_grows.proofs.Given.MomentsOver.{endings_are_over_whole}
 use Rattle.play_lists.proofs.Given.HistoriesAside.Stays.{as_called_stays, dues_stay}
 use Rattle.play_lists.proofs.Given.HistoriesQuestions.{effects_keep_questions}
 use Rattle.play_lists.proofs.Given.KeptOthers.{endings_begin_kept, endings_find_kept, endings_keep_kept, makings_keep_kept, rows_begin_kept, rows_find_kept, rows_keep_kept}

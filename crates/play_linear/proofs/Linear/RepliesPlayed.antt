@@ -1,15 +1,15 @@
 -- Where a call takes a reply, as it is played, the entry is linearizable, and what the moment shows of calls and of what they were told it shows then.
 use Rattle.std.specs.Prelude.{◌≡◌, ◌⊎◌, ℕ, Bool, false, [], ◌∷◌, Option, Some, Ok, is_ok, if◌then◌else◌}
 use Rattle.std.proofs.Common.{refl, ap, sym, subst, ◌∙◌, inl, inr}
-use Rattle.play_stepping.specs.Given.RawMachine.{machine_replied}
-use Rattle.play_stepping.specs.Given.RawDeclared.machines.asking.MachineReply.{MachineReply}
-use Rattle.play_stepping.specs.Given.RawDeclared.machines.asking.MachineReply.TheVariants as told
-use Rattle.play_stepping.specs.Given.RawDeclared.machines.machine.Machine.{Machine}
-use Rattle.play_stepping.specs.Given.CallersTogether.{UnderWay, OnKey, ForRoom, Counting, OverAll}
+use Rattle.run_grows.specs.Given.RawMachine.{machine_replied}
+use Rattle.run_grows.specs.Given.RawDeclared.machines.asking.MachineReply.{MachineReply}
+use Rattle.run_grows.specs.Given.RawDeclared.machines.asking.MachineReply.TheVariants as told
+use Rattle.run_grows.specs.Given.RawDeclared.machines.machine.Machine.{Machine}
+use Rattle.run_grows.specs.Given.CallersTogether.{UnderWay, OnKey, ForRoom, Counting, OverAll}
 use Rattle.play_lists.specs.Given.FinishesMachines.{ToldOfKind, machine_of}
 use Rattle.play_lists.specs.Given.FinishesMaps.{Standing, with_call}
 use Rattle.play_lists.specs.Given.FollowsCalls.{IsCalled}
-use Rattle.play_stepping.specs.Given.HandsAsked.{as_told}
+use Rattle.run_grows.specs.Given.HandsAsked.{as_told}
 use Rattle.run_schedules.specs.declared.call.Call.TheVariants.{On}
 use Rattle.run_schedules.specs.declared.call.OneKey.{OneKey}
 use Rattle.run_schedules.specs.declared.call.Reply.{Reply}
@@ -18,8 +18,8 @@ use Rattle.run_schedules.specs.Schedules.Moment.{Asking, Told, UnderWay as CallT
 use Rattle.play_lists.specs.Given.ScenesHeld.{Held, IsAt}
 use Rattle.play_lists.specs.Given.ScenesReplying.{scene_with}
 use Rattle.play_lists.specs.Given.ScenesScene.{Scene, slot_of}
-use Rattle.play_stepping.specs.Given.NamedMachines.{aborted_by}
-use Rattle.play_stepping.specs.Given.ChangesChanges.{IsTaken}
+use Rattle.run_grows.specs.Given.NamedMachines.{aborted_by}
+use Rattle.run_grows.specs.Given.ChangesChanges.{IsTaken}
 use Rattle.play_lists.specs.Given.ValuesValues.{KeepsValue}
 use Rattle.play_lists.proofs.Given.ValuesValues.{values_taken}
 use Rattle.run_schedules.specs.Deeds.Deeds.{Entry, Replies, moment, named}
@@ -32,7 +32,7 @@ use Rattle.play_linear.proofs.Linear.Heard.{IsHeard, replies_aside, replies_itse
 use Rattle.play_linear.proofs.Linear.HeardAll.{AreHeard, AreHeardAt, none_other, one_heard}
 use Rattle.play_linear.proofs.Linear.Taken.{replies_are_taken}
 use Rattle.play_linear.proofs.Linear.TakesReply.{TakesNone, refuses, took_none}
-use Rattle.play_stepping.proofs.Given.General.{same_some}
+use Rattle.run_grows.proofs.Given.General.{same_some}
 
 -- what is told so is told by that reply
 pub told_back : {V : Type 0} (aborts : V) (told_it : MachineReply V) → as_told (reply_for aborts told_it) ≡ told_it

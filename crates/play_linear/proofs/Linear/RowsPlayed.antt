@@ -1,15 +1,15 @@
 -- A row that begins on a slot, its step, and one by which all is reclaimed, as they are played: the entry is linearizable, and what the moment shows of calls it shows then.
 use Rattle.std.specs.Prelude.{◌≡◌, ◌==◌, ℕ, Bool, true, false, List, ◌∷◌, None, if◌then◌else◌}
 use Rattle.std.proofs.Common.{refl, inl}
-use Rattle.play_stepping.specs.Given.SeizeWorld.{Step}
-use Rattle.play_stepping.specs.Given.SeizeDeclared.states.TheConstants.{ACTIVE}
-use Rattle.play_stepping.specs.Given.SeizeDeclared.rows.leave.Leave.{Leave}
-use Rattle.play_stepping.specs.Given.SeizeDeclared.rows.leave.Leaving.{Leaving}
-use Rattle.play_stepping.specs.Given.SeizeDeclared.rows.leave.Leaving.TheVariants as leaves
-use Rattle.play_stepping.specs.Given.SeizeDeclared.rows.reclaim_all.ReclaimAll.{ReclaimAll}
-use Rattle.play_stepping.specs.Given.SeizeDeclared.rows.register.Registering.{Registering}
-use Rattle.play_stepping.specs.Given.SeizeDeclared.rows.register.Registering.TheVariants as registers
-use Rattle.play_stepping.specs.Given.SeizeDeclared.rows.settle.Settled.{Settled}
+use Rattle.run_grows.specs.Given.SeizeWorld.{Step}
+use Rattle.run_grows.specs.Given.SeizeDeclared.states.TheConstants.{ACTIVE}
+use Rattle.run_grows.specs.Given.SeizeDeclared.rows.leave.Leave.{Leave}
+use Rattle.run_grows.specs.Given.SeizeDeclared.rows.leave.Leaving.{Leaving}
+use Rattle.run_grows.specs.Given.SeizeDeclared.rows.leave.Leaving.TheVariants as leaves
+use Rattle.run_grows.specs.Given.SeizeDeclared.rows.reclaim_all.ReclaimAll.{ReclaimAll}
+use Rattle.run_grows.specs.Given.SeizeDeclared.rows.register.Registering.{Registering}
+use Rattle.run_grows.specs.Given.SeizeDeclared.rows.register.Registering.TheVariants as registers
+use Rattle.run_grows.specs.Given.SeizeDeclared.rows.settle.Settled.{Settled}
 use Rattle.play_lists.specs.Given.TablesDeclared.node.Node.{Node}
 use Rattle.run_schedules.specs.declared.effect.Effect.{Effect}
 use Rattle.run_schedules.specs.declared.outcome.Outcome.{Outcome}

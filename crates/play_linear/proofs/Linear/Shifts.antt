@@ -21,7 +21,7 @@ use Rattle.play_lists.specs.Given.EffectsDeclared.role.Role.TheVariants as role
 use Rattle.play_lists.proofs.Given.OthersRowPlans.{TellsRow}
 use Rattle.play_lists.specs.Given.LoggedEnds.{ended_as}
 use Rattle.play_lists.proofs.Given.ShedsReclaiming.Rows.{EmptiesRoot}
-use Rattle.run_legal.proofs.MapsEnd.{making_none as first_shifts}
+use Rattle.run_grows.proofs.Needs.Shifts.{making_none as first_shifts}
 
 -- what takes a block away shifts nothing
 taken_shifts : (who : Acting) (r : Role) → flat_map shift_of (taken_by who r) ≡ []

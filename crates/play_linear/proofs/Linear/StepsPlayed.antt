@@ -3,10 +3,10 @@ use Rattle.std.specs.Prelude.{◌≡◌, ◌⊎◌, ◌+◌, ℕ, Bool, true, fa
 use Rattle.std.proofs.Common.{refl, ap, sym, subst, ◌∙◌, inl, inr}
 use Rattle.run_schedules.specs.Given.SeizeWordsMem.{Mem}
 use Rattle.play_lists.specs.Given.TablesDeclared.node.Node.{Node}
-use Rattle.play_stepping.specs.Given.RawDeclared.machines.machine.Machine.{Machine}
-use Rattle.play_stepping.specs.Given.RawDeclared.machines.progress.Progress.{Progress}
-use Rattle.play_stepping.specs.Given.RawDeclared.machines.progress.Progress.TheVariants as progress
-use Rattle.play_stepping.specs.Given.CallersTogether.{UnderWay}
+use Rattle.run_grows.specs.Given.RawDeclared.machines.machine.Machine.{Machine}
+use Rattle.run_grows.specs.Given.RawDeclared.machines.progress.Progress.{Progress}
+use Rattle.run_grows.specs.Given.RawDeclared.machines.progress.Progress.TheVariants as progress
+use Rattle.run_grows.specs.Given.CallersTogether.{UnderWay}
 use Rattle.play_lists.specs.Given.FinishesMachines.{machine_of}
 use Rattle.run_schedules.specs.declared.call.Call.{Call}
 use Rattle.run_schedules.specs.declared.call.Reply.{Reply}
@@ -23,9 +23,9 @@ use Rattle.play_lists.specs.Given.ScenesHeld.{Held, IsAt}
 use Rattle.play_lists.specs.Given.ScenesScene.{Scene}
 use Rattle.play_lists.proofs.Given.ScenesGoes.{goes_as}
 use Rattle.play_lists.specs.Given.ScenesStepping.{StepLeads, has_ended, scene_after}
-use Rattle.play_stepping.specs.Given.NamedSeen.{kind_of}
-use Rattle.play_stepping.specs.Given.NamedTelling.{number_by}
-use Rattle.play_stepping.specs.Given.ExecutorDeclared.kind.CallKind.{CallKind}
+use Rattle.run_grows.specs.Given.NamedSeen.{kind_of}
+use Rattle.run_grows.specs.Given.NamedTelling.{number_by}
+use Rattle.run_grows.specs.Given.ExecutorDeclared.kind.CallKind.{CallKind}
 use Rattle.play_lists.specs.Given.HistoriesInEvent.{ComesSo}
 use Rattle.play_lists.specs.Given.ValuesValues.{KeepsValue, kept_after}
 use Rattle.play_lists.proofs.Given.ValuesValues.{values_go_on}
@@ -40,7 +40,7 @@ use Rattle.play_linear.proofs.Linear.Comes.{steps_come_so}
 use Rattle.play_linear.proofs.Linear.Heard.{IsHeard, IsSaid, come_asks, come_said, steps_aside, steps_itself}
 use Rattle.play_linear.proofs.Linear.HeardAll.{AreHeard, none_other, one_heard}
 use Rattle.play_linear.proofs.Linear.TakesReply.{TakesNone, steps_take_none}
-use Rattle.play_stepping.proofs.Given.General.{same_some}
+use Rattle.run_grows.proofs.Given.General.{same_some}
 
 -- what is told alike of both is there alike
 pub there_alike : {A B C : Type 0} (f : A → C) (g : B → C) (o : Option A) (p : Option B) → option_map f o ≡ option_map g p → (a : A) → o ≡ Some a → (b : B) × (p ≡ Some b) × (f a ≡ g b)

@@ -1,23 +1,23 @@
 -- A reply that a call on one key takes is one of its kind: a yes or no for `remove_if`, and for `compute` what is not.
 use Rattle.std.specs.Prelude.{◌≡◌, ℕ, Bool, true, false, List, Some, Ok}
 use Rattle.std.proofs.Common.{ap, subst, ◌∙◌, inl, inr}
-use Rattle.play_stepping.specs.Given.RawCallAsks.{absent_told, present_told, told_at}
-use Rattle.play_stepping.specs.Given.RawMachine.{machine_replied}
-use Rattle.play_stepping.specs.Given.RawDeclared.machines.asking.Asking.TheVariants as asking
-use Rattle.play_stepping.specs.Given.RawDeclared.machines.asking.Gap.{Gap}
-use Rattle.play_stepping.specs.Given.RawDeclared.machines.asking.MachineReply.{MachineReply}
-use Rattle.play_stepping.specs.Given.RawDeclared.machines.asking.MachineReply.TheVariants as reply
-use Rattle.play_stepping.specs.Given.RawDeclared.machines.asking.Takes.{Takes}
-use Rattle.play_stepping.specs.Given.RawDeclared.machines.asking.Takes.TheVariants as takes
-use Rattle.play_stepping.specs.Given.RawDeclared.machines.call.Calling.{Calling}
-use Rattle.play_stepping.specs.Given.RawDeclared.machines.call.Calling.TheVariants as at
-use Rattle.play_stepping.specs.Given.RawDeclared.machines.call.KeyCall.{KeyCall}
-use Rattle.play_stepping.specs.Given.RawDeclared.machines.machine.Machine.TheVariants as kinds
-use Rattle.play_stepping.specs.Given.PointsTold.{IsRowOfCall}
-use Rattle.play_stepping.specs.Given.CallersAsked.{Asked}
-use Rattle.play_stepping.specs.Given.CallersPairs.{Given, kind_of}
-use Rattle.play_stepping.specs.Given.CallersSights.{seen_by}
-use Rattle.play_stepping.specs.Given.CallersTogether.{CallOnKey, OnKey, Stands as TogetherStands}
+use Rattle.run_grows.specs.Given.RawCallAsks.{absent_told, present_told, told_at}
+use Rattle.run_grows.specs.Given.RawMachine.{machine_replied}
+use Rattle.run_grows.specs.Given.RawDeclared.machines.asking.Asking.TheVariants as asking
+use Rattle.run_grows.specs.Given.RawDeclared.machines.asking.Gap.{Gap}
+use Rattle.run_grows.specs.Given.RawDeclared.machines.asking.MachineReply.{MachineReply}
+use Rattle.run_grows.specs.Given.RawDeclared.machines.asking.MachineReply.TheVariants as reply
+use Rattle.run_grows.specs.Given.RawDeclared.machines.asking.Takes.{Takes}
+use Rattle.run_grows.specs.Given.RawDeclared.machines.asking.Takes.TheVariants as takes
+use Rattle.run_grows.specs.Given.RawDeclared.machines.call.Calling.{Calling}
+use Rattle.run_grows.specs.Given.RawDeclared.machines.call.Calling.TheVariants as at
+use Rattle.run_grows.specs.Given.RawDeclared.machines.call.KeyCall.{KeyCall}
+use Rattle.run_grows.specs.Given.RawDeclared.machines.machine.Machine.TheVariants as kinds
+use Rattle.run_grows.specs.Given.PointsTold.{IsRowOfCall}
+use Rattle.run_grows.specs.Given.CallersAsked.{Asked}
+use Rattle.run_grows.specs.Given.CallersPairs.{Given, kind_of}
+use Rattle.run_grows.specs.Given.CallersSights.{seen_by}
+use Rattle.run_grows.specs.Given.CallersTogether.{CallOnKey, OnKey, Stands as TogetherStands}
 use Rattle.play_lists.specs.Given.FinishesMaps.{Standing}
 use Rattle.run_schedules.specs.declared.call.Call.{Call}
 use Rattle.run_schedules.specs.declared.call.Call.TheVariants.{On}
@@ -28,13 +28,13 @@ use Rattle.run_schedules.specs.declared.call.Reply.TheVariants.{Gives, Removes, 
 use Rattle.run_schedules.specs.Schedules.Moment.{Moment, UnderWay as CallThere}
 use Rattle.run_schedules.specs.Schedules.Views.{call_of}
 use Rattle.play_lists.specs.Given.EffectsKnown.{Known}
-use Rattle.play_stepping.specs.Given.HandsAsked.{IsAskedAs, IsAskedOn, as_told, given_by}
+use Rattle.run_grows.specs.Given.HandsAsked.{IsAskedAs, IsAskedOn, as_told, given_by}
 use Rattle.play_lists.specs.Given.ScenesHeld.{Held, IsAt}
 use Rattle.play_lists.specs.Given.ScenesScene.{Scene, slot_of}
-use Rattle.play_stepping.specs.Given.MomentsWhole.{ShowsWhole}
-use Rattle.play_stepping.specs.Given.ChangesChanges.{IsTaken}
+use Rattle.run_grows.specs.Given.MomentsWhole.{ShowsWhole}
+use Rattle.run_grows.specs.Given.ChangesChanges.{IsTaken}
 use Rattle.play_lists.proofs.Given.ScenesMay.{standing_is}
-use Rattle.play_stepping.proofs.Given.SchedulerReplied.{of_kind}
+use Rattle.run_grows.proofs.Given.LogKinds.{of_kind}
 
 module _ {K V Q : Type 0} where
   -- what is taken nowhere by calls that take such replies, one of them does not take

@@ -6,39 +6,39 @@ use Rattle.run_schedules.specs.Given.SeizeWordsDeclared.fault.Fault.TheVariants.
 use Rattle.play_lists.specs.Given.TablesDeclared.marks.TheConstants.{TOMBSTONE}
 use Rattle.play_lists.specs.Given.TablesDeclared.node.Node.{Node}
 use Rattle.play_lists.specs.Given.TablesDeclared.setting.Setting.{Setting}
-use Rattle.play_stepping.specs.Given.ResizeSum.{sum_plan}
-use Rattle.play_stepping.specs.Given.ReservesReserve.{reserve_plan}
-use Rattle.play_stepping.specs.Given.SweepsSweep.{plan_at as sweep_at}
-use Rattle.play_stepping.specs.Given.SweepsSweepPoints.{further, next_at, past, removes, reply_at}
-use Rattle.play_stepping.specs.Given.ReservesDeclared.sweep.Sweep.{Sweep}
-use Rattle.play_stepping.specs.Given.ReservesDeclared.sweep.Sweeping.{Sweeping}
-use Rattle.play_stepping.specs.Given.ReservesDeclared.sweep.Sweeping.TheVariants as sweeping
-use Rattle.play_stepping.specs.Given.ReservesDeclared.sweep.Swept.{Swept}
-use Rattle.play_stepping.specs.Given.ReservesDeclared.sweep.Swept.TheVariants as swept_as
-use Rattle.play_stepping.specs.Given.RawCall.{plan_at}
-use Rattle.play_stepping.specs.Given.RawCallAsks.{absent_told, present_told, told_at, with_absent, with_present}
-use Rattle.play_stepping.specs.Given.RawCallPoints.{at_gap, burying, ending, going, over}
-use Rattle.play_stepping.specs.Given.RawMachine.{called, counted, machine_asked, machine_replied, reserved, swept, sweep_told}
-use Rattle.play_stepping.specs.Given.RawDeclared.machines.answer.Called.{Called}
-use Rattle.play_stepping.specs.Given.RawDeclared.machines.answer.Called.TheVariants as says
-use Rattle.play_stepping.specs.Given.RawDeclared.machines.answer.End.{End}
-use Rattle.play_stepping.specs.Given.RawDeclared.machines.answer.End.TheVariants as ends
-use Rattle.play_stepping.specs.Given.RawDeclared.machines.answer.KeyAnswer.TheVariants as answers
-use Rattle.play_stepping.specs.Given.RawDeclared.machines.asking.Asking.TheVariants as asking
-use Rattle.play_stepping.specs.Given.RawDeclared.machines.asking.Gap.{Gap}
-use Rattle.play_stepping.specs.Given.RawDeclared.machines.asking.Gap.TheVariants as gaps
-use Rattle.play_stepping.specs.Given.RawDeclared.machines.asking.MachineReply.{MachineReply}
-use Rattle.play_stepping.specs.Given.RawDeclared.machines.asking.MachineReply.TheVariants as reply
-use Rattle.play_stepping.specs.Given.RawDeclared.machines.asking.Takes.{Takes}
-use Rattle.play_stepping.specs.Given.RawDeclared.machines.asking.Takes.TheVariants as takes
-use Rattle.play_stepping.specs.Given.RawDeclared.machines.asking.Told.TheVariants as tells
-use Rattle.play_stepping.specs.Given.RawDeclared.machines.call.Calling.{Calling}
-use Rattle.play_stepping.specs.Given.RawDeclared.machines.call.Calling.TheVariants as at
-use Rattle.play_stepping.specs.Given.RawDeclared.machines.call.KeyCall.{KeyCall}
-use Rattle.play_stepping.specs.Given.RawDeclared.machines.machine.Machine.{Machine}
-use Rattle.play_stepping.specs.Given.RawDeclared.machines.machine.Machine.TheVariants as kinds
-use Rattle.play_stepping.specs.Given.RawDeclared.machines.progress.Progress.{Progress}
-use Rattle.play_stepping.specs.Given.RawDeclared.machines.progress.Progress.TheVariants as progress
+use Rattle.run_grows.specs.Given.ResizeSum.{sum_plan}
+use Rattle.run_grows.specs.Given.ReservesReserve.{reserve_plan}
+use Rattle.run_grows.specs.Given.SweepsSweep.{plan_at as sweep_at}
+use Rattle.run_grows.specs.Given.SweepsSweepPoints.{further, next_at, past, removes, reply_at}
+use Rattle.run_grows.specs.Given.ReservesDeclared.sweep.Sweep.{Sweep}
+use Rattle.run_grows.specs.Given.ReservesDeclared.sweep.Sweeping.{Sweeping}
+use Rattle.run_grows.specs.Given.ReservesDeclared.sweep.Sweeping.TheVariants as sweeping
+use Rattle.run_grows.specs.Given.ReservesDeclared.sweep.Swept.{Swept}
+use Rattle.run_grows.specs.Given.ReservesDeclared.sweep.Swept.TheVariants as swept_as
+use Rattle.run_grows.specs.Given.RawCall.{plan_at}
+use Rattle.run_grows.specs.Given.RawCallAsks.{absent_told, present_told, told_at, with_absent, with_present}
+use Rattle.run_grows.specs.Given.RawCallPoints.{at_gap, burying, ending, going, over}
+use Rattle.run_grows.specs.Given.RawMachine.{called, counted, machine_asked, machine_replied, reserved, swept, sweep_told}
+use Rattle.run_grows.specs.Given.RawDeclared.machines.answer.Called.{Called}
+use Rattle.run_grows.specs.Given.RawDeclared.machines.answer.Called.TheVariants as says
+use Rattle.run_grows.specs.Given.RawDeclared.machines.answer.End.{End}
+use Rattle.run_grows.specs.Given.RawDeclared.machines.answer.End.TheVariants as ends
+use Rattle.run_grows.specs.Given.RawDeclared.machines.answer.KeyAnswer.TheVariants as answers
+use Rattle.run_grows.specs.Given.RawDeclared.machines.asking.Asking.TheVariants as asking
+use Rattle.run_grows.specs.Given.RawDeclared.machines.asking.Gap.{Gap}
+use Rattle.run_grows.specs.Given.RawDeclared.machines.asking.Gap.TheVariants as gaps
+use Rattle.run_grows.specs.Given.RawDeclared.machines.asking.MachineReply.{MachineReply}
+use Rattle.run_grows.specs.Given.RawDeclared.machines.asking.MachineReply.TheVariants as reply
+use Rattle.run_grows.specs.Given.RawDeclared.machines.asking.Takes.{Takes}
+use Rattle.run_grows.specs.Given.RawDeclared.machines.asking.Takes.TheVariants as takes
+use Rattle.run_grows.specs.Given.RawDeclared.machines.asking.Told.TheVariants as tells
+use Rattle.run_grows.specs.Given.RawDeclared.machines.call.Calling.{Calling}
+use Rattle.run_grows.specs.Given.RawDeclared.machines.call.Calling.TheVariants as at
+use Rattle.run_grows.specs.Given.RawDeclared.machines.call.KeyCall.{KeyCall}
+use Rattle.run_grows.specs.Given.RawDeclared.machines.machine.Machine.{Machine}
+use Rattle.run_grows.specs.Given.RawDeclared.machines.machine.Machine.TheVariants as kinds
+use Rattle.run_grows.specs.Given.RawDeclared.machines.progress.Progress.{Progress}
+use Rattle.run_grows.specs.Given.RawDeclared.machines.progress.Progress.TheVariants as progress
 use Rattle.play_lists.specs.Given.EffectsDeclared.changed.Changed.TheVariants.{Nothing}
 use Rattle.run_schedules.specs.declared.call.Call.{Call}
 use Rattle.run_schedules.specs.declared.call.Call.TheVariants as calls
@@ -48,7 +48,7 @@ use Rattle.play_lists.specs.Given.ScenesHeld.{Held}
 use Rattle.play_lists.specs.Given.ScenesStepping.{StepsFrom}
 use Rattle.play_lists.proofs.Given.RuleKeys.Always.{always_plan_as}
 use Rattle.play_lists.proofs.Given.HistoriesAsking.{always_told, always_turned}
-use Rattle.play_stepping.specs.Given.NamedMachines.{machine_for}
+use Rattle.run_grows.specs.Given.NamedMachines.{machine_for}
 use Rattle.play_linear.proofs.Linear.Aloud as keys
 use Rattle.play_linear.proofs.Linear.AloudSweeps as sweeps
 

@@ -2,29 +2,29 @@
 use Rattle.std.specs.Prelude.{Bool, true, false, Option, Some, None, flat_map, if◌then◌else◌}
 use Rattle.std.specs.Option.{is_none}
 use Rattle.std.proofs.Common.{◌≡◌, ℕ, List, [], refl, ap, sym, subst, ◌∙◌}
-use Rattle.play_stepping.specs.Given.SeizeWorld.{World}
-use Rattle.play_stepping.specs.Given.SeizeDeclared.advance.Advance.{Advance}
-use Rattle.play_stepping.specs.Given.SeizeDeclared.rows.settle.Settled.{Settled}
+use Rattle.run_grows.specs.Given.SeizeWorld.{World}
+use Rattle.run_grows.specs.Given.SeizeDeclared.advance.Advance.{Advance}
+use Rattle.run_grows.specs.Given.SeizeDeclared.rows.settle.Settled.{Settled}
 use Rattle.play_lists.specs.Given.TablesNodes.{deferred_word}
 use Rattle.play_lists.specs.Given.TablesDeclared.node.Node.{Node}
 use Rattle.play_lists.specs.Given.TablesDeclared.setting.Setting.{Setting}
-use Rattle.play_stepping.specs.Given.ResizeDeclared.new_map.NewMap.{NewMap}
-use Rattle.play_stepping.specs.Given.RawDeclared.machines.progress.Progress.{Progress as CallProgress}
+use Rattle.run_grows.specs.Given.ResizeDeclared.new_map.NewMap.{NewMap}
+use Rattle.run_grows.specs.Given.RawDeclared.machines.progress.Progress.{Progress as CallProgress}
 use Rattle.run_schedules.specs.Schedules.Effects.{with_effects}
 use Rattle.run_schedules.specs.Schedules.Model.{thing_back}
 use Rattle.run_schedules.specs.Schedules.Moment.{Moment, UnderWay as CallThere}
 use Rattle.run_schedules.specs.declared.call.Call.{Call}
 use Rattle.run_schedules.specs.declared.effect.Effect.{Effect}
 use Rattle.run_schedules.specs.declared.outcome.Outcome.{Outcome}
-use Rattle.play_stepping.specs.Given.CallersTogether.{UnderWay}
-use Rattle.play_stepping.proofs.Given.CallersTogether.Came.{came_reached}
+use Rattle.run_grows.specs.Given.CallersTogether.{UnderWay}
+use Rattle.run_grows.proofs.Given.CallersTogether.Came.{came_reached}
 use Rattle.seize_acts.proofs.Given.SeizeAloneHistories.Reached.{Reached}
 use Rattle.play_lists.specs.Given.EffectsEffects.{effects_of, known_after}
 use Rattle.play_lists.specs.Given.EffectsKnown.{Known}
 use Rattle.play_lists.specs.Given.EffectsDeclared.acting.Acting.TheVariants as acts
 use Rattle.play_lists.specs.Given.FinishesEndings.{Finishing}
 use Rattle.play_lists.specs.Given.FinishesMakings.{Beginning}
-use Rattle.play_stepping.specs.Given.MomentsWhole.{ShowsWhole}
+use Rattle.run_grows.specs.Given.MomentsWhole.{ShowsWhole}
 use Rattle.play_lists.specs.Given.OthersMakings.{WasNew}
 use Rattle.play_lists.specs.Given.ScenesEnding.{EndingLeads}
 use Rattle.play_lists.specs.Given.ScenesHeld.{Held, IsAt}

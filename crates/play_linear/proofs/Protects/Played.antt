@@ -3,18 +3,18 @@ use Rattle.std.specs.Prelude.{Bool, true, false, Some, is_ok, length, if◌then�
 use Rattle.std.proofs.Common.{◌≡◌, ℕ, [], ◌∷◌, refl, ap, sym, subst, ◌∙◌}
 use Rattle.seize_acts.specs.Acts.Acts.{row_steps}
 use Rattle.seize_acts.specs.Acts.Answers.{Grant}
-use Rattle.play_stepping.specs.Given.SeizeLaw.{Ended}
-use Rattle.play_stepping.specs.Given.SeizeWorld.{Row, World}
-use Rattle.play_stepping.specs.Given.SeizeDeclared.advance.Advance.{Advance}
-use Rattle.play_stepping.specs.Given.SeizeDeclared.advance.Advance.TheVariants as progress
-use Rattle.play_stepping.specs.Given.SeizeDeclared.rows.settle.Settled.{Settled}
-use Rattle.play_stepping.specs.Given.SeizeDeclared.rows.settle.Settled.TheVariants as settled
+use Rattle.run_grows.specs.Given.SeizeLaw.{Ended}
+use Rattle.run_grows.specs.Given.SeizeWorld.{Row, World}
+use Rattle.run_grows.specs.Given.SeizeDeclared.advance.Advance.{Advance}
+use Rattle.run_grows.specs.Given.SeizeDeclared.advance.Advance.TheVariants as progress
+use Rattle.run_grows.specs.Given.SeizeDeclared.rows.settle.Settled.{Settled}
+use Rattle.run_grows.specs.Given.SeizeDeclared.rows.settle.Settled.TheVariants as settled
 use Rattle.play_lists.specs.Given.TablesNodes.{deferred_word}
 use Rattle.play_lists.specs.Given.TablesDeclared.node.Node.{Node}
 use Rattle.play_lists.specs.Given.TablesDeclared.setting.Setting.{Setting}
-use Rattle.play_stepping.specs.Given.ResizeDeclared.new_map.NewMap.{NewMap}
-use Rattle.play_stepping.specs.Given.RawMachine.{machine_asked, machine_replied}
-use Rattle.play_stepping.specs.Given.RawDeclared.machines.end_map.EndMap.{EndMap}
+use Rattle.run_grows.specs.Given.ResizeDeclared.new_map.NewMap.{NewMap}
+use Rattle.run_grows.specs.Given.RawMachine.{machine_asked, machine_replied}
+use Rattle.run_grows.specs.Given.RawDeclared.machines.end_map.EndMap.{EndMap}
 use Rattle.run_schedules.specs.declared.holders.NamedGuard.{NamedGuard}
 use Rattle.run_schedules.specs.Schedules.Moment.{Moment}
 use Rattle.run_schedules.specs.declared.outcome.Outcome.{Outcome}
@@ -35,7 +35,7 @@ use Rattle.play_lists.specs.Given.ActsActs.{Act, Answer, AsksCall, BeginsCall, B
 use Rattle.play_lists.specs.Given.ActsAsSteps.{EndedTo, LeadsAs, MadeTo, changed_by, held_in, row_changed, row_told}
 use Rattle.play_lists.specs.Given.ActsLeads.{Led, MayBe}
 use Rattle.run_schedules.specs.Deeds.Deeds.{Begins, Entry, Replies, Steps, Stops, begun, moment}
-use Rattle.play_stepping.specs.Given.NamedSeen.{kind_of}
+use Rattle.run_grows.specs.Given.NamedSeen.{kind_of}
 use Rattle.play_lists.specs.Played.Play.{State, call_for, ending_deed, has_root, is_refusal, making_deed, making_outcome, outcome_of, reply_for, row_deed, row_outcome, row_stepped, settled_outcome}
 use Rattle.play_lists.specs.Played.Reached.{IsOf, row_or_rests}
 use Rattle.play_lists.proofs.Played.PlayedAs.{PlayedAs}

@@ -4,18 +4,18 @@ use Rattle.run_schedules.specs.Given.SeizeWordsMem.{Mem}
 use Rattle.run_schedules.specs.Given.SeizeWordsOp.{Out, Exchange, Exchanged}
 use Rattle.std.specs.Prelude.{Ok}
 use Rattle.run_schedules.specs.Given.SeizeWordsDeclared.at.At.TheVariants.{Used}
-use Rattle.play_stepping.specs.Given.SeizeDeclared.advance.Advance.{Advance}
+use Rattle.run_grows.specs.Given.SeizeDeclared.advance.Advance.{Advance}
 use Rattle.play_lists.specs.Given.TablesDeclared.node.Node.{Node}
 use Rattle.play_lists.specs.Given.TablesDeclared.setting.Setting.{Setting}
-use Rattle.play_stepping.specs.Given.ResizeNewMap.{plan_at}
-use Rattle.play_stepping.specs.Given.ResizeDeclared.new_map.NewMap.{NewMap}
-use Rattle.play_stepping.specs.Given.ResizeDeclared.new_map.Opening.{Opening}
-use Rattle.play_stepping.specs.Given.ResizeDeclared.new_map.Opening.TheVariants as openings
+use Rattle.run_grows.specs.Given.ResizeNewMap.{plan_at}
+use Rattle.run_grows.specs.Given.ResizeDeclared.new_map.NewMap.{NewMap}
+use Rattle.run_grows.specs.Given.ResizeDeclared.new_map.Opening.{Opening}
+use Rattle.run_grows.specs.Given.ResizeDeclared.new_map.Opening.TheVariants as openings
 use Rattle.play_lists.specs.Given.TellsSeen.{seen_of}
 use Rattle.play_lists.specs.Given.TellerTells.{StepsTold, told_of}
 use Rattle.play_lists.specs.Given.EffectsDeclared.changed.Changed.{Changed}
 use Rattle.play_lists.specs.Given.EffectsDeclared.changed.Changed.TheVariants as changed
-use Rattle.play_stepping.specs.Given.SeizeWorld.{World}
+use Rattle.run_grows.specs.Given.SeizeWorld.{World}
 use Rattle.run_schedules.specs.Runs.Present.{Present}
 use Rattle.run_schedules.specs.Schedules.Moment.{Moment, Sheltered}
 use Rattle.play_lists.specs.Given.EffectsEffects.{known_after}

@@ -1,15 +1,15 @@
 -- What a moment shows of sweeps and counts it shows where a call begins, takes a step, takes a reply, goes on as a walk, or is given up.
 use Rattle.std.specs.Prelude.{◌≡◌, ℕ, Bool, true, Option, Some, None, Ok}
 use Rattle.std.proofs.Common.{refl, ap, sym, subst, ◌∙◌, arith, inl, inr}
-use Rattle.play_stepping.specs.Given.SweepsSweepPoints.{after_next}
-use Rattle.play_stepping.specs.Given.ReservesDeclared.sweep.Purpose.TheVariants as purpose
-use Rattle.play_stepping.specs.Given.ReservesDeclared.sweep.Sweeping.TheVariants as sweeping
+use Rattle.run_grows.specs.Given.SweepsSweepPoints.{after_next}
+use Rattle.run_grows.specs.Given.ReservesDeclared.sweep.Purpose.TheVariants as purpose
+use Rattle.run_grows.specs.Given.ReservesDeclared.sweep.Sweeping.TheVariants as sweeping
 use Rattle.play_lists.specs.Given.TablesDeclared.node.Node.{Node}
-use Rattle.play_stepping.specs.Given.RawMachine.{machine_replied}
-use Rattle.play_stepping.specs.Given.RawDeclared.machines.progress.Progress.{Progress}
-use Rattle.play_stepping.specs.Given.RawDeclared.machines.progress.Progress.TheVariants as progress
-use Rattle.play_stepping.specs.Given.CallersOverAll.{CallOverAll, gone_on}
-use Rattle.play_stepping.specs.Given.CallersTogether.{OverAll, UnderWay}
+use Rattle.run_grows.specs.Given.RawMachine.{machine_replied}
+use Rattle.run_grows.specs.Given.RawDeclared.machines.progress.Progress.{Progress}
+use Rattle.run_grows.specs.Given.RawDeclared.machines.progress.Progress.TheVariants as progress
+use Rattle.run_grows.specs.Given.CallersOverAll.{CallOverAll, gone_on}
+use Rattle.run_grows.specs.Given.CallersTogether.{OverAll, UnderWay}
 use Rattle.play_lists.specs.Given.FinishesMachines.{ToldOfKind, machine_of}
 use Rattle.play_lists.specs.Given.FinishesMaps.{Standing, with_call as with_call_of}
 use Rattle.run_schedules.specs.declared.call.Call.{Call}
@@ -32,10 +32,10 @@ use Rattle.play_lists.specs.Given.ScenesScene.{Scene, slot_of}
 use Rattle.play_lists.specs.Given.ScenesStepping.{StepLeads, scene_after}
 use Rattle.play_lists.specs.Given.FollowsCalling.{NoneNamed, come_to, told}
 use Rattle.play_lists.specs.Given.FollowsCalls.{IsCalled}
-use Rattle.play_stepping.specs.Given.HandsAsked.{as_told}
+use Rattle.run_grows.specs.Given.HandsAsked.{as_told}
 use Rattle.play_lists.specs.Given.OthersWalks.{given_up}
-use Rattle.play_stepping.proofs.Given.HandsAsking.{which}
-use Rattle.play_stepping.proofs.Given.MomentsCalls.{calls_keep_whole}
+use Rattle.run_grows.proofs.Given.HandsAsking.{which}
+use Rattle.run_grows.proofs.Given.MomentsCalls.{calls_keep_whole}
 use Rattle.play_lists.specs.Given.HistoriesAnswers.{NamesPair}
 use Rattle.play_lists.specs.Given.HistoriesAsCalled.{IsAsCalled, IsSweptAs}
 use Rattle.play_lists.specs.Given.HistoriesAsking.{IsToldQuestion}
@@ -48,26 +48,27 @@ use Rattle.play_lists.specs.Given.ShardsShardWords.{ShowsCounters}
 use Rattle.play_lists.proofs.Given.ShardsAdds.{machine_adds, machine_not_adds}
 use Rattle.play_lists.proofs.Given.ShardsShardBetween.{calls_begin_counters, calls_come_to_counters, calls_take_counters, counters_stay, fewer_add}
 use Rattle.play_lists.proofs.Given.ShardsShardCalls.{calls_keep_counters}
-use Rattle.play_stepping.specs.Given.PurposesKept.{AsksAboutIt, PairsChangeFirst, ShowsNone, TellsNone}
-use Rattle.play_stepping.specs.Given.PurposesPurposes.{IsFor, ShowsPurposes}
-use Rattle.play_stepping.specs.Given.PurposesShards.{ReadsShards}
-use Rattle.play_stepping.proofs.Given.PurposesBetween.{calls_begin_purposes, calls_come_to_purposes, first_steps_change_pairs_first}
-use Rattle.play_stepping.proofs.Given.PurposesElsewhere.{purposes_stay}
-use Rattle.play_stepping.proofs.Given.PurposesKept.{calls_keep_purposes}
-use Rattle.play_stepping.proofs.Given.PurposesShardsRead.{steps_read_shards}
-use Rattle.play_stepping.proofs.Given.PurposesTold.{calls_take_purposes}
-use Rattle.play_stepping.proofs.Given.PurposesWalks.{walks_show_purposes}
-use Rattle.play_stepping.specs.Given.NamedTelling.{number_by, number_in}
+use Rattle.run_grows.specs.Given.PurposesKept.{AsksAboutIt, PairsChangeFirst, ShowsNone, TellsNone}
+use Rattle.run_grows.specs.Given.PurposesPurposes.{IsFor, ShowsPurposes}
+use Rattle.run_grows.specs.Given.PurposesShards.{ReadsShards}
+use Rattle.run_grows.proofs.Given.PurposesBetween.{calls_begin_purposes, calls_come_to_purposes, first_steps_change_pairs_first}
+use Rattle.run_grows.proofs.Given.PurposesElsewhere.{purposes_stay}
+use Rattle.run_grows.proofs.Given.PurposesKept.{calls_keep_purposes}
+use Rattle.run_grows.proofs.Given.PurposesShardsRead.{steps_read_shards}
+use Rattle.run_grows.proofs.Given.PurposesTold.{calls_take_purposes}
+use Rattle.run_grows.proofs.Given.PurposesWalks.{walks_show_purposes}
+use Rattle.run_grows.specs.Given.NamedTelling.{number_by, number_in}
 use Rattle.play_lists.specs.Given.ActsActs.{Wanted, begun, Get, Remove, Insert, TryToInsert, Compute, Update, UpdateOrInsert, TryToInsertWith, RemoveIf, GetKeyValue, ContainsKey, GetOrInsert, GetOrInsertWith, RemoveEntry, MakeRoom, Count, GoOver}
-use Rattle.play_stepping.specs.Given.NamedSeen.{kind_of}
+use Rattle.run_grows.specs.Given.NamedSeen.{kind_of}
 use Rattle.run_schedules.specs.Deeds.Deeds.{named}
 use Rattle.play_lists.specs.Played.Play.{call_for, outcome_of}
 use Rattle.play_linear.specs.Linear.Shown.{ShowsAnswers}
 use Rattle.play_linear.proofs.Linear.Begun.{begun_rightly}
 use Rattle.play_linear.specs.Swept.Shown.{ShowsSweeps}
 use Rattle.play_linear.proofs.Swept.Tabled.{calls_keep_tabled, tabled_stays}
-use Rattle.play_stepping.proofs.Given.General.{same_some}
-use Rattle.run_legal.proofs.Between.{about_pair, not_ready, adds_next}
+use Rattle.run_grows.proofs.Given.General.{same_some}
+use Rattle.run_grows.proofs.Quiet.Saying.{about_pair}
+use Rattle.run_grows.proofs.Quiet.Sweeps.{not_ready, adds_next}
 
 -- a call as an act begins it is for what was called
 begun_for : {K V : Type 0} (same : K → K → Bool) (st : Standing K) (i : ℕ) (wanted : Wanted K V) → IsFor (begun same slot_of st i wanted) (call_for wanted)

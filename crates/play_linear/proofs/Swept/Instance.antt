@@ -19,11 +19,11 @@ use Rattle.play_lists.specs.Given.ScenesStepping.{scene_after}
 use Rattle.play_lists.specs.Given.FollowsCalling.{come_to, told}
 use Rattle.play_lists.specs.Given.OthersEndings.{without_map}
 use Rattle.play_lists.specs.Given.OthersWalks.{given_up}
-use Rattle.play_stepping.proofs.Given.PurposesNothing.{no_calls_are_swept}
+use Rattle.run_grows.proofs.Given.PurposesNothing.{no_calls_are_swept}
 use Rattle.play_lists.specs.Agrees.Shards.{ShardsAre}
 use Rattle.run_schedules.specs.Deeds.Deeds.{Begins, Ends, Entry, Makes, MapFails, MapGoes, ReclaimsAll, Replies, Steps, Stops, acted_on, after, caller_of, come, map_of_call, moment, named, worked}
 use Rattle.run_schedules.specs.Deeds.History.{IsSwept, is_of_kind, past, transition}
-use Rattle.play_stepping.specs.Given.NamedSeen.{kind_of}
+use Rattle.run_grows.specs.Given.NamedSeen.{kind_of}
 use Rattle.play_lists.specs.Played.Play.{call_for, is_over, is_refusal, making_outcome, outcome_of, row_deed, settled_outcome}
 use Rattle.play_linear.specs.Linear.Shown.{ShowsAnswers}
 use Rattle.play_linear.proofs.Linear.Like.{IsLike, likes_answer}
@@ -34,7 +34,7 @@ use Rattle.play_linear.proofs.Swept.Calls.{reads, sweeps_begin, sweeps_go_on, sw
 use Rattle.play_linear.proofs.Swept.Kept.{IsKept, alone, coming, comes_by}
 use Rattle.play_linear.proofs.Swept.Others.{sweeps_by_end, sweeps_by_end_begun, sweeps_by_making, sweeps_by_making_begun, sweeps_by_map_come, sweeps_by_map_gone, sweeps_by_reclaiming, sweeps_by_row, sweeps_by_row_begun, sweeps_chosen, sweeps_like, sweeps_over}
 use Rattle.play_linear.proofs.Swept.SweptBy.{pair_words, right, shows_as_walk, walks_bring_none}
-use Rattle.play_stepping.proofs.Given.General.{same_some}
+use Rattle.run_grows.proofs.Given.General.{same_some}
 
 module _ {K V : Type 0} (same : K → K → Bool) (terms : Terms) where
   -- an entry of no call is swept

@@ -1,18 +1,18 @@
 -- What is so of a history, of what is known, and of the scene to which acts have led, and stays so by each kind of step, beside what else is so of them: its entry, if there is one, is on the history then.
 use Rattle.std.specs.Prelude.{◌≡◌, ℕ, Bool, true, false, List, [], ◌∷◌, Option, Some, None, Ok}
-use Rattle.play_stepping.specs.Given.SeizeWorld.{Begin, Rests, Step}
-use Rattle.play_stepping.specs.Given.SeizeDeclared.advance.Advance.{Advance as Making}
-use Rattle.play_stepping.specs.Given.SeizeDeclared.advance.Advance.TheVariants as progress
-use Rattle.play_stepping.specs.Given.SeizeDeclared.rows.reclaim_all.ReclaimAll.{ReclaimAll}
-use Rattle.play_stepping.specs.Given.SeizeDeclared.rows.settle.Settled.{Settled}
-use Rattle.play_stepping.specs.Given.SweepsSweepPoints.{after_next}
+use Rattle.run_grows.specs.Given.SeizeWorld.{Begin, Rests, Step}
+use Rattle.run_grows.specs.Given.SeizeDeclared.advance.Advance.{Advance as Making}
+use Rattle.run_grows.specs.Given.SeizeDeclared.advance.Advance.TheVariants as progress
+use Rattle.run_grows.specs.Given.SeizeDeclared.rows.reclaim_all.ReclaimAll.{ReclaimAll}
+use Rattle.run_grows.specs.Given.SeizeDeclared.rows.settle.Settled.{Settled}
+use Rattle.run_grows.specs.Given.SweepsSweepPoints.{after_next}
 use Rattle.play_lists.specs.Given.TablesDeclared.node.Node.{Node}
 use Rattle.play_lists.specs.Given.TablesDeclared.setting.Setting.{Setting}
-use Rattle.play_stepping.specs.Given.ResizeDeclared.new_map.NewMap.{NewMap}
-use Rattle.play_stepping.specs.Given.RawMachine.{machine_replied}
-use Rattle.play_stepping.specs.Given.RawDeclared.machines.progress.Progress.{Progress}
-use Rattle.play_stepping.specs.Given.CallersOverAll.{CallOverAll, gone_on}
-use Rattle.play_stepping.specs.Given.CallersTogether.{OverAll, UnderWay}
+use Rattle.run_grows.specs.Given.ResizeDeclared.new_map.NewMap.{NewMap}
+use Rattle.run_grows.specs.Given.RawMachine.{machine_replied}
+use Rattle.run_grows.specs.Given.RawDeclared.machines.progress.Progress.{Progress}
+use Rattle.run_grows.specs.Given.CallersOverAll.{CallOverAll, gone_on}
+use Rattle.run_grows.specs.Given.CallersTogether.{OverAll, UnderWay}
 use Rattle.play_lists.specs.Given.FinishesEndings.{Finishing}
 use Rattle.play_lists.specs.Given.FinishesMachines.{ToldOfKind, machine_of}
 use Rattle.play_lists.specs.Given.FinishesMakings.{Beginning, HasMade}
@@ -42,13 +42,13 @@ use Rattle.play_lists.specs.Given.ScenesDeclared.row.RowTold.{RowTold}
 use Rattle.play_lists.specs.Given.ScenesDeclared.row.SlotCall.{SlotCall}
 use Rattle.play_lists.specs.Given.ScenesDeclared.row.SlotRow.{SlotRow}
 use Rattle.play_lists.specs.Given.FollowsCalling.{NoneNamed}
-use Rattle.play_stepping.specs.Given.HandsAsked.{as_told}
+use Rattle.run_grows.specs.Given.HandsAsked.{as_told}
 use Rattle.play_lists.specs.Given.OthersEndings.{ending_after}
 use Rattle.play_lists.specs.Given.OthersMakings.{WasNew, making_after}
 use Rattle.play_lists.specs.Given.OthersRows.{scene_then}
-use Rattle.play_stepping.specs.Given.MomentsEndings.{IsOfIts}
-use Rattle.play_stepping.specs.Given.MomentsNumbers.{AreFound}
-use Rattle.play_stepping.specs.Given.NamedSeen.{kind_of}
+use Rattle.run_grows.specs.Given.MomentsEndings.{IsOfIts}
+use Rattle.run_grows.specs.Given.MomentsNumbers.{AreFound}
+use Rattle.run_grows.specs.Given.NamedSeen.{kind_of}
 use Rattle.play_lists.specs.Given.ValuesValues.{KeepsValue}
 use Rattle.play_lists.specs.Given.ActsActs.{Wanted, begun}
 use Rattle.play_lists.specs.Given.ActsDoings.{scene_chosen}

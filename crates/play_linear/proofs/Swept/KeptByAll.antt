@@ -2,8 +2,8 @@
 use Rattle.std.specs.Prelude.{◌≡◌, ℕ, Bool, List, Option, None}
 use Rattle.std.proofs.Common.{ap, sym, subst, ◌∙◌}
 use Rattle.seize_acts.specs.Acts.Answers.{Grant}
-use Rattle.play_stepping.specs.Given.SeizeWorld.{Request, Row}
-use Rattle.play_stepping.specs.Given.SeizeDeclared.rows.reclaim_all.ReclaimAll.{ReclaimAll}
+use Rattle.run_grows.specs.Given.SeizeWorld.{Request, Row}
+use Rattle.run_grows.specs.Given.SeizeDeclared.rows.reclaim_all.ReclaimAll.{ReclaimAll}
 use Rattle.play_lists.specs.Given.EffectsDeclared.changed.Changed.TheVariants.{Nothing as NoChange}
 use Rattle.play_lists.specs.Given.ScenesHeld.{Held, IsAt}
 use Rattle.play_lists.specs.Given.ScenesScene.{HasNoCall, IsOnSlot, Scene, row_of, slot_of}

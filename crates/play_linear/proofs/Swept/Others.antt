@@ -3,18 +3,18 @@ use Rattle.std.specs.Prelude.{◌≡◌, ◌⊎◌, ◌≤◌, ℕ, suc, Bool, t
 use Rattle.std.proofs.Common.{refl, ap, sym, subst, ◌∙◌, arith, inl, inr}
 use Rattle.run_schedules.specs.Given.SeizeWordsMem.{Mem, word_at}
 use Rattle.run_schedules.specs.Given.SeizeWordsDeclared.at.At.TheVariants.{Word}
-use Rattle.play_stepping.specs.Given.SeizeReclaimAll.{reclaim_all_plan}
-use Rattle.play_stepping.specs.Given.SeizeWorld.{Begin, Step}
-use Rattle.play_stepping.specs.Given.SeizeDeclared.advance.Advance.{Advance as Making}
-use Rattle.play_stepping.specs.Given.SeizeDeclared.advance.Advance.TheVariants as progress
-use Rattle.play_stepping.specs.Given.SeizeDeclared.rows.reclaim_all.ReclaimAll.{ReclaimAll}
-use Rattle.play_stepping.specs.Given.SeizeDeclared.rows.settle.Settled.{Settled}
-use Rattle.play_stepping.specs.Given.SeizeDeclared.rows.settle.Settled.TheVariants as settled
+use Rattle.run_grows.specs.Given.SeizeReclaimAll.{reclaim_all_plan}
+use Rattle.run_grows.specs.Given.SeizeWorld.{Begin, Step}
+use Rattle.run_grows.specs.Given.SeizeDeclared.advance.Advance.{Advance as Making}
+use Rattle.run_grows.specs.Given.SeizeDeclared.advance.Advance.TheVariants as progress
+use Rattle.run_grows.specs.Given.SeizeDeclared.rows.reclaim_all.ReclaimAll.{ReclaimAll}
+use Rattle.run_grows.specs.Given.SeizeDeclared.rows.settle.Settled.{Settled}
+use Rattle.run_grows.specs.Given.SeizeDeclared.rows.settle.Settled.TheVariants as settled
 use Rattle.play_lists.specs.Given.TablesNodes.{deferred_word, was_left}
 use Rattle.play_lists.specs.Given.TablesDeclared.node.Node.{Node}
 use Rattle.play_lists.specs.Given.TablesDeclared.setting.Setting.{Setting}
 use Rattle.play_lists.specs.Given.EffectsDeclared.changed.Changed.{Changed}
-use Rattle.play_stepping.specs.Given.CallersTogether.{UnderWay}
+use Rattle.run_grows.specs.Given.CallersTogether.{UnderWay}
 use Rattle.play_lists.specs.Given.FinishesEndings.{Finishing}
 use Rattle.play_lists.specs.Given.FinishesMachines.{machine_of}
 use Rattle.play_lists.specs.Given.FinishesMakings.{Beginning, HasMade}
@@ -42,7 +42,7 @@ use Rattle.play_lists.specs.Given.ScenesDeclared.row.SlotRow.{SlotRow}
 use Rattle.play_lists.specs.Given.OthersEndings.{ending_after, without_map}
 use Rattle.play_lists.specs.Given.OthersMakings.{WasNew, making_after}
 use Rattle.play_lists.specs.Given.OthersRows.{scene_then}
-use Rattle.play_stepping.specs.Given.MomentsEndings.{IsOfIts}
+use Rattle.run_grows.specs.Given.MomentsEndings.{IsOfIts}
 use Rattle.play_lists.proofs.Given.FollowsOperations.{Operated, operated}
 use Rattle.play_lists.proofs.Given.OthersRowPlans.{TellsRow}
 use Rattle.play_lists.proofs.Given.ScenesMay.{may_reclaim}
@@ -58,9 +58,9 @@ use Rattle.play_lists.proofs.Given.ShardsShardBetween.{counters_stay}
 use Rattle.play_lists.proofs.Given.ShardsShardKept.{none_shards, same_setting, word_kept}
 use Rattle.play_lists.proofs.Given.ShardsShardMakes.{makings_keep_counters}
 use Rattle.play_lists.proofs.Given.ShardsShardOthers.{endings_begin_counters, endings_keep_counters, makings_begin_counters, rows_begin_counters, rows_keep_counters}
-use Rattle.play_stepping.proofs.Given.PurposesBetween.{events_keep_purposes}
-use Rattle.play_stepping.proofs.Given.PurposesElsewhere.{purposes_stay}
-use Rattle.play_stepping.proofs.Given.PurposesStored.{effects_stored, numbers_last}
+use Rattle.run_grows.proofs.Given.PurposesBetween.{events_keep_purposes}
+use Rattle.run_grows.proofs.Given.PurposesElsewhere.{purposes_stay}
+use Rattle.run_grows.proofs.Given.PurposesStored.{effects_stored, numbers_last}
 use Rattle.play_lists.specs.Given.ActsDoings.{scene_chosen}
 use Rattle.run_schedules.specs.Deeds.Deeds.{named}
 use Rattle.play_linear.specs.Linear.Shown.{ShowsAnswers}

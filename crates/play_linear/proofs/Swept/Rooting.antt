@@ -5,14 +5,14 @@ use Rattle.run_schedules.specs.Given.SeizeWordsMem.{Mem, value_at}
 use Rattle.run_schedules.specs.Given.SeizeWordsOp.{Out, Exchanged}
 use Rattle.run_schedules.specs.Given.SeizeWordsPlan.{Ends as EndsSo}
 use Rattle.run_schedules.specs.Given.SeizeWordsDeclared.fault.Fault.TheVariants.{RootsUsedUp}
-use Rattle.play_stepping.specs.Given.SeizeDeclared.advance.Advance.{Advance}
-use Rattle.play_stepping.specs.Given.SeizeDeclared.advance.Advance.TheVariants as progress
+use Rattle.run_grows.specs.Given.SeizeDeclared.advance.Advance.{Advance}
+use Rattle.run_grows.specs.Given.SeizeDeclared.advance.Advance.TheVariants as progress
 use Rattle.play_lists.specs.Given.TablesDeclared.node.Node.{Node}
 use Rattle.play_lists.specs.Given.TablesDeclared.setting.Setting.{Setting}
-use Rattle.play_stepping.specs.Given.ResizeNewMap.{at_root, goes, plan_at, refused, taken}
-use Rattle.play_stepping.specs.Given.ResizeDeclared.new_map.NewMap.{NewMap}
-use Rattle.play_stepping.specs.Given.ResizeDeclared.new_map.Opening.{Opening}
-use Rattle.play_stepping.specs.Given.ResizeDeclared.new_map.Opening.TheVariants as openings
+use Rattle.run_grows.specs.Given.ResizeNewMap.{at_root, goes, plan_at, refused, taken}
+use Rattle.run_grows.specs.Given.ResizeDeclared.new_map.NewMap.{NewMap}
+use Rattle.run_grows.specs.Given.ResizeDeclared.new_map.Opening.{Opening}
+use Rattle.run_grows.specs.Given.ResizeDeclared.new_map.Opening.TheVariants as openings
 use Rattle.play_lists.specs.Given.TellerTells.{StepsTold}
 use Rattle.play_lists.specs.Given.EffectsDeclared.changed.Changed.{Changed}
 use Rattle.play_lists.specs.Given.EffectsDeclared.changed.Changed.TheVariants as changed

@@ -5,9 +5,9 @@ use Rattle.std.proofs.Common.{refl}
 use Rattle.run_schedules.specs.Schedules.Terms.{Terms, shards_of}
 use Rattle.play_lists.specs.Given.EffectsKnown.{nothing_known}
 use Rattle.play_lists.specs.Given.ScenesScene.{at_first, slot_of}
-use Rattle.play_stepping.proofs.Given.MomentsCalls.{whole_begins}
+use Rattle.run_grows.proofs.Given.MomentsCalls.{whole_begins}
 use Rattle.play_lists.proofs.Given.HistoriesDueOn.{dues_begin}
-use Rattle.play_stepping.proofs.Given.PurposesStored.{first_lasts}
+use Rattle.run_grows.proofs.Given.PurposesStored.{first_lasts}
 use Rattle.play_lists.specs.Given.ActsActs.{Act}
 use Rattle.play_lists.specs.Given.ActsDoings.{Doing, Does, BeginsReclaiming, BeginsClearing, StepsReclaiming, Chooses}
 use Rattle.play_lists.specs.Given.ActsLists.{nothing_done}

@@ -2,26 +2,26 @@
 use Rattle.std.specs.Prelude.{◌≡◌, ℕ, suc, Bool, true, List, [], Option, Some}
 use Rattle.std.proofs.Common.{refl, ap, sym, subst, ◌∙◌, inl, inr}
 use Rattle.play_lists.specs.Given.TablesDeclared.node.Node.{Node}
-use Rattle.play_stepping.specs.Given.SeizeDeclared.advance.Advance.{Advance as Counted}
-use Rattle.play_stepping.specs.Given.SeizeDeclared.advance.Advance.TheVariants as counted
-use Rattle.play_stepping.specs.Given.ResizeDeclared.yielding.Yielding.{Yielding as Room}
-use Rattle.play_stepping.specs.Given.ResizeDeclared.yielding.Yielding.TheVariants as room
-use Rattle.play_stepping.specs.Given.ReservesDeclared.sweep.Purpose.{Purpose}
-use Rattle.play_stepping.specs.Given.ReservesDeclared.sweep.Purpose.TheVariants.{Clears, Retains, Walks}
-use Rattle.play_stepping.specs.Given.ReservesDeclared.sweep.Sweep.{Sweep}
-use Rattle.play_stepping.specs.Given.ReservesDeclared.sweep.Sweeping.TheVariants as sweeping
-use Rattle.play_stepping.specs.Given.ReservesDeclared.sweep.Swept.{Swept}
-use Rattle.play_stepping.specs.Given.ReservesDeclared.sweep.Swept.TheVariants as swept
-use Rattle.play_stepping.specs.Given.RawProgress.{of_called, of_counting, of_outcome, of_swept}
-use Rattle.play_stepping.specs.Given.RawDeclared.machines.answer.Called.{Called}
-use Rattle.play_stepping.specs.Given.RawDeclared.machines.answer.Called.TheVariants as called
-use Rattle.play_stepping.specs.Given.RawDeclared.machines.machine.Machine.TheVariants as kinds
-use Rattle.play_stepping.specs.Given.RawDeclared.machines.progress.Answer.TheVariants as answers
-use Rattle.play_stepping.specs.Given.RawDeclared.machines.progress.Progress.{Progress}
-use Rattle.play_stepping.specs.Given.RawDeclared.machines.progress.Progress.TheVariants as progress
-use Rattle.play_stepping.specs.Given.LateToldSweeps.{TellsSo}
-use Rattle.play_stepping.specs.Given.CallersOverAll.{CallOverAll}
-use Rattle.play_stepping.specs.Given.CallersTogether.{UnderWay, OnKey, ForRoom, Counting, OverAll}
+use Rattle.run_grows.specs.Given.SeizeDeclared.advance.Advance.{Advance as Counted}
+use Rattle.run_grows.specs.Given.SeizeDeclared.advance.Advance.TheVariants as counted
+use Rattle.run_grows.specs.Given.ResizeDeclared.yielding.Yielding.{Yielding as Room}
+use Rattle.run_grows.specs.Given.ResizeDeclared.yielding.Yielding.TheVariants as room
+use Rattle.run_grows.specs.Given.ReservesDeclared.sweep.Purpose.{Purpose}
+use Rattle.run_grows.specs.Given.ReservesDeclared.sweep.Purpose.TheVariants.{Clears, Retains, Walks}
+use Rattle.run_grows.specs.Given.ReservesDeclared.sweep.Sweep.{Sweep}
+use Rattle.run_grows.specs.Given.ReservesDeclared.sweep.Sweeping.TheVariants as sweeping
+use Rattle.run_grows.specs.Given.ReservesDeclared.sweep.Swept.{Swept}
+use Rattle.run_grows.specs.Given.ReservesDeclared.sweep.Swept.TheVariants as swept
+use Rattle.run_grows.specs.Given.RawProgress.{of_called, of_counting, of_outcome, of_swept}
+use Rattle.run_grows.specs.Given.RawDeclared.machines.answer.Called.{Called}
+use Rattle.run_grows.specs.Given.RawDeclared.machines.answer.Called.TheVariants as called
+use Rattle.run_grows.specs.Given.RawDeclared.machines.machine.Machine.TheVariants as kinds
+use Rattle.run_grows.specs.Given.RawDeclared.machines.progress.Answer.TheVariants as answers
+use Rattle.run_grows.specs.Given.RawDeclared.machines.progress.Progress.{Progress}
+use Rattle.run_grows.specs.Given.RawDeclared.machines.progress.Progress.TheVariants as progress
+use Rattle.run_grows.specs.Given.LateToldSweeps.{TellsSo}
+use Rattle.run_grows.specs.Given.CallersOverAll.{CallOverAll}
+use Rattle.run_grows.specs.Given.CallersTogether.{UnderWay, OnKey, ForRoom, Counting, OverAll}
 use Rattle.play_lists.specs.Given.FinishesMachines.{GoesOnAs, machine_of}
 use Rattle.play_lists.specs.Given.FinishesMaps.{Standing}
 use Rattle.run_schedules.specs.declared.call.Response.TheVariants as answer
@@ -44,32 +44,32 @@ use Rattle.play_lists.specs.Given.EffectsDeclared.acting.Acting.TheVariants as a
 use Rattle.play_lists.specs.Given.ScenesHeld.{Held, IsAt}
 use Rattle.play_lists.specs.Given.ScenesScene.{Scene}
 use Rattle.play_lists.specs.Given.ScenesStepping.{StepLeads, scene_after}
-use Rattle.play_stepping.proofs.Given.HandsReplacing.{calls_after}
-use Rattle.play_stepping.proofs.Given.CallersTogether.At.{at_same}
-use Rattle.play_stepping.specs.Given.MomentsWhole.{ShowsWhole}
+use Rattle.run_grows.proofs.Given.HandsReplacing.{calls_after}
+use Rattle.run_grows.proofs.Given.CallersTogether.At.{at_same}
+use Rattle.run_grows.specs.Given.MomentsWhole.{ShowsWhole}
 use Rattle.play_lists.proofs.Given.ScenesMay.{standing_is}
-use Rattle.play_stepping.proofs.Given.MomentsCalls.{calls_keep_whole}
+use Rattle.run_grows.proofs.Given.MomentsCalls.{calls_keep_whole}
 use Rattle.play_lists.specs.Given.HistoriesAnswers.{NamesPair}
 use Rattle.play_lists.specs.Given.HistoriesInEvent.{InEvent}
 use Rattle.play_lists.proofs.Given.HistoriesAnyCall.InEvent.{events_begin}
 use Rattle.play_lists.proofs.Given.HistoriesOtherMidsts.{fewer_so}
 use Rattle.play_lists.proofs.Given.HistoriesRetaining.{found_there}
-use Rattle.run_legal.specs.CallEvents.{EachIsItsOwn}
-use Rattle.run_legal.proofs.CallPairs.{each_is_its_own}
-use Rattle.play_stepping.specs.Given.NamedSeen.{kind_of}
-use Rattle.play_stepping.specs.Given.NamedTelling.{number_by, number_in}
-use Rattle.play_stepping.proofs.EventSteps.SweepSteps.{walks_at}
-use Rattle.play_stepping.specs.Given.PurposesKept.{NoneCame, PairsChangeFirst}
-use Rattle.play_stepping.specs.Given.PurposesPurposes.{IsFor, ShowsPurposes}
-use Rattle.play_stepping.specs.Given.PurposesShards.{ReadsShards}
-use Rattle.play_stepping.specs.Given.PurposesSwept.{ComesSo as IsToldSo, SaysNothing}
-use Rattle.play_stepping.proofs.Given.PurposesBetween.{first_steps_change_pairs_first}
-use Rattle.play_stepping.proofs.Given.PurposesFindsRoom.{reservations_are_swept}
-use Rattle.play_stepping.proofs.Given.PurposesNothing.{calls_on_keys_are_swept, other_outcomes_are_swept}
-use Rattle.play_stepping.proofs.Given.PurposesShows.{walks_show}
-use Rattle.play_stepping.proofs.Given.PurposesShowsAll.{walks_show_all}
-use Rattle.play_stepping.proofs.Given.PurposesSwept.{clearings_are_swept, countings_are_swept, retainings_are_swept}
-use Rattle.play_stepping.proofs.Given.PurposesWalkWords.{walks_have_words}
+use Rattle.run_grows.specs.OwnPairs.{EachIsItsOwn}
+use Rattle.run_grows.proofs.OwnPairs.{each_is_its_own}
+use Rattle.run_grows.specs.Given.NamedSeen.{kind_of}
+use Rattle.run_grows.specs.Given.NamedTelling.{number_by, number_in}
+use Rattle.run_grows.proofs.Quiet.Sweeps.{walks_at}
+use Rattle.run_grows.specs.Given.PurposesKept.{NoneCame, PairsChangeFirst}
+use Rattle.run_grows.specs.Given.PurposesPurposes.{IsFor, ShowsPurposes}
+use Rattle.run_grows.specs.Given.PurposesShards.{ReadsShards}
+use Rattle.run_grows.specs.Given.PurposesSwept.{ComesSo as IsToldSo, SaysNothing}
+use Rattle.run_grows.proofs.Given.PurposesBetween.{first_steps_change_pairs_first}
+use Rattle.run_grows.proofs.Given.PurposesFindsRoom.{reservations_are_swept}
+use Rattle.run_grows.proofs.Given.PurposesNothing.{calls_on_keys_are_swept, other_outcomes_are_swept}
+use Rattle.run_grows.proofs.Given.PurposesShows.{walks_show}
+use Rattle.run_grows.proofs.Given.PurposesShowsAll.{walks_show_all}
+use Rattle.run_grows.proofs.Given.PurposesSwept.{clearings_are_swept, countings_are_swept, retainings_are_swept}
+use Rattle.run_grows.proofs.Given.PurposesWalkWords.{walks_have_words}
 use Rattle.run_schedules.specs.Deeds.Deeds.{Entry, moment, named}
 use Rattle.run_schedules.specs.Deeds.History.{is_of_kind, past}
 use Rattle.play_lists.specs.Played.Play.{outcome_of}

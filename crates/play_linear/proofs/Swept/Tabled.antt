@@ -4,8 +4,8 @@ use Rattle.std.specs.List.{list_any}
 use Rattle.std.proofs.Common.{refl, ap, sym, subst, ◌∙◌, arith, inl, inr}
 use Rattle.std.proofs.lemmas.Bool.{cases_eq, cases_lt, eq-eqb}
 use Rattle.play_lists.specs.Given.TablesDeclared.node.Node.{Node}
-use Rattle.play_stepping.specs.Given.RawDeclared.machines.progress.Progress.{Progress}
-use Rattle.play_stepping.specs.Given.CallersTogether.{UnderWay, OnKey, ForRoom, Counting, OverAll}
+use Rattle.run_grows.specs.Given.RawDeclared.machines.progress.Progress.{Progress}
+use Rattle.run_grows.specs.Given.CallersTogether.{UnderWay, OnKey, ForRoom, Counting, OverAll}
 use Rattle.play_lists.specs.Given.FinishesMachines.{machine_of}
 use Rattle.play_lists.specs.Given.FinishesMaps.{Standing}
 use Rattle.run_schedules.specs.declared.effect.Effect.{Effect}
@@ -21,9 +21,9 @@ use Rattle.play_lists.specs.Given.ScenesHeld.{Held, IsAt}
 use Rattle.play_lists.specs.Given.ScenesScene.{Scene}
 use Rattle.play_lists.specs.Given.ScenesStepping.{StepLeads, scene_after}
 use Rattle.play_lists.specs.Given.FollowsFinds.{FindsMap}
-use Rattle.play_stepping.specs.Given.MomentsWhole.{ShowsWhole}
+use Rattle.run_grows.specs.Given.MomentsWhole.{ShowsWhole}
 use Rattle.play_lists.proofs.Given.FollowsFinds.{tables_many}
-use Rattle.play_stepping.proofs.Given.HandsAsking.{which}
+use Rattle.run_grows.proofs.Given.HandsAsking.{which}
 use Rattle.play_lists.specs.Given.SettlesCounts.{ShowsCounts, is_to_count}
 use Rattle.play_lists.proofs.Given.SettlesCalls.{goes_as_one}
 use Rattle.play_lists.proofs.Given.SettlesUncounted.{none_counts}

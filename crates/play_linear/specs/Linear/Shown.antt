@@ -4,7 +4,7 @@ use Rattle.run_schedules.specs.Schedules.Moment.{Moment}
 use Rattle.run_schedules.specs.Schedules.Transition.{Past}
 use Rattle.play_lists.specs.Given.EffectsKnown.{Known}
 use Rattle.play_lists.specs.Given.ScenesScene.{Scene}
-use Rattle.play_stepping.specs.Given.MomentsWhole.{ShowsWhole}
+use Rattle.run_grows.specs.Given.MomentsWhole.{ShowsWhole}
 use Rattle.play_lists.specs.Given.HistoriesAsCalled.{ShowsAsCalled}
 use Rattle.play_lists.specs.Given.HistoriesDue.{ShowsDue}
 use Rattle.play_lists.specs.Given.HistoriesQuestions.{ShowsQuestions}

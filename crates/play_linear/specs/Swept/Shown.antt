@@ -1,6 +1,6 @@
 -- What the moment of a history shows of calls on whole maps, in the scene to which a list of acts has led, by which its next entry does what its call is for.
 use Rattle.std.specs.Prelude.{◌≡◌, ◌<◌, ℕ, Bool, true, List, Some}
-use Rattle.play_stepping.specs.Given.CallersTogether.{UnderWay}
+use Rattle.run_grows.specs.Given.CallersTogether.{UnderWay}
 use Rattle.play_lists.specs.Given.FinishesMachines.{machine_of}
 use Rattle.run_schedules.specs.Schedules.After.{AtEachEvent}
 use Rattle.run_schedules.specs.Schedules.Moment.{Moment}
@@ -11,7 +11,7 @@ use Rattle.play_lists.specs.Given.ScenesScene.{Scene}
 use Rattle.play_lists.specs.Given.FindsWithin.{many_of}
 use Rattle.play_lists.specs.Given.SettlesCounts.{is_to_count}
 use Rattle.play_lists.specs.Given.ShardsShardWords.{ShowsCounters}
-use Rattle.play_stepping.specs.Given.PurposesPurposes.{ShowsPurposes}
+use Rattle.run_grows.specs.Given.PurposesPurposes.{ShowsPurposes}
 use Rattle.run_schedules.specs.Deeds.Deeds.{Entry, moment, named}
 use Rattle.run_schedules.specs.Deeds.History.{IsSwept, past}
 

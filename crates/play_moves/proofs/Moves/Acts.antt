@@ -22,7 +22,7 @@ use Rattle.play_lists.specs.Given.EffectsEffects.{effects_of}
 use Rattle.play_lists.specs.Given.EffectsDeclared.acting.Acting.TheVariants as acts
 use Rattle.play_lists.specs.Given.ScenesHeld.{Held, IsAt}
 use Rattle.play_lists.specs.Given.ScenesMaking.{MakingLeads}
-use Rattle.play_events.specs.Given.ScenesScene.{IsOnSlot, Scene, row_of, slot_of}
+use Rattle.play_lists.specs.Given.ScenesScene.{IsOnSlot, Scene, row_of, slot_of}
 use Rattle.play_lists.specs.Given.ActsActs.{Act, Answer, BeginsCall, StepsCall, TellsCall, AsksCall, StopsCall, StepsMaking, StepsRow, OfCall, OfMaking, Wanted}
 use Rattle.play_lists.specs.Given.ActsAsSteps.{LeadsAs, changed_by, changed_of, held_in, row_changed, row_told}
 use Rattle.play_lists.specs.Given.ActsLeads.{Led, MayBe}
@@ -32,18 +32,18 @@ use Rattle.run_schedules.specs.Deeds.History.{made_for}
 use Rattle.play_lists.specs.Played.Play.{State, call_for, call_stepped, has_root, is_refusal, making_deed, making_outcome, pairs_for, reply_for, row_outcome, row_stepped}
 use Rattle.play_lists.specs.Played.Reached.{IsOf, row_or_rests}
 use Rattle.play_lists.proofs.Played.PlayedAs.{PlayedAs}
-use Rattle.play_events.specs.Given.NeedsMakings.{in_hand, table_left}
+use Rattle.run_legal.specs.Given.NeedsMakings.{in_hand, table_left}
 use Rattle.play_linear.specs.Linear.Coming.{MapsComeAndGo}
 use Rattle.play_linear.proofs.Linear.Coming.{comes_bare}
 use Rattle.play_linear.proofs.Linear.Holds.{Holds}
 use Rattle.play_linear.proofs.Linear.MakesRight.{was_new}
 use Rattle.play_lists.proofs.Played.Tied.{MakingTied, call_tied, making_tied}
-use Rattle.play_events.specs.EachMoves.Parts.{DoesIts}
+use Rattle.play_moves.specs.EachMoves.Parts.{DoesIts}
 use Rattle.play_moves.proofs.Moves.CallMoves.{steps_move}
 use Rattle.play_moves.proofs.Moves.MadeHolds.{MadeHolds}
 use Rattle.play_moves.proofs.Moves.MakingMoves.{makings_move}
-use Rattle.play_events.proofs.EachMoves.Parts.{IsQuiet, quiet_moves}
-use Rattle.play_events.proofs.EachMoves.Rooted.{Rooted, step_rooted}
+use Rattle.play_moves.proofs.EachMoves.Parts.{IsQuiet, quiet_moves}
+use Rattle.play_moves.proofs.EachMoves.Rooted.{Rooted, step_rooted}
 use Rattle.play_moves.proofs.Moves.RowMoves.{rows_move}
 
 module _ {K V S : Type 0} where

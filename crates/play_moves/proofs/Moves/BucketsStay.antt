@@ -16,14 +16,14 @@ use Rattle.play_lists.specs.Given.EffectsDeclared.changed.Changed.{Changed}
 use Rattle.play_lists.specs.Given.EffectsDeclared.changed.Changed.TheVariants.{Nothing as NoChange}
 use Rattle.play_lists.specs.Given.EffectsEffects.{known_after}
 use Rattle.play_lists.specs.Given.EffectsDeclared.acting.Acting.TheVariants as acts
-use Rattle.play_events.specs.Given.FinishesMachines.{machine_of}
-use Rattle.play_events.specs.Given.NamedSeen.{kind_of}
+use Rattle.play_lists.specs.Given.FinishesMachines.{machine_of}
+use Rattle.run_legal.specs.Given.NamedSeen.{kind_of}
 use Rattle.play_lists.specs.Given.ScenesHeld.{Held, IsAt}
-use Rattle.play_events.specs.Given.ScenesScene.{IsOnSlot, Scene, row_of, slot_of}
-use Rattle.play_events.specs.Given.ScenesDeclared.row.RowTold.{RowTold}
+use Rattle.play_lists.specs.Given.ScenesScene.{IsOnSlot, Scene, row_of, slot_of}
+use Rattle.play_lists.specs.Given.ScenesDeclared.row.RowTold.{RowTold}
 use Rattle.play_lists.proofs.Given.FollowsOperations.{Operated, operated}
 use Rattle.play_lists.proofs.Given.OthersRowPlans.{row_operated}
-use Rattle.play_events.proofs.Given.RemainsSlots.{slots_begin}
+use Rattle.run_legal.proofs.Given.RemainsSlots.{slots_begin}
 use Rattle.play_lists.proofs.Given.ScenesMay.{may_end, may_make, may_reclaim, may_row, may_step}
 use Rattle.play_lists.specs.Given.ActsActs.{Act, Answer, BeginsCall, StepsCall, TellsCall, AsksCall, StopsCall, BeginsMaking, StepsMaking, BeginsEnding, StepsEnding, BeginsRow, StepsRow}
 use Rattle.play_lists.specs.Given.ActsAsSteps.{LeadsAs, changed_by, held_in, row_changed, row_told}
@@ -35,7 +35,7 @@ use Rattle.play_lists.proofs.Played.Along.{StaysSo, held}
 use Rattle.play_lists.proofs.Played.PlayedAs.{PlayedAs, played_as, reclaimed_as}
 use Rattle.play_linear.proofs.Linear.Stays.{all_tied, change, end}
 use Rattle.play_lists.proofs.Played.Tied.{call_tied, ending_tied, making_tied}
-use Rattle.play_events.proofs.EachMoves.Buckets.{BucketsHold, did_hold, worked_hold}
+use Rattle.play_moves.proofs.EachMoves.Buckets.{BucketsHold, did_hold, worked_hold}
 
 pub first_buckets : {K V S : Type 0} (roots : ℕ) → BucketsHold {K = K} {V = V} {S = S} (first_state roots)
 first_buckets {K} {V} roots = record { slots = slots_begin K V roots; granted = refl }

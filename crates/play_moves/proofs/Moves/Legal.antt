@@ -15,7 +15,7 @@ use Rattle.play_linear.proofs.Linear.Linear.{lists_are_linearizable}
 use Rattle.play_linear.proofs.Protects.Protected.{lists_are_protected}
 use Rattle.play_linear.proofs.Swept.Swept.{lists_are_swept}
 use Rattle.play_moves.specs.Moves.Legal.{KeepsAll, ListsKeepAll}
-use Rattle.play_events.specs.EachMoves.Own.{IsOfItsCall}
+use Rattle.play_moves.specs.EachMoves.Own.{IsOfItsCall}
 use Rattle.play_moves.proofs.Moves.Moved.{both_asked, move_as_their_calls}
 use Rattle.run_schedules.proofs.Given.General.{same_some}
 

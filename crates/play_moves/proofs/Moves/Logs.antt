@@ -2,7 +2,7 @@
 use Rattle.std.specs.Prelude.{Bool}
 use Rattle.std.proofs.Common.{ℕ, sym, subst, ◌∙◌}
 use Rattle.run_schedules.specs.Schedules.After.{AtEachEvent}
-use Rattle.play_events.specs.Given.ScenesScene.{slot_of}
+use Rattle.play_lists.specs.Given.ScenesScene.{slot_of}
 use Rattle.play_lists.proofs.Given.ActsLists.{lists_determine}
 use Rattle.play_lists.specs.Played.Play.{State}
 use Rattle.play_moves.specs.Moves.Legal.{KeepsAll}

@@ -26,10 +26,10 @@ use Rattle.run_schedules.specs.Deeds.Deeds.{Deed, Ends, Entry, Leaves, MapFails,
 use Rattle.run_schedules.specs.Deeds.History.{made_for}
 use Rattle.play_lists.specs.Played.Play.{Ending, Making, Now, State, did, ending_deed, has_root, is_over, is_refusal, pairs_for, reply_for, row_deed, settled_outcome}
 use Rattle.play_lists.proofs.Played.PlayedAs.{PlayedAs, ReclaimedAs}
-use Rattle.play_events.specs.Given.NeedsMakings.{in_hand, table_left}
+use Rattle.run_legal.specs.Given.NeedsMakings.{in_hand, table_left}
 use Rattle.play_linear.proofs.Linear.Coming.{gone_leaves}
 use Rattle.play_linear.proofs.Linear.RowsPlayed.{IsOfRow, is_of_row}
-use Rattle.play_events.proofs.EachMoves.Counted.{IsStill, MakesNone, capacity_still, none_made}
+use Rattle.play_moves.proofs.EachMoves.Counted.{IsStill, MakesNone, capacity_still, none_made}
 use Rattle.play_lists.proofs.Agrees.Names.{effects_named}
 use Rattle.run_schedules.proofs.Given.General.{same_some}
 

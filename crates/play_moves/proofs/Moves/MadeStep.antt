@@ -17,7 +17,7 @@ use Rattle.run_schedules.specs.Schedules.Views.{capacity_or, map_at, tables_of}
 use Rattle.play_lists.specs.Given.EffectsEffects.{effects_of}
 use Rattle.play_lists.specs.Given.EffectsKnown.{Known}
 use Rattle.play_lists.specs.Given.EffectsDeclared.acting.Acting.TheVariants as acts
-use Rattle.play_events.proofs.Given.CallersTogether.At.{at_other, at_same}
+use Rattle.run_legal.proofs.Given.CallersTogether.At.{at_other, at_same}
 use Rattle.play_lists.proofs.Given.FindsCapacities.{effects_keep_capacities}
 use Rattle.play_lists.specs.Given.ActsActs.{Answer}
 use Rattle.play_lists.specs.Agrees.Fresh.{AreNamed, gives_back, is_taken}
@@ -26,10 +26,10 @@ use Rattle.play_lists.proofs.Agrees.Numbers.{NumbersHold}
 use Rattle.run_schedules.specs.Deeds.Deeds.{Deed, Entry, after, come, moment, named}
 use Rattle.run_schedules.specs.Deeds.History.{made_by, made_for}
 use Rattle.play_lists.specs.Played.Play.{Making, Now, State, has_root, is_refusal, making_outcome, pairs_for}
-use Rattle.play_events.specs.Given.NeedsMakings.{in_hand, table_left}
+use Rattle.run_legal.specs.Given.NeedsMakings.{in_hand, table_left}
 use Rattle.play_linear.proofs.Linear.Coming.{come_leaves, come_there, gone_leaves}
 use Rattle.play_linear.proofs.Linear.MapActs.{deed_by}
-use Rattle.play_events.proofs.EachMoves.Counted.{capacity_still, nothing_made, other_made, own_made}
+use Rattle.play_moves.proofs.EachMoves.Counted.{capacity_still, nothing_made, other_made, own_made}
 use Rattle.play_moves.proofs.Moves.MadeHolds.{IsComing, MadeHolds}
 use Rattle.play_lists.proofs.Agrees.Names.{effects_named}
 use Rattle.play_lists.proofs.Agrees.Openings.{gives_its}

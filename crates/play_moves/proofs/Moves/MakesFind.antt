@@ -14,10 +14,10 @@ use Rattle.run_schedules.specs.Schedules.Views.{capacity_or, map_at}
 use Rattle.play_lists.specs.Given.EffectsDeclared.changed.Changed.TheVariants.{Nothing as NoChange}
 use Rattle.play_lists.specs.Given.EffectsEffects.{effects_of}
 use Rattle.play_lists.specs.Given.EffectsDeclared.acting.Acting.TheVariants as acts
-use Rattle.play_events.specs.Given.NamedPlaces.{first_places}
+use Rattle.run_legal.specs.Given.NamedPlaces.{first_places}
 use Rattle.play_lists.specs.Given.ScenesHeld.{Held, IsAt}
 use Rattle.play_lists.specs.Given.ScenesMaking.{MakingLeads}
-use Rattle.play_events.specs.Given.ScenesScene.{Scene, slot_of}
+use Rattle.play_lists.specs.Given.ScenesScene.{Scene, slot_of}
 use Rattle.play_lists.specs.Given.ActsActs.{Act, Answer, OfMaking, StepsMaking}
 use Rattle.play_lists.specs.Given.ActsAsSteps.{LeadsAs, changed_by, changed_of, held_in}
 use Rattle.play_lists.specs.Given.ActsLeads.{Led}
@@ -32,12 +32,12 @@ use Rattle.play_linear.proofs.Linear.Coming.{comes_bare}
 use Rattle.play_linear.proofs.Linear.Holds.{Holds}
 use Rattle.play_linear.proofs.Linear.MakesRight.{was_new}
 use Rattle.play_lists.proofs.Played.Tied.{MakingTied, making_tied}
-use Rattle.play_events.specs.EachMoves.Finds.{FindsIts}
-use Rattle.play_events.specs.EachMoves.Places.{OpensFor}
+use Rattle.play_moves.specs.EachMoves.Finds.{FindsIts}
+use Rattle.play_moves.specs.EachMoves.Places.{OpensFor}
 use Rattle.play_moves.proofs.Moves.MadeHolds.{MadeHolds}
 use Rattle.play_moves.proofs.Moves.MakingFinds.{makings_find}
 use Rattle.play_moves.proofs.Moves.MakingMoves.{frees_quietly}
-use Rattle.play_events.proofs.EachMoves.Rooted.{Rooted, step_rooted}
+use Rattle.play_moves.proofs.EachMoves.Rooted.{Rooted, step_rooted}
 
 module _ {K V S : Type 0} (same : K → K → Bool) (by_hasher : S → K → ℕ) (hash : ℕ → K → ℕ) (batch_size roots : ℕ) (aborts : ℕ → V) (x y : State K V S) (s n : Scene K V) (is : IsOf by_hasher s s.world.row x.now)
     (at : IsAt same hash (held_in batch_size roots NoChange s) s) (holds : Holds same x s) (maps : MapsComeAndGo (moment x.history) x.known x.now.enders s) (made : MadeHolds x) (opens : OpensFor s) (told : Answer K V) (terms : Terms)

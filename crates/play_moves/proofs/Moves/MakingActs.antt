@@ -21,13 +21,13 @@ use Rattle.play_lists.specs.Given.EffectsDeclared.changed.Changed.TheVariants.{N
 use Rattle.play_lists.specs.Given.EffectsEffects.{effects_of, known_after}
 use Rattle.play_lists.specs.Given.EffectsDeclared.acting.Acting.TheVariants as acts
 use Rattle.play_lists.specs.Given.FinishesEndings.{MakingStepsAmong}
-use Rattle.play_events.specs.Given.FinishesMakings.{Beginning}
-use Rattle.play_events.specs.Given.OwesMaking.{making_in_opening}
-use Rattle.play_events.specs.Given.OwesTables.{table_made}
+use Rattle.play_lists.specs.Given.FinishesMakings.{Beginning}
+use Rattle.run_legal.specs.Given.OwesMaking.{making_in_opening}
+use Rattle.run_legal.specs.Given.OwesTables.{table_made}
 use Rattle.play_lists.specs.Given.ScenesHeld.{Held, IsAt}
 use Rattle.play_lists.specs.Given.ScenesMaking.{MakingComesTo, MakingLeads}
-use Rattle.play_events.specs.Given.ScenesScene.{Scene, slot_of}
-use Rattle.play_events.proofs.Given.CallersTogether.At.{at_same}
+use Rattle.play_lists.specs.Given.ScenesScene.{Scene, slot_of}
+use Rattle.run_legal.proofs.Given.CallersTogether.At.{at_same}
 use Rattle.play_lists.proofs.Given.OthersMakingGoes.{new_maps_stay}
 use Rattle.play_lists.specs.Given.ActsActs.{Answer, StepsMaking}
 use Rattle.play_lists.specs.Given.ActsAsSteps.{MadeTo, changed_by, changed_of, held_in}
@@ -39,7 +39,7 @@ use Rattle.run_schedules.specs.Deeds.Deeds.{Entry, moment, named}
 use Rattle.run_schedules.specs.Deeds.History.{made_for}
 use Rattle.play_lists.specs.Played.Play.{Making, Now, State, has_root, is_refusal, made_on, making_deed, making_outcome, pairs_for}
 use Rattle.play_lists.specs.Played.Reached.{IsOf, made_so, makes_so}
-use Rattle.play_events.specs.Given.NeedsMakings.{in_hand, table_left}
+use Rattle.run_legal.specs.Given.NeedsMakings.{in_hand, table_left}
 use Rattle.play_linear.specs.Linear.Coming.{Comes, ComesBy, MapsComeAndGo}
 use Rattle.play_linear.proofs.Linear.Coming.{comes_bare}
 use Rattle.play_linear.proofs.Linear.Holds.{Holds}
@@ -48,7 +48,7 @@ use Rattle.play_linear.proofs.Linear.StepsPlayed.{there_alike}
 use Rattle.play_moves.proofs.Moves.MadeHolds.{IsComing, MadeHolds}
 use Rattle.play_moves.proofs.Moves.MadeStep.{own_then, then_made}
 use Rattle.play_moves.proofs.Moves.MakingMoves.{counts as counts_made, frees_quietly}
-use Rattle.play_events.proofs.EachMoves.Rooted.{IsFreeing, Rooted, step_rooted}
+use Rattle.play_moves.proofs.EachMoves.Rooted.{IsFreeing, Rooted, step_rooted}
 use Rattle.run_schedules.proofs.Given.General.{same_some}
 
 -- where it gives its root up it has no table in hand

@@ -13,22 +13,22 @@ use Rattle.run_schedules.specs.Schedules.Terms.{Terms}
 use Rattle.run_schedules.specs.Schedules.Views.{map_at, tables_of}
 use Rattle.play_lists.specs.Given.EffectsEffects.{effects_of}
 use Rattle.play_lists.specs.Given.EffectsDeclared.acting.Acting.TheVariants as acts
-use Rattle.play_events.specs.Given.FinishesMakings.{Beginning}
-use Rattle.play_events.specs.Given.NamedPlaces.{first_places}
+use Rattle.play_lists.specs.Given.FinishesMakings.{Beginning}
+use Rattle.run_legal.specs.Given.NamedPlaces.{first_places}
 use Rattle.play_lists.specs.Given.OthersMakings.{WasNew}
 use Rattle.play_lists.specs.Given.ScenesHeld.{Held, IsAt}
 use Rattle.play_lists.specs.Given.ScenesMaking.{MakingLeads}
-use Rattle.play_events.specs.Given.ScenesScene.{Scene}
+use Rattle.play_lists.specs.Given.ScenesScene.{Scene}
 use Rattle.play_lists.proofs.Given.FindsLife.{each_so}
 use Rattle.run_schedules.specs.Deeds.Deeds.{Deed, Entry, Makes, MapFails, begun, moment, named}
 use Rattle.run_schedules.specs.Deeds.History.{FindsBy, past, transition}
 use Rattle.play_lists.specs.Played.Play.{State, has_root, is_refusal, making_outcome}
-use Rattle.play_events.specs.Given.NeedsFirsts.{ShowsOpenings}
-use Rattle.play_events.proofs.Given.NeedsMakings.{makings_find_theirs}
+use Rattle.run_legal.specs.Given.NeedsFirsts.{ShowsOpenings}
+use Rattle.run_legal.proofs.Given.NeedsMakings.{makings_find_theirs}
 use Rattle.play_linear.specs.Linear.Shown.{ShowsAnswers}
 use Rattle.play_linear.proofs.Linear.MapActs.{deed_by}
 use Rattle.play_linear.proofs.Linear.OthersGo.{makings_step}
-use Rattle.play_events.specs.EachMoves.Finds.{FindsIts}
+use Rattle.play_moves.specs.EachMoves.Finds.{FindsIts}
 
 module _ {K V S : Type 0} (same : K → K → Bool) (hash : ℕ → K → ℕ) (x : State K V S) (s : Scene K V) (old new : Held K V) (at : IsAt same hash old s)
     (all : ShowsAnswers same (past x.history) (moment x.history) x.known s) (openings : ShowsOpenings s) (i : ℕ) (b : Beginning K) (makes : s.makers i ≡ Some b) (machine : NewMap) (said : Advance Setting)

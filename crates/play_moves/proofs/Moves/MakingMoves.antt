@@ -24,29 +24,29 @@ use Rattle.run_schedules.specs.Schedules.Views.{capacity_or, map_at, tables_of}
 use Rattle.play_lists.specs.Given.EffectsEffects.{effects_of, known_after}
 use Rattle.play_lists.specs.Given.EffectsKnown.{Known}
 use Rattle.play_lists.specs.Given.EffectsDeclared.acting.Acting.TheVariants as acts
-use Rattle.play_events.specs.Given.FinishesMakings.{Beginning, MakingFacts}
+use Rattle.play_lists.specs.Given.FinishesMakings.{Beginning, MakingFacts}
 use Rattle.play_lists.specs.Given.FollowsShows.{Shows}
 use Rattle.play_lists.specs.Given.OthersMakings.{WasNew, making_after}
 use Rattle.play_lists.specs.Given.ScenesHeld.{Held, IsAt}
 use Rattle.play_lists.specs.Given.ScenesMaking.{MakingComesTo, MakingLeads}
-use Rattle.play_events.specs.Given.ScenesScene.{Scene}
-use Rattle.play_events.proofs.Given.CallersTogether.At.{at_same}
+use Rattle.play_lists.specs.Given.ScenesScene.{Scene}
+use Rattle.run_legal.proofs.Given.CallersTogether.At.{at_same}
 use Rattle.play_lists.proofs.Given.FindsCapacities.{effects_keep_capacities}
 use Rattle.play_lists.proofs.Given.FollowsFinds.{tables_many}
 use Rattle.play_lists.proofs.Agrees.Openings.{rootless_quiet}
 use Rattle.run_schedules.specs.Deeds.Deeds.{Entry, Makes, MapComes, MapFails, moment, named}
 use Rattle.run_schedules.specs.Deeds.History.{IsWhole, Refuses, made_by, made_for, may_do, past, transition}
 use Rattle.play_lists.specs.Played.Play.{State, has_root, is_refusal, making_outcome, pairs_for}
-use Rattle.play_events.proofs.Given.NeedsMakings.{makings_do_theirs}
-use Rattle.play_events.proofs.Given.NeedsTablesMade.{makings_count_tables}
-use Rattle.play_events.specs.Given.NeedsMakings.{CountsTables, in_hand, table_left}
+use Rattle.run_legal.proofs.Given.NeedsMakings.{makings_do_theirs}
+use Rattle.run_legal.proofs.Given.NeedsTablesMade.{makings_count_tables}
+use Rattle.run_legal.specs.Given.NeedsMakings.{CountsTables, in_hand, table_left}
 use Rattle.play_linear.specs.Linear.Shown.{ShowsAnswers}
 use Rattle.play_linear.proofs.Linear.MapActs.{deed_by}
 use Rattle.play_linear.proofs.Linear.OthersGo.{makings_step}
-use Rattle.play_events.specs.EachMoves.Parts.{DoesIts}
-use Rattle.play_events.proofs.EachMoves.Counted.{are_so_many, freeing_has_none, own_made, places_as_pairs, so_many}
-use Rattle.play_events.proofs.EachMoves.Parts.{all_also, granted_so, none_may}
-use Rattle.play_events.proofs.EachMoves.Rooted.{IsFreeing, Rooted}
+use Rattle.play_moves.specs.EachMoves.Parts.{DoesIts}
+use Rattle.play_moves.proofs.EachMoves.Counted.{are_so_many, freeing_has_none, own_made, places_as_pairs, so_many}
+use Rattle.play_moves.proofs.EachMoves.Parts.{all_also, granted_so, none_may}
+use Rattle.play_moves.proofs.EachMoves.Rooted.{IsFreeing, Rooted}
 use Rattle.play_lists.proofs.Agrees.Grants.{refusals_so as refuses_so}
 use Rattle.play_lists.proofs.Given.LoggedMakingsRun.{new_past as new_tables}
 

@@ -27,11 +27,11 @@ use Rattle.play_lists.specs.Given.EffectsDeclared.changed.Changed.{Changed}
 use Rattle.play_lists.specs.Given.EffectsEffects.{effects_of, known_after}
 use Rattle.play_lists.specs.Given.EffectsDeclared.acting.Acting.TheVariants as acts
 use Rattle.play_lists.specs.Given.FinishesEndings.{Finishing}
-use Rattle.play_events.specs.Given.FinishesMaps.{Standing}
-use Rattle.play_events.specs.Given.NamedSeen.{kind_of}
-use Rattle.play_events.specs.Given.ScenesScene.{Scene, row_of, slot_of}
-use Rattle.play_events.proofs.Given.CallersTogether.At.{at_other, at_same}
-use Rattle.play_events.proofs.Given.ScenesNoCall.{none_is}
+use Rattle.play_lists.specs.Given.FinishesMaps.{Standing}
+use Rattle.run_legal.specs.Given.NamedSeen.{kind_of}
+use Rattle.play_lists.specs.Given.ScenesScene.{Scene, row_of, slot_of}
+use Rattle.run_legal.proofs.Given.CallersTogether.At.{at_other, at_same}
+use Rattle.play_lists.proofs.Given.ScenesNoCall.{none_is}
 use Rattle.play_lists.specs.Given.ActsActs.{Act, BeginsCall, StepsCall, TellsCall, AsksCall, StopsCall, BeginsMaking, StepsMaking, BeginsEnding, StepsEnding, BeginsRow, StepsRow}
 use Rattle.play_lists.specs.Given.ActsAsSteps.{changed_of, row_changed}
 use Rattle.play_lists.specs.Given.ActsCourses.{set_up}
@@ -45,8 +45,8 @@ use Rattle.play_linear.specs.Linear.Coming.{ComesBy, MapsComeAndGo}
 use Rattle.play_linear.proofs.Linear.MapActs.{deed_by}
 use Rattle.play_linear.proofs.Linear.RowsPlayed.{IsOfRow, is_of_row}
 use Rattle.play_linear.proofs.Linear.StepsPlayed.{there_alike}
-use Rattle.play_events.proofs.EachMoves.MapsIn.{AreIn, LeavesMaps, comes_in, fails_in, found_in, goes_in, none_in, still_in, then_in}
-use Rattle.play_events.proofs.EachMoves.Rooted.{Rooted, step_rooted}
+use Rattle.play_moves.proofs.EachMoves.MapsIn.{AreIn, LeavesMaps, comes_in, fails_in, found_in, goes_in, none_in, still_in, then_in}
+use Rattle.play_moves.proofs.EachMoves.Rooted.{Rooted, step_rooted}
 use Rattle.run_schedules.proofs.Given.General.{same_some, none_mapped as nothing_told}
 
 -- who acts on slots, or reclaims all, leaves maps

@@ -7,9 +7,9 @@ use Rattle.play_lists.specs.Given.FindsWithin.{AllIsInOrder}
 use Rattle.play_lists.proofs.Given.FindsRuns.{all_in_order_at_first}
 use Rattle.run_schedules.specs.Deeds.Deeds.{Begins, Deed, Ends, Entry, Leaves, Makes, MapComes, MapFails, MapGoes, Opens, ReclaimsAll, Registers, Replies, Shuts, Steps, Stops, Tends, moment}
 use Rattle.run_schedules.specs.Deeds.History.{MovesOn}
-use Rattle.play_events.specs.EachMoves.Finds.{FindsIts, IsOther}
+use Rattle.play_moves.specs.EachMoves.Finds.{FindsIts, IsOther}
 use Rattle.play_moves.specs.Moves.Order.{OrderStays}
-use Rattle.play_events.specs.EachMoves.Parts.{DoesIts}
+use Rattle.play_moves.specs.EachMoves.Parts.{DoesIts}
 use Rattle.play_moves.specs.Moves.Steps.{EachStoresOne, InOrderSoFar, OfStep, StepFinds}
 use Rattle.play_moves.proofs.Moves.Steps.Kept.{order_now}
 

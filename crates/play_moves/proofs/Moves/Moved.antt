@@ -6,7 +6,7 @@ use Rattle.run_schedules.specs.Schedules.After.{AtEachEvent}
 use Rattle.run_schedules.specs.Schedules.Terms.{Terms, shards_of}
 use Rattle.play_lists.specs.Given.EffectsKnown.{nothing_known}
 use Rattle.play_lists.specs.Given.FollowsShows.{Shows}
-use Rattle.play_events.specs.Given.ScenesScene.{at_first, slot_of}
+use Rattle.play_lists.specs.Given.ScenesScene.{at_first, slot_of}
 use Rattle.play_lists.specs.Given.ActsActs.{Act, BeginsMaking}
 use Rattle.play_lists.specs.Given.ActsDoings.{Doing, Does, BeginsReclaiming, BeginsClearing, StepsReclaiming, Chooses}
 use Rattle.play_lists.specs.Given.ActsLists.{Course, LedTo, Reached, nothing_done}
@@ -27,11 +27,11 @@ use Rattle.play_linear.specs.Endings.InOrder.{EndsInOrder}
 use Rattle.play_linear.proofs.Endings.InOrder.{maps_end_in_order}
 use Rattle.play_linear.proofs.Endings.Stays.{first_go}
 use Rattle.play_linear.proofs.Swept.Swept.{first_swept}
-use Rattle.play_events.specs.EachMoves.Finds.{OthersFind}
-use Rattle.play_events.specs.EachMoves.Moves.{ListsMoveOn}
+use Rattle.play_moves.specs.EachMoves.Finds.{OthersFind}
+use Rattle.play_moves.specs.EachMoves.Moves.{ListsMoveOn}
 use Rattle.play_moves.specs.Moves.Order.{KeepsOrder}
-use Rattle.play_events.specs.EachMoves.Own.{IsOfItsCall}
-use Rattle.play_events.specs.EachMoves.Parts.{DoesIts}
+use Rattle.play_moves.specs.EachMoves.Own.{IsOfItsCall}
+use Rattle.play_moves.specs.EachMoves.Parts.{DoesIts}
 use Rattle.play_moves.specs.Moves.Steps.{HasFound, ShowsSteps, StepFinds}
 use Rattle.play_moves.proofs.Moves.BucketsStay.{first_buckets}
 use Rattle.play_moves.proofs.Moves.MoveOn.{OtherFinds, all_move_on}

@@ -16,8 +16,8 @@ use Rattle.play_lists.specs.Given.EffectsDeclared.changed.Changed.TheVariants.{N
 use Rattle.play_lists.specs.Given.EffectsEffects.{effects_of}
 use Rattle.play_lists.specs.Given.EffectsDeclared.acting.Acting.TheVariants as acts
 use Rattle.play_lists.specs.Given.ScenesHeld.{Held, IsAt}
-use Rattle.play_events.specs.Given.ScenesScene.{IsOnSlot, Scene, row_of, slot_of}
-use Rattle.play_events.specs.Given.ScenesDeclared.row.RowTold.{RowTold}
+use Rattle.play_lists.specs.Given.ScenesScene.{IsOnSlot, Scene, row_of, slot_of}
+use Rattle.play_lists.specs.Given.ScenesDeclared.row.RowTold.{RowTold}
 use Rattle.play_lists.specs.Given.ActsActs.{Act, Answer, BeginsCall, StepsCall, TellsCall, AsksCall, StopsCall, BeginsMaking, StepsMaking, BeginsEnding, StepsEnding, BeginsRow, StepsRow}
 use Rattle.play_lists.specs.Given.ActsAsSteps.{LeadsAs, changed_by, held_in, row_changed, row_told}
 use Rattle.play_lists.specs.Given.ActsLeads.{Led, MayBe}
@@ -28,12 +28,12 @@ use Rattle.play_lists.specs.Played.Reached.{IsOf, row_or_rests}
 use Rattle.play_lists.proofs.Played.PlayedAs.{PlayedAs}
 use Rattle.play_linear.proofs.Linear.Holding.{AllHolds}
 use Rattle.play_linear.proofs.Linear.RowsPlayed.{IsOfRow, is_of_row}
-use Rattle.play_events.specs.EachMoves.Finds.{FindsIts, IsOfOthers, OthersFind}
-use Rattle.play_events.specs.EachMoves.Places.{OpensFor}
-use Rattle.play_events.proofs.EachMoves.Buckets.{BucketsHold}
+use Rattle.play_moves.specs.EachMoves.Finds.{FindsIts, IsOfOthers, OthersFind}
+use Rattle.play_moves.specs.EachMoves.Places.{OpensFor}
+use Rattle.play_moves.proofs.EachMoves.Buckets.{BucketsHold}
 use Rattle.play_moves.proofs.Moves.MadeHolds.{MadeHolds}
 use Rattle.play_moves.proofs.Moves.MakesFind.{makes_find}
-use Rattle.play_events.proofs.EachMoves.Needed.{row_needs}
+use Rattle.play_moves.proofs.EachMoves.Needed.{row_needs}
 use Rattle.play_moves.proofs.Moves.RowFinds.{row_finds}
 
 -- what who acts on slots, or reclaims all, finds, is what the entry finds

@@ -8,7 +8,7 @@ use Rattle.run_schedules.specs.Schedules.Terms.{Terms}
 use Rattle.play_lists.specs.Given.EffectsDeclared.changed.Changed.TheVariants.{Nothing as NoChange}
 use Rattle.play_lists.specs.Given.EffectsEffects.{effects_of}
 use Rattle.play_lists.specs.Given.EffectsDeclared.acting.Acting.TheVariants as acts
-use Rattle.play_events.specs.Given.ScenesScene.{Scene}
+use Rattle.play_lists.specs.Given.ScenesScene.{Scene}
 use Rattle.play_lists.specs.Given.ActsActs.{Act}
 use Rattle.play_lists.specs.Agrees.Fresh.{HasNewNumber}
 use Rattle.run_schedules.specs.Deeds.Deeds.{ReclaimsAll, moment, named}
@@ -19,8 +19,8 @@ use Rattle.play_lists.proofs.Played.PlayedAs.{played_as, reclaimed_as}
 use Rattle.play_linear.proofs.Linear.Stays.{all_tied, change}
 use Rattle.play_moves.specs.Moves.Order.{AreUnderWay, IsUnderWay}
 use Rattle.play_moves.proofs.Moves.AllFinds.{all_find}
-use Rattle.play_events.proofs.EachMoves.BehindFound.{behind_found}
-use Rattle.play_events.proofs.EachMoves.Buckets.{BucketsHold}
+use Rattle.play_moves.proofs.EachMoves.BehindFound.{behind_found}
+use Rattle.play_moves.proofs.EachMoves.Buckets.{BucketsHold}
 use Rattle.play_moves.proofs.Moves.BucketsStay.{buckets_hold}
 use Rattle.play_moves.proofs.Moves.MapsHad.{MapsAreHad, acts_had, all_stand, reclaiming_had}
 use Rattle.play_moves.proofs.Moves.OtherActs.{AllFind, acts_find, rows_its}

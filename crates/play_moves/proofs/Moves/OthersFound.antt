@@ -9,8 +9,8 @@ use Rattle.play_lists.specs.Given.FindsWithin.{AllIsInOrder}
 use Rattle.run_schedules.specs.Deeds.Deeds.{Begins, Deed, Ends, Entry, Leaves, Makes, MapComes, MapFails, MapGoes, Opens, ReclaimsAll, Registers, Replies, Shuts, Steps, Stops, Tends, moment}
 use Rattle.run_schedules.specs.Deeds.History.{may_do}
 use Rattle.play_linear.specs.Endings.InOrder.{EndsInOrder}
-use Rattle.play_events.specs.EachMoves.Finds.{FindsIts, IsOther, OthersFind}
-use Rattle.play_events.specs.EachMoves.Parts.{DoesIts}
+use Rattle.play_moves.specs.EachMoves.Finds.{FindsIts, IsOther, OthersFind}
+use Rattle.play_moves.specs.EachMoves.Parts.{DoesIts}
 
 -- where nothing may be done, nothing is
 none_done : (fs : List Effect) → list_all (λ f. false) fs ≡ true → fs ≡ []

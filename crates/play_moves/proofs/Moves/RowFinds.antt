@@ -24,21 +24,21 @@ use Rattle.play_lists.specs.Given.EffectsDeclared.changed.Changed.TheVariants as
 use Rattle.play_lists.specs.Given.EffectsEffects.{effects_of}
 use Rattle.play_lists.specs.Given.EffectsDeclared.acting.Acting.TheVariants as acts
 use Rattle.play_lists.specs.Given.ScenesHeld.{Held, IsAt}
-use Rattle.play_events.specs.Given.ScenesOnSlots.{RowLeads, RowSteps}
-use Rattle.play_events.specs.Given.ScenesScene.{IsOnSlot, Scene}
-use Rattle.play_events.specs.Given.ScenesDeclared.row.RowTold.{RowTold}
-use Rattle.play_events.specs.Given.ScenesDeclared.row.SlotRow.{SlotRow}
-use Rattle.play_events.specs.Given.ScenesDeclared.row.SlotRow.TheVariants as rows
-use Rattle.play_events.proofs.Given.LegalFound.{rows_find_theirs}
+use Rattle.play_lists.specs.Given.ScenesOnSlots.{RowLeads, RowSteps}
+use Rattle.play_lists.specs.Given.ScenesScene.{IsOnSlot, Scene}
+use Rattle.play_lists.specs.Given.ScenesDeclared.row.RowTold.{RowTold}
+use Rattle.play_lists.specs.Given.ScenesDeclared.row.SlotRow.{SlotRow}
+use Rattle.play_lists.specs.Given.ScenesDeclared.row.SlotRow.TheVariants as rows
+use Rattle.run_legal.proofs.Found.{rows_find_theirs}
 use Rattle.play_lists.proofs.Given.FindsLife.{each_so}
-use Rattle.play_events.proofs.Works.Needs.{none_need, reclaiming_asks_none}
-use Rattle.play_events.proofs.Given.NeedsSteps.{IsNoOwn, asks_alone, does_nothing, enters_tell, frees_tell, registers_tell, takes_no_own}
+use Rattle.run_legal.proofs.Works.Needs.{none_need, reclaiming_asks_none}
+use Rattle.run_legal.proofs.Given.NeedsSteps.{IsNoOwn, asks_alone, does_nothing, enters_tell, frees_tell, registers_tell, takes_no_own}
 use Rattle.run_schedules.specs.Deeds.Deeds.{Deed, Entry, Leaves, Opens, Registers, Shuts, Tends, moment, named}
 use Rattle.run_schedules.specs.Deeds.History.{FindsBy, NeedsBucket, buckets, past, transition}
 use Rattle.play_lists.specs.Played.Play.{State, is_refusal, leaves_as, registers_as, row_deed}
 use Rattle.play_linear.specs.Linear.Shown.{ShowsAnswers}
-use Rattle.play_events.proofs.EachMoves.Parts.{all_also}
-use Rattle.play_events.proofs.EachMoves.RowKinds.{ends_quietly, enters_quietly, flushes_reclaim, left_quietly, leaves_reclaim}
+use Rattle.play_moves.proofs.EachMoves.Parts.{all_also}
+use Rattle.play_moves.proofs.EachMoves.RowKinds.{ends_quietly, enters_quietly, flushes_reclaim, left_quietly, leaves_reclaim}
 
 -- what asks for buckets finds that they are needed
 module _ {K V : Type 0} (terms : Terms) (log : List (Entry K V)) (slot : ℕ) (t : Transition K V) where

@@ -14,11 +14,11 @@ use Rattle.play_lists.specs.Given.EffectsDeclared.changed.Changed.TheVariants.{N
 use Rattle.play_lists.specs.Given.EffectsEffects.{effects_of}
 use Rattle.play_lists.specs.Given.EffectsDeclared.acting.Acting.TheVariants as acts
 use Rattle.play_lists.specs.Given.FinishesEndings.{Finishing}
-use Rattle.play_events.specs.Given.FinishesMakings.{Beginning}
+use Rattle.play_lists.specs.Given.FinishesMakings.{Beginning}
 use Rattle.play_lists.specs.Given.ScenesEnding.{EndingComesTo}
 use Rattle.play_lists.specs.Given.ScenesHeld.{Held, IsAt}
 use Rattle.play_lists.specs.Given.ScenesMaking.{MakingLeads}
-use Rattle.play_events.specs.Given.ScenesScene.{Scene, slot_of}
+use Rattle.play_lists.specs.Given.ScenesScene.{Scene, slot_of}
 use Rattle.play_lists.specs.Given.ActsActs.{Act, Answer, BeginsCall, StepsCall, TellsCall, AsksCall, StopsCall, BeginsMaking, StepsMaking, BeginsEnding, StepsEnding, BeginsRow, StepsRow, OfEnding, OfMaking}
 use Rattle.play_lists.specs.Given.ActsAsSteps.{LeadsAs, MadeTo, changed_by, held_in}
 use Rattle.play_lists.specs.Given.ActsLeads.{Led, MayBe}
@@ -36,9 +36,9 @@ use Rattle.play_linear.specs.Endings.GoingOn.{EndsGoOn}
 use Rattle.play_linear.proofs.Endings.EndStepGoes.{over_whole, step_finds}
 use Rattle.play_linear.proofs.Endings.EndSteps.{none_done}
 use Rattle.play_linear.proofs.Endings.Stays.{AllGo, ends_go_on}
-use Rattle.play_events.specs.EachMoves.Parts.{DoesIts}
+use Rattle.play_moves.specs.EachMoves.Parts.{DoesIts}
 use Rattle.play_moves.proofs.Moves.Acts.{AllMove, asks_move, begins_move, call_steps_move, making_steps_move, row_steps_move, stops_move, told_move}
-use Rattle.play_events.proofs.EachMoves.EndMoves.{ends_move, goes_move}
+use Rattle.play_moves.proofs.EachMoves.EndMoves.{ends_move, goes_move}
 use Rattle.play_moves.proofs.Moves.MadeHolds.{LeavesMaking, MadeHolds, acts_keep_made, as_it_was, reclaiming_keeps_made}
 use Rattle.play_moves.proofs.Moves.MakingActs.{made_then}
 use Rattle.play_moves.proofs.Moves.RowMoves.{reclaiming_moves}

@@ -12,11 +12,11 @@ use Rattle.run_schedules.specs.Schedules.Moment.{MapThere}
 use Rattle.run_schedules.specs.Schedules.Terms.{Terms, shards_of}
 use Rattle.run_schedules.specs.Schedules.Views.{capacity_or, map_at}
 use Rattle.play_lists.specs.Given.EffectsDeclared.changed.Changed.TheVariants.{Nothing as NoChange}
-use Rattle.play_events.specs.Given.CallersTogether.{Counting, ForRoom, OnKey, OverAll, UnderWay, UnlessCounts}
-use Rattle.play_events.specs.Given.FinishesMakings.{Beginning}
-use Rattle.play_events.specs.Given.NamedPlaces.{first_places}
+use Rattle.run_legal.specs.Given.CallersTogether.{Counting, ForRoom, OnKey, OverAll, UnderWay, UnlessCounts}
+use Rattle.play_lists.specs.Given.FinishesMakings.{Beginning}
+use Rattle.run_legal.specs.Given.NamedPlaces.{first_places}
 use Rattle.play_lists.specs.Given.ScenesHeld.{IsAt}
-use Rattle.play_events.specs.Given.ScenesScene.{Scene, slot_of}
+use Rattle.play_lists.specs.Given.ScenesScene.{Scene, slot_of}
 use Rattle.play_lists.proofs.Given.FindsCapacities.{given_are_for}
 use Rattle.play_lists.proofs.Given.ScenesMay.{standing_is}
 use Rattle.play_lists.specs.Given.ActsActs.{Act}
@@ -39,10 +39,10 @@ use Rattle.play_linear.proofs.Linear.Holding.{AllHolds}
 use Rattle.play_linear.proofs.Linear.StepsPlayed.{there_alike}
 use Rattle.play_linear.proofs.Swept.KeptByAll.{Gives, With, all_kept}
 use Rattle.play_lists.specs.Agrees.Places.{ArePlaces, AsksPlaces}
-use Rattle.play_events.specs.EachMoves.Places.{OpensFor}
+use Rattle.play_moves.specs.EachMoves.Places.{OpensFor}
 use Rattle.play_moves.specs.Moves.Steps.{StepsMay}
 use Rattle.play_moves.proofs.Moves.MadeHolds.{MadeHolds}
-use Rattle.play_events.proofs.EachMoves.Opens.{acts_open, still_open}
+use Rattle.play_moves.proofs.EachMoves.Opens.{acts_open, still_open}
 use Rattle.play_moves.proofs.Moves.Order.Kept.{New, Orderly, order_is_kept}
 use Rattle.play_moves.proofs.Moves.Stays.{Moves, moves_stay}
 use Rattle.play_moves.proofs.Moves.Steps.Kept.{Found, May, steps_are_kept}

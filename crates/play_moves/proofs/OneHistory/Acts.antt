@@ -38,12 +38,12 @@ use Rattle.play_lists.specs.Given.EffectsDeclared.role.Role.TheVariants as role
 use Rattle.run_histories.specs.Histories.Events.{ComesToIt}
 use Rattle.run_histories.specs.Histories.InEvent.{ComesSo}
 use Rattle.run_schedules.specs.Runs.Log.{pair_at}
-use Rattle.play_events.specs.Given.NamedSeen.{kind_of}
+use Rattle.run_legal.specs.Given.NamedSeen.{kind_of}
 use Rattle.play_lists.specs.Played.Play.{Calling, State, begun_call, call_asked, call_begun, call_for, call_stepped, call_stopped, call_told, has_root, is_over, is_refusal, keeps, leaves_as, making_deed, outcome_of, pairs_for, registers_as, reply_for, row_deed, told_call}
-use Rattle.play_events.specs.Given.ScenesReplying.{unless_stopped}
-use Rattle.play_events.specs.Given.ScenesStepping.{has_ended}
+use Rattle.play_lists.specs.Given.ScenesReplying.{unless_stopped}
+use Rattle.play_lists.specs.Given.ScenesStepping.{has_ended}
 use Rattle.play_lists.specs.Given.EffectsDeclared.changed.Changed.{Changed}
-use Rattle.play_events.specs.Given.FinishesMaps.{with_call}
+use Rattle.play_lists.specs.Given.FinishesMaps.{with_call}
 use Rattle.threads_rule.specs.Given.ResizeDeclared.new_map.NewMap.{NewMap}
 use Rattle.seize_acts.specs.Given.SeizeDeclared.rows.leave.Leave.{Leave}
 use Rattle.seize_acts.specs.Given.SeizeDeclared.rows.leave.Leaving.{Leaving}
@@ -51,10 +51,10 @@ use Rattle.seize_acts.specs.Given.SeizeDeclared.rows.leave.Leaving.TheVariants a
 use Rattle.seize_acts.specs.Given.SeizeDeclared.rows.register.Registering.{Registering}
 use Rattle.seize_acts.specs.Given.SeizeDeclared.rows.register.Registering.TheVariants as registers
 use Rattle.seize_acts.specs.Given.SeizeDeclared.states.TheConstants.{ACTIVE}
-use Rattle.play_events.specs.Given.ScenesDeclared.row.SlotRow.{SlotRow}
-use Rattle.play_events.specs.Given.ScenesDeclared.row.SlotRow.TheVariants as rows
+use Rattle.play_lists.specs.Given.ScenesDeclared.row.SlotRow.{SlotRow}
+use Rattle.play_lists.specs.Given.ScenesDeclared.row.SlotRow.TheVariants as rows
 use Rattle.seize_acts.specs.Given.SeizeWorld.{with_at}
-use Rattle.play_events.proofs.Given.CallersTogether.At.{at_same, at_other}
+use Rattle.run_legal.proofs.Given.CallersTogether.At.{at_same, at_other}
 use Rattle.play_lists.proofs.Played.Noted.{CallsAreNoted, at_it, at_other_map, made_calls, one_call}
 use Rattle.play_lists.proofs.Played.PlayedAs.{PlayedAs, ReclaimedAs}
 use Rattle.play_moves.specs.OneHistory.Lookups.{WasHad, WasSo}

@@ -10,7 +10,7 @@ use Rattle.threads_rule.specs.Views.Listed.{Called, AreNumbered, calls_of, calls
 use Rattle.run_schedules.specs.Schedules.After.{AtEachEvent}
 use Rattle.run_schedules.specs.Deeds.Deeds.{moment}
 use Rattle.run_schedules.specs.Deeds.History.{IsLinearizable, past}
-use Rattle.play_events.specs.Given.ScenesScene.{slot_of}
+use Rattle.play_lists.specs.Given.ScenesScene.{slot_of}
 use Rattle.seize_acts.specs.Acts.Answers.{then_on}
 use Rattle.run_schedules.specs.Given.SeizeWordsMem.{Mem}
 use Rattle.seize_acts.specs.Given.SeizeDeclared.rows.reclaim_all.ReclaimAll.{ReclaimAll}

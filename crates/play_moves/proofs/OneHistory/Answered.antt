@@ -21,7 +21,7 @@ use Rattle.threads_rule.specs.declared.view.BegunCall.{BegunCall}
 use Rattle.threads_rule.specs.declared.view.View.{View}
 use Rattle.threads_rule.proofs.Views.Listed.{its_seat}
 use Rattle.threads_rule.proofs.Views.Numbers.{its_caller}
-use Rattle.play_events.specs.Given.ScenesScene.{Scene, slot_of}
+use Rattle.play_lists.specs.Given.ScenesScene.{Scene, slot_of}
 use Rattle.run_schedules.specs.declared.call.Response.{Response}
 use Rattle.run_schedules.specs.declared.call.Response.TheVariants as answers
 use Rattle.run_schedules.specs.declared.call.Call.TheVariants.{On}
@@ -36,10 +36,10 @@ use Rattle.play_lists.specs.Given.ActsLists.{nothing_done}
 use Rattle.run_schedules.specs.Given.SeizeWordsMem.{Mem}
 use Rattle.run_schedules.specs.Deeds.Deeds.{Entry}
 use Rattle.play_lists.specs.Given.EffectsKnown.{Known}
-use Rattle.play_events.specs.Given.FinishesMaps.{Standing}
-use Rattle.play_events.specs.Given.NamedSeen.{kind_of}
+use Rattle.play_lists.specs.Given.FinishesMaps.{Standing}
+use Rattle.run_legal.specs.Given.NamedSeen.{kind_of}
 use Rattle.play_lists.specs.Played.Play.{State as Played, call_for, first_state, outcome_of, play_all}
-use Rattle.play_events.specs.Given.ScenesStepping.{has_ended}
+use Rattle.play_lists.specs.Given.ScenesStepping.{has_ended}
 use Rattle.run_histories.specs.Histories.Events.{ComesToIt}
 use Rattle.play_moves.specs.OneHistory.Answered.{IsAnswered, SeatsAreAnswered}
 use Rattle.play_moves.specs.OneHistory.Lookups.{IsLookedUp, IsSuch, LookupsWereSo}

@@ -30,10 +30,10 @@ use Rattle.run_schedules.specs.declared.call.OneKey.TheVariants as one_key
 use Rattle.run_schedules.specs.declared.call.Reply.{Reply}
 use Rattle.run_schedules.specs.declared.outcome.Outcome.{Outcome}
 use Rattle.run_schedules.specs.declared.outcome.Outcome.TheVariants.{Answered, Refused}
-use Rattle.play_events.specs.Given.ScenesScene.{slot_of}
+use Rattle.play_lists.specs.Given.ScenesScene.{slot_of}
 use Rattle.play_lists.specs.Given.ActsLists.{nothing_done}
-use Rattle.play_events.specs.Given.NamedSeen.{kind_of}
-use Rattle.play_events.specs.Given.ScenesStepping.{has_ended}
+use Rattle.run_legal.specs.Given.NamedSeen.{kind_of}
+use Rattle.play_lists.specs.Given.ScenesStepping.{has_ended}
 use Rattle.run_schedules.specs.Given.SeizeWordsMem.{Mem, value_at}
 use Rattle.play_lists.specs.Given.ActsActs.{Wanted, Get, Insert, TryToInsert, Remove}
 use Rattle.run_schedules.specs.Deeds.Deeds.{Entry}

@@ -2,13 +2,13 @@
 use Rattle.std.specs.Prelude.{◌+◌, ◌++◌, length, flat_map, Option, Some, None, if◌then◌else◌}
 use Rattle.std.proofs.Common.{◌≡◌, ℕ, Bool, true, false, List, [], ◌∷◌, inl, inr, refl, sym, subst, ap, ◌∙◌}
 use Rattle.run_histories.specs.Histories.Due.{Owes, ShowsDue}
-use Rattle.play_events.specs.Given.PointsFactsCalls.{Change, Unchanged, Stored as HasStored, Replaced as HasReplaced, Removed as HasRemoved}
-use Rattle.play_events.specs.Given.CallersTogether.{UnderWay as UnderWayIn, OnKey, ForRoom, Counting, OverAll}
+use Rattle.run_legal.specs.Given.PointsFactsCalls.{Change, Unchanged, Stored as HasStored, Replaced as HasReplaced, Removed as HasRemoved}
+use Rattle.run_legal.specs.Given.CallersTogether.{UnderWay as UnderWayIn, OnKey, ForRoom, Counting, OverAll}
 use Rattle.play_lists.specs.Given.EffectsKnown.{Known}
-use Rattle.play_events.specs.Given.FinishesMaps.{Standing}
+use Rattle.play_lists.specs.Given.FinishesMaps.{Standing}
 use Rattle.play_lists.specs.Given.FollowsCalls.{IsCalled}
 use Rattle.run_schedules.specs.Runs.Same.{is_same}
-use Rattle.play_events.specs.Given.ScenesScene.{Scene}
+use Rattle.play_lists.specs.Given.ScenesScene.{Scene}
 use Rattle.run_schedules.specs.declared.call.Response.{Response}
 use Rattle.run_schedules.specs.declared.call.Call.{Call}
 use Rattle.run_schedules.specs.declared.call.Call.TheVariants as calls

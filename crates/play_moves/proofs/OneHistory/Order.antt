@@ -13,7 +13,7 @@ use Rattle.run_schedules.specs.declared.call.Call.{Call}
 use Rattle.run_schedules.specs.Deeds.Deeds.{Deed, Entry, caller_of, moment}
 use Rattle.run_schedules.specs.Deeds.History.{answered, answers_of, is_of}
 use Rattle.play_lists.specs.Given.EffectsKnown.{Known}
-use Rattle.play_events.specs.Given.NamedSeen.{kind_of}
+use Rattle.run_legal.specs.Given.NamedSeen.{kind_of}
 use Rattle.play_lists.specs.Played.Play.{call_for, outcome_of}
 use Rattle.play_moves.specs.OneHistory.Answered.{ByNewest, IfElse}
 use Rattle.play_moves.specs.OneHistory.Order.{HaveGot, IsNewestAnswer, is_answer}

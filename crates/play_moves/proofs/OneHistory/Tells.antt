@@ -26,9 +26,9 @@ use Rattle.play_lists.specs.Given.ActsActs.{Wanted}
 use Rattle.run_schedules.specs.Deeds.Deeds.{Entry}
 use Rattle.run_schedules.specs.Deeds.History.{answers_of}
 use Rattle.play_lists.specs.Given.EffectsKnown.{Known}
-use Rattle.play_events.specs.Given.NamedSeen.{kind_of}
+use Rattle.run_legal.specs.Given.NamedSeen.{kind_of}
 use Rattle.play_lists.specs.Played.Play.{Calling, State, call_for, outcome_of}
-use Rattle.play_events.specs.Given.ScenesStepping.{has_ended}
+use Rattle.play_lists.specs.Given.ScenesStepping.{has_ended}
 use Rattle.play_moves.specs.OneHistory.Answered.{ByNewest, IfElse, IsAnswered, IsItsEnd}
 use Rattle.play_moves.specs.OneHistory.Lookups.{IsLookedUp, WasHad, WasSo}
 use Rattle.play_moves.specs.OneHistory.Order.{HaveGot}

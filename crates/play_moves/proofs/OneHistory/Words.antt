@@ -10,8 +10,8 @@ use Rattle.play_linear.proofs.Linear.Holds.{Holds}
 use Rattle.run_histories.specs.Histories.InEvent.{ComesSo}
 use Rattle.play_lists.specs.Given.ValuesValues.{KeepsValue}
 use Rattle.play_lists.specs.Given.ScenesHeld.{Held, IsAt}
-use Rattle.play_events.specs.Given.ScenesScene.{Scene, slot_of}
-use Rattle.play_events.specs.Given.ScenesStepping.{StepLeads}
+use Rattle.play_lists.specs.Given.ScenesScene.{Scene, slot_of}
+use Rattle.play_lists.specs.Given.ScenesStepping.{StepLeads}
 use Rattle.run_schedules.specs.Schedules.Moment.{UnderWay}
 use Rattle.run_schedules.specs.Schedules.Views.{call_of}
 use Rattle.run_schedules.specs.declared.call.Call.{Call}
@@ -24,7 +24,7 @@ use Rattle.run_schedules.specs.Deeds.Deeds.{Deed, Entry, Steps, moment, named}
 use Rattle.play_lists.specs.Given.EffectsEffects.{effects_of, known_after}
 use Rattle.play_lists.specs.Given.EffectsKnown.{Known}
 use Rattle.play_lists.specs.Given.EffectsDeclared.acting.Acting.TheVariants as acting
-use Rattle.play_events.specs.Given.NamedSeen.{kind_of}
+use Rattle.run_legal.specs.Given.NamedSeen.{kind_of}
 use Rattle.play_lists.specs.Played.Play.{State, call_stepped, is_refusal, outcome_of}
 use Rattle.play_lists.specs.Played.Reached.{IsOf}
 use Rattle.seize_acts.specs.Acts.Answers.{Grant}

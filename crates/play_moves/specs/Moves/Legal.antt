@@ -3,7 +3,7 @@ use Rattle.std.specs.Prelude.{◌≡◌, ◌<◌, ◌^◌, ℕ, Bool, List, Some
 use Rattle.std.specs.List.{AllByRecursion}
 use Rattle.run_schedules.specs.Schedules.After.{AtEachEvent}
 use Rattle.run_schedules.specs.Schedules.Terms.{Terms, shards_of}
-use Rattle.play_events.specs.Given.ScenesScene.{slot_of}
+use Rattle.play_lists.specs.Given.ScenesScene.{slot_of}
 use Rattle.play_lists.specs.Given.ActsDoings.{Doing}
 use Rattle.play_lists.specs.Given.ActsLists.{Course, LedTo, Reached}
 use Rattle.play_lists.specs.Agrees.Fresh.{MakesNew}
@@ -11,7 +11,7 @@ use Rattle.play_lists.specs.Agrees.Places.{AsksMaps}
 use Rattle.run_schedules.specs.Deeds.Deeds.{Entry}
 use Rattle.run_schedules.specs.Deeds.History.{IsLinearizable, IsProtected, IsSwept, MovesOn}
 use Rattle.play_lists.specs.Played.Play.{State, first_state, play_all}
-use Rattle.play_events.specs.EachMoves.Own.{IsOfItsCall}
+use Rattle.play_moves.specs.EachMoves.Own.{IsOfItsCall}
 
 -- An entry is linearizable, reclaims nothing that an open section may still look at, is swept, moves on, and is of its call.
 pub record KeepsAll {K V : Type 0} (same : K → K → Bool) (terms : Terms) (log : List (Entry K V)) (e : Entry K V) : Type 0 where

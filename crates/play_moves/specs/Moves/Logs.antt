@@ -3,7 +3,7 @@ use Rattle.std.specs.Prelude.{ℕ, Bool, List}
 use Rattle.run_schedules.specs.Schedules.After.{AtEachEvent}
 use Rattle.run_schedules.specs.Schedules.Entry.{Entry}
 use Rattle.run_schedules.specs.Schedules.Terms.{Terms}
-use Rattle.play_events.specs.Given.PointsSteps.{AreLawful}
+use Rattle.run_legal.specs.Given.PointsSteps.{AreLawful}
 use Rattle.play_lists.specs.Grouped.ByActs.{IsByActs}
 use Rattle.play_moves.specs.Moves.Legal.{KeepsAll}
 

@@ -9,22 +9,22 @@ use Rattle.run_schedules.specs.Schedules.Terms.{Terms, shards_of}
 use Rattle.run_schedules.specs.Schedules.Transition.{Past}
 use Rattle.run_schedules.specs.Schedules.Views.{map_at}
 use Rattle.run_schedules.specs.Runs.Present.{guard_of}
-use Rattle.play_events.specs.Given.CallersTogether.{UnderWay, UnlessCounts}
+use Rattle.run_legal.specs.Given.CallersTogether.{UnderWay, UnlessCounts}
 use Rattle.play_lists.specs.Given.EffectsKnown.{Known}
-use Rattle.play_events.specs.Given.FinishesMakings.{Beginning}
+use Rattle.play_lists.specs.Given.FinishesMakings.{Beginning}
 use Rattle.play_lists.specs.Given.FindsLife.{StoresOne}
 use Rattle.play_lists.specs.Given.FindsWithin.{AllIsInOrder}
-use Rattle.play_events.specs.Given.GrowsFinding.{ShowsFinding}
-use Rattle.play_events.specs.Given.GrowsNexts.{ShowsNexts}
-use Rattle.play_events.specs.Given.GrowsTries.{ShowsTries}
-use Rattle.play_events.specs.Given.ScenesScene.{Scene, slot_of}
-use Rattle.play_events.specs.Given.SourcesSources.{ShowsSources}
+use Rattle.run_legal.specs.Given.GrowsFinding.{ShowsFinding}
+use Rattle.run_legal.specs.Given.GrowsNexts.{ShowsNexts}
+use Rattle.run_legal.specs.Given.GrowsTries.{ShowsTries}
+use Rattle.play_lists.specs.Given.ScenesScene.{Scene, slot_of}
+use Rattle.run_legal.specs.Given.SourcesSources.{ShowsSources}
 use Rattle.play_lists.specs.Agrees.Guards.{CallsHaveGuards, guard_on}
 use Rattle.play_lists.specs.Agrees.Shards.{ShardsAre}
 use Rattle.run_schedules.specs.Deeds.Deeds.{Deed, Entry, Steps, moment, named}
 use Rattle.run_schedules.specs.Deeds.History.{past, transition}
 use Rattle.play_linear.specs.Swept.Shown.{HasSwept}
-use Rattle.play_events.specs.EachMoves.Finds.{FindsIts}
+use Rattle.play_moves.specs.EachMoves.Finds.{FindsIts}
 
 -- For what calls make tables, for which capacities maps were made, and where the pairs lie that calls have in hand; that the map of a copier that makes a table
 -- has a second one, or had one; what calls have met at tries; and from where pairs were copied.

@@ -17,9 +17,9 @@ use Rattle.play_lists.specs.Given.ActsActs.{Wanted}
 use Rattle.run_schedules.specs.Deeds.Deeds.{Entry, Steps, moment, named}
 use Rattle.run_schedules.specs.Deeds.History.{IsLinearizable, is_of}
 use Rattle.play_lists.specs.Given.EffectsKnown.{Known}
-use Rattle.play_events.specs.Given.NamedSeen.{kind_of}
+use Rattle.run_legal.specs.Given.NamedSeen.{kind_of}
 use Rattle.play_lists.specs.Played.Play.{State as Played, call_for, first_state, outcome_of, play_all}
-use Rattle.play_events.specs.Given.ScenesStepping.{has_ended}
+use Rattle.play_lists.specs.Given.ScenesStepping.{has_ended}
 
 -- one of two, by a test
 abbrev pub IfElse : Bool → Type 0 → Type 0 → Type 0

@@ -13,7 +13,7 @@ use Rattle.run_schedules.specs.declared.call.Call.{Call}
 use Rattle.run_schedules.specs.declared.outcome.Outcome.TheVariants.{Answered}
 use Rattle.run_schedules.specs.Deeds.History.{answers_of}
 use Rattle.play_lists.specs.Given.EffectsKnown.{Known}
-use Rattle.play_events.specs.Given.NamedSeen.{kind_of}
+use Rattle.run_legal.specs.Given.NamedSeen.{kind_of}
 use Rattle.play_lists.specs.Played.Play.{State as Played, call_for, first_state, outcome_of, play_all}
 use Rattle.play_moves.specs.OneHistory.Answered.{IfElse}
 

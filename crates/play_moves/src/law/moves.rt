@@ -3,7 +3,7 @@ ghost use Rattle.std.specs.Prelude.{ℕ, Bool};
 ghost use Rattle.run_schedules.specs.Schedules.Terms.{Terms};
 ghost use Rattle.play_moves.specs.Moves.Legal.{ListsKeepAll};
 ghost use Rattle.play_moves.specs.Moves.Logs.{LogsKeepAll};
-ghost use Rattle.play_events.specs.EachMoves.Moves.{ListsMoveOn};
+ghost use Rattle.play_moves.specs.EachMoves.Moves.{ListsMoveOn};
 
 /// Wherever a list of acts has led, each entry of the history that it comes to as it is played moves on. Each effect of it finds what it must: a pair and a
 /// table go through their lives in one order; a pair is stored at a free place, or at that of the pair that it replaces, and is copied to a later table; a

@@ -35,7 +35,7 @@ use Rattle.play_scheduler.specs.declared.scheduler.Scheduler.{Scheduler}
 use Rattle.play_scheduler.proofs.Given.RowsFacts.{no_ending_of, no_making_of, no_work_at, row_rests, used_still}
 use Rattle.play_scheduler.proofs.Here.{Here}
 use Rattle.play_scheduler.proofs.Given.RowsLists.{set_all, set_itself}
-use Rattle.play_stepping.proofs.EventSteps.SweepSteps.{walks_at}
+use Rattle.run_grows.proofs.Quiet.Sweeps.{walks_at}
 use Rattle.play_scheduler.proofs.Given.ScenesMay.{standing_is}
 use Rattle.run_executor.specs.Executing.IsThere.{held_by, work_of}
 use Rattle.play_scheduler.specs.Given.ScenesReplying.{scene_with}

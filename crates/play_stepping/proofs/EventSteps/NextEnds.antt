@@ -42,7 +42,8 @@ use Rattle.run_executor.specs.Named.Machines.{IsFor}
 use Rattle.play_scheduler.specs.Played.{AsFar, IsDue, StandsAs, StandsFor}
 use Rattle.run_executor.specs.Named.Seen.{Seen, is_named, is_ready as is_ready_there, ready_place, seen, seen_of}
 use Rattle.play_scheduler.specs.Quiet.{IsQuiet}
-use Rattle.play_stepping.specs.EventSteps.Stepping.{IsMidWalk, IsPlaced, IsStepOf, PlaysNext, ReadyAt, WalkComes, WalksFar, callers_then, outcome_of}
+use Rattle.play_stepping.specs.EventSteps.Stepping.{IsMidWalk, IsPlaced, IsStepOf, PlaysNext, ReadyAt, WalkComes, WalksFar}
+use Rattle.run_grows.specs.Says.{callers_then, outcome_of}
 use Rattle.run_executor.specs.Named.Telling.{answer_of, number_by, swept}
 use Rattle.run_executor.specs.declared.caller.NamedCaller.{NamedCaller}
 use Rattle.run_executor.specs.declared.caller.Stands.{Stands as HowFar}

@@ -44,7 +44,7 @@ use Rattle.play_stepping.proofs.EventSteps.OneStep.{goes_next}
 use Rattle.play_scheduler.proofs.RanOn.{maps_named, there_stays}
 use Rattle.play_stepping.proofs.EventSteps.StepSays.{goes_as}
 use Rattle.play_stepping.proofs.EventSteps.SteppedTo.{going_on}
-use Rattle.play_stepping.proofs.EventSteps.SweepSteps.{knows_at}
+use Rattle.run_grows.proofs.Quiet.Sweeps.{knows_at}
 use Rattle.play_scheduler.proofs.Given.ScenesMay.{standing_is}
 use Rattle.run_executor.specs.Executing.IsThere.{IsThere, held_by}
 use Rattle.play_scheduler.specs.Given.ScenesScene.{HasCall, Scene, slot_of}

@@ -15,7 +15,8 @@ use Rattle.run_executor.specs.Named.Seen.{ready_place}
 use Rattle.run_executor.specs.declared.caller.NamedCaller.{NamedCaller}
 use Rattle.play_scheduler.specs.declared.played.Played.{Played}
 use Rattle.play_scheduler.specs.declared.scheduler.Scheduler.{Scheduler}
-use Rattle.play_stepping.specs.EventSteps.Stepping.{HasWalked, IsStepOf, IsStepped, TookNext, WalkComes, callers_then, outcome_of}
+use Rattle.play_stepping.specs.EventSteps.Stepping.{HasWalked, IsStepOf, IsStepped, TookNext, WalkComes}
+use Rattle.run_grows.specs.Says.{callers_then, outcome_of}
 use Rattle.run_executor.specs.Executing.IsThere.{IsThere, KeepsGiven}
 use Rattle.run_executor.specs.Executing.Replying.{AsksThere}
 use Rattle.play_scheduler.specs.Given.ScenesScene.{Scene}

@@ -41,7 +41,8 @@ use Rattle.play_scheduler.proofs.Given.PromisesWeights.{operations_are_single}
 use Rattle.run_executor.specs.Named.Machines.{IsAsFar}
 use Rattle.play_scheduler.specs.Played.{AsFar, StandsFor}
 use Rattle.run_executor.specs.Named.Seen.{Seen, far_of, is_named, seen, seen_of}
-use Rattle.play_stepping.specs.EventSteps.Stepping.{ComesAs, ComesBy, GoesAt, IsStepped, caller_then, callers_then, far_then, outcome_of}
+use Rattle.play_stepping.specs.EventSteps.Stepping.{ComesAs, ComesBy, GoesAt, IsStepped}
+use Rattle.run_grows.specs.Says.{caller_then, callers_then, far_then, outcome_of}
 use Rattle.run_executor.specs.Named.Telling.{goes_on, kept}
 use Rattle.run_executor.specs.declared.caller.NamedCaller.{NamedCaller}
 use Rattle.run_executor.specs.declared.caller.Stands.{Stands as HowFar}

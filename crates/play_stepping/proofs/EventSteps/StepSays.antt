@@ -1,5 +1,5 @@
 -- What a step of a call says, by what was called: what the call comes to, how far it is then, and that it stands where it asks that.
-use Rattle.std.specs.Prelude.{◌≡◌, ℕ, Bool, true, List, Option, Some, None, option_map}
+use Rattle.std.specs.Prelude.{◌≡◌, ℕ, Bool, true, List, Option, Some, option_map}
 use Rattle.std.proofs.Common.{refl, sym, ap, subst, ◌∙◌, inl, inr}
 use Rattle.seize_words.specs.declared.fault.Fault.{Fault}
 use Rattle.seize.specs.declared.advance.Advance.{Advance as Counted}
@@ -43,7 +43,6 @@ use Rattle.owner_whole.specs.Given.FinishesMaps.{Standing}
 use Rattle.run_executor.specs.Given.EffectsEffects.{effects_of, known_after}
 use Rattle.run_executor.specs.Given.EffectsKnown.{Known}
 use Rattle.run_executor.specs.Given.EffectsDeclared.acting.Acting.TheVariants as acts
-use Rattle.run_executor.specs.Given.EffectsDeclared.role.Role.TheVariants as role
 use Rattle.play_scheduler.specs.Given.FollowsCalls.{IsCalled}
 use Rattle.run_executor.specs.Given.HandsAsked.{AsksThere, IsAskedAs, IsAskedOn}
 use Rattle.run_executor.specs.Given.HandsCalling.{AsksJust}
@@ -56,26 +55,21 @@ use Rattle.play_scheduler.proofs.Given.HistoriesAsking.{asking_steps_stand_there
 use Rattle.play_scheduler.proofs.Given.HistoriesRefusals.{refused}
 use Rattle.run_executor.specs.Named.Machines.{IsAsFar, RefusedForRoom}
 use Rattle.run_executor.specs.Named.Seen.{kind_of}
-use Rattle.play_stepping.specs.EventSteps.Stepping.{ComesAs, IsFaultOn, far_then, outcome_of}
-use Rattle.run_executor.specs.Named.Telling.{number_by, number_in}
+use Rattle.play_stepping.specs.EventSteps.Stepping.{ComesAs, IsFaultOn}
+use Rattle.run_grows.specs.Says.{far_then, outcome_of}
+use Rattle.run_executor.specs.Named.Telling.{number_by}
 use Rattle.run_executor.specs.declared.kind.CallKind.{CallKind}
 use Rattle.run_executor.specs.declared.kind.CallKind.TheVariants as kind
 use Rattle.run_grows.proofs.Quiet.RoomSays.{NeverRefused, SaysRoom, reserve_room, sum_room}
 use Rattle.play_stepping.proofs.EventSteps.KeySays.{key_asks, key_refused}
-use Rattle.play_scheduler.proofs.Replied.{of_kind}
+use Rattle.play_scheduler.proofs.Given.LogKinds.{of_kind}
 use Rattle.run_grows.proofs.Quiet.SweepSays.{WalkSays}
 use Rattle.play_scheduler.proofs.Given.ScenesMay.{standing_is}
 use Rattle.run_executor.specs.Given.ScenesHeld.{Held, IsAt}
 use Rattle.play_scheduler.specs.Given.ScenesScene.{Scene, slot_of}
 use Rattle.run_executor.specs.Given.ScenesStepping.{StepLeads, scene_after}
 use Rattle.seize_words.proofs.General.{same_some as the}
-
--- a question that has words is told by the number of its pair
-pub told_by : (by : Known) (about question : Option ℕ) → IsToldQuestion by about question → IsToldQuestion by about (option_map (number_by by) about)
-told_by by None None told = tt
-told_by by None (Some n) told = absurd told
-told_by by (Some word) None told = absurd told
-told_by by (Some word) (Some n) told = told ∙ ap role.Pair (sym (ap number_in told))
+use Rattle.run_grows.proofs.Quiet.Saying.{told_by}
 
 module _ {K V : Type 0} where
   -- a call goes on as its machine does

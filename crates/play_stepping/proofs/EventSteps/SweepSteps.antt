@@ -1,11 +1,10 @@
 -- What a step of a walk, a clearing or a retaining says, by what was called.
 use Rattle.std.specs.Prelude.{◌≡◌, ℕ, Bool, true, List, Option, Some}
-use Rattle.std.proofs.Common.{refl, sym, ap, subst, ◌∙◌, inl, inr}
+use Rattle.std.proofs.Common.{refl, sym, ap, subst, ◌∙◌}
 use Rattle.papaya_raw.specs.Given.TablesDeclared.node.Node.{Node}
 use Rattle.papaya_raw.specs.Given.SweepsSweepPoints.{removes}
 use Rattle.papaya_raw.specs.Given.ReservesDeclared.sweep.Purpose.TheVariants.{Walks, Clears, Retains}
 use Rattle.papaya_raw.specs.Given.ReservesDeclared.sweep.Sweep.{Sweep}
-use Rattle.papaya_raw.specs.Given.ReservesDeclared.sweep.Sweeping.{Sweeping}
 use Rattle.papaya_raw.specs.Given.ReservesDeclared.sweep.Sweeping.TheVariants as at
 use Rattle.papaya_raw.specs.Given.ReservesDeclared.sweep.Swept.{Swept}
 use Rattle.papaya_raw.specs.Given.ReservesDeclared.sweep.Swept.TheVariants as ends
@@ -19,11 +18,8 @@ use Rattle.run_schedules.specs.declared.call.Call.TheVariants.{Clear, Retain, Wa
 use Rattle.run_schedules.specs.Schedules.Moment.{UnderWay as CallThere, Moment}
 use Rattle.run_schedules.specs.Schedules.Views.{call_of}
 use Rattle.owner_whole.specs.Given.LateFaults.{RoomInSweeping}
-use Rattle.owner_whole.specs.Given.LateFactsSweeps.{SweepingFacts}
-use Rattle.owner_whole.specs.Given.LateToldSweeps.{IsRowOfSweep}
 use Rattle.owner_whole.specs.Given.CallersOverAll.{CallOverAll}
-use Rattle.owner_whole.specs.Given.CallersSights.{seen_by}
-use Rattle.owner_whole.specs.Given.CallersTogether.{UnderWay, OverAll, Stands as TogetherStands, Together, in_slot}
+use Rattle.owner_whole.specs.Given.CallersTogether.{UnderWay, OverAll}
 use Rattle.owner_whole.specs.Given.FinishesMachines.{GoesOnAs, machine_of}
 use Rattle.owner_whole.specs.Given.FinishesMaps.{Standing}
 use Rattle.run_executor.specs.Given.EffectsKnown.{Known}
@@ -32,7 +28,8 @@ use Rattle.run_executor.specs.Given.MomentsWhole.{ShowsWhole}
 use Rattle.play_scheduler.proofs.Given.HistoriesNoKey.Sweeps.{SweepsOn, sweeps_on}
 use Rattle.run_executor.specs.Named.Machines.{IsAsFar, IsFor, RefusedForRoom}
 use Rattle.run_executor.specs.Named.Seen.{kind_of}
-use Rattle.play_stepping.specs.EventSteps.Stepping.{ComesAs, far_then, outcome_of}
+use Rattle.play_stepping.specs.EventSteps.Stepping.{ComesAs}
+use Rattle.run_grows.specs.Says.{far_then, outcome_of}
 use Rattle.run_executor.specs.declared.caller.Stands.TheVariants as far
 use Rattle.run_executor.specs.declared.kind.CallKind.{CallKind}
 use Rattle.run_executor.specs.declared.kind.CallKind.TheVariants as kind
@@ -41,27 +38,9 @@ use Rattle.play_stepping.proofs.EventSteps.StepSays.{Says, ended_not, goes_as, h
 use Rattle.run_grows.proofs.Quiet.SweepSays.{IsWalkSaying, ShowsNone, WalkSays, shows_none, walk_says}
 use Rattle.play_scheduler.proofs.Given.ScenesMay.{standing_is}
 use Rattle.run_executor.specs.Given.ScenesHeld.{Held, IsAt}
-use Rattle.play_scheduler.specs.Given.ScenesScene.{Scene, slot_of}
+use Rattle.play_scheduler.specs.Given.ScenesScene.{Scene}
 use Rattle.run_executor.specs.Given.ScenesStepping.{StepLeads}
-
--- what a sweep knows where it stands, if it stands in no row
-module _ {K V : Type 0} (same : K → K → Bool) (s : Scene K V) (map i : ℕ) (st : Standing K)
-    (together : Together V same st.hash same st.setting slot_of s.world st.chart st.blocks st.sights (s.calls map)) (o : CallOverAll) (under : s.calls map i ≡ Some (OverAll o)) where
-  abbrev pub Facts : Sweeping → Type 0
-  Facts stands = SweepingFacts same st.hash s.world i (in_slot st.setting (slot_of i)) st.chart (seen_by st.blocks (st.sights (slot_of i))) o.began o.sweep stands
-
-  pub knows_at : (stands : Sweeping) → (IsRowOfSweep stands → ⊥) → o.sweep.stands ≡ stands → Facts stands
-  knows_at stands no_row is = by (together.stand i (OverAll o) under)
-    where
-      by : TogetherStands V same st.hash same st.setting slot_of s.world st.chart (seen_by st.blocks (st.sights (slot_of i))) i (OverAll o) → Facts stands
-      by (inl (rests, knows)) = subst Facts is knows.facts.point
-      by (inr (row, is_row, knows)) = absurd (no_row (subst IsRowOfSweep is is_row))
-
-  pub retains_at : (word : ℕ) → o.sweep.stands ≡ at.Asks word → o.sweep.purpose ≡ Retains
-  retains_at word is = (knows_at (at.Asks word) (λ row. row) is).0
-
-  pub walks_at : o.sweep.stands ≡ at.Ready → o.sweep.purpose ≡ Walks
-  walks_at is = (knows_at at.Ready (λ row. row) is).0
+use Rattle.run_grows.proofs.Quiet.Sweeps.{walks_at}
 
 module _ {K V : Type 0} where
   -- a clearing or a retaining, by what it says

@@ -1,6 +1,6 @@
 -- What a call comes to by its steps, how far it is then, and what is promised of that.
-use Rattle.std.specs.Prelude.{◌≡◌, ◌≤◌, ◌+◌, ◌⊎◌, ◌&&◌, ℕ, zero, suc, Bool, true, false, is_none, is_some, List, [], ◌∷◌, ◌++◌, position, slice_get, slice_set, sum_by, Option, Some, None, option_map, if◌then◌else◌}
-use Rattle.std.specs.List.{list_any, remove}
+use Rattle.std.specs.Prelude.{◌≡◌, ◌≤◌, ◌+◌, ◌⊎◌, ◌&&◌, ℕ, zero, suc, Bool, true, false, is_none, is_some, List, [], ◌∷◌, ◌++◌, position, slice_get, sum_by, Some, None}
+use Rattle.std.specs.List.{list_any}
 use Rattle.seize_words.specs.declared.fault.Fault.{Fault}
 use Rattle.seize_words.specs.declared.fault.Fault.TheVariants.{Busy, Capacity, Memory, RemoveNothing}
 use Rattle.papaya_raw.specs.Given.TablesDeclared.node.Node.{Node}
@@ -18,7 +18,7 @@ use Rattle.run_schedules.specs.declared.effect.Effect.{Effect}
 use Rattle.run_schedules.specs.declared.event.Event.{Event}
 use Rattle.run_schedules.specs.declared.event.Event.TheVariants.{Next}
 use Rattle.run_schedules.specs.declared.outcome.Outcome.{Outcome}
-use Rattle.run_schedules.specs.declared.outcome.Outcome.TheVariants.{Goes, Asks, Waits, Ready, Shows, Answered, Refused}
+use Rattle.run_schedules.specs.declared.outcome.Outcome.TheVariants.{Goes, Asks, Waits, Ready, Answered, Refused}
 use Rattle.run_schedules.specs.Schedules.After.{moment, moments_from}
 use Rattle.run_schedules.specs.Schedules.Beginning.{at_work}
 use Rattle.run_schedules.specs.Schedules.Coming.{CountsTooMany, is_answer, is_at_limit, is_compute, is_walk, may_ask}
@@ -34,7 +34,7 @@ use Rattle.run_schedules.specs.Schedules.Terms.{Terms}
 use Rattle.run_schedules.specs.Schedules.Views.{call_of, map_of}
 use Rattle.run_schedules.specs.Schedules.Waiting.{WaitsLawfully, may_wait_for}
 use Rattle.owner_whole.specs.Given.LateFaults.{IsRoom}
-use Rattle.run_executor.specs.Given.EffectsKnown.{Known, known}
+use Rattle.run_executor.specs.Given.EffectsKnown.{known}
 use Rattle.play_scheduler.specs.Given.FollowsCalling.{come_to}
 use Rattle.play_scheduler.specs.Given.LoggedCalling.{CallGoesOn, CallSteps, WalkGoesOn}
 use Rattle.play_scheduler.specs.Given.LoggedShown.{IsShown}
@@ -42,47 +42,17 @@ use Rattle.play_scheduler.specs.Given.LoggedDeclared.logged.Logged.{Logged}
 use Rattle.play_scheduler.specs.Played.{AsFar, BeginsSo, IsDue, IsPlayed, Plays, StandsAs, StandsFor, entry_of}
 use Rattle.play_scheduler.specs.Quiet.{IsQuiet}
 use Rattle.run_executor.specs.Named.Seen.{is_named, ready_place}
-use Rattle.run_executor.specs.Named.Telling.{answer_of, goes_on, number_by, kept}
+use Rattle.run_executor.specs.Named.Telling.{goes_on}
 use Rattle.run_executor.specs.declared.caller.NamedCaller.{NamedCaller}
 use Rattle.run_executor.specs.declared.caller.Stands.{Stands as HowFar}
 use Rattle.run_executor.specs.declared.caller.Stands.TheVariants as far
-use Rattle.run_executor.specs.declared.kind.CallKind.{CallKind}
 use Rattle.run_executor.specs.declared.kind.CallKind.TheVariants as kind
 use Rattle.play_scheduler.specs.declared.played.Played.{Played}
 use Rattle.play_scheduler.specs.declared.scheduler.Scheduler.{Scheduler}
 use Rattle.run_executor.specs.Executing.IsThere.{IsThere, KeepsGiven}
 use Rattle.run_executor.specs.Executing.Replying.{AsksThere}
 use Rattle.play_scheduler.specs.Given.ScenesScene.{HasCall, Scene}
-use Rattle.run_executor.specs.Given.ScenesStepping.{has_ended}
-
-module _ {K V : Type 0} (by : Known) where
-  -- what a step says, in the words of an outcome, of a call of this kind that keeps this value
-  abbrev pub outcome_of : CallKind → Option V → Progress (Node K V) → Outcome V
-  outcome_of its value progress.Goes = Goes
-  outcome_of its value (progress.Gave node) = Goes
-  outcome_of its value (progress.Unstored node) = Goes
-  outcome_of its value progress.Waits = Waits
-  outcome_of its value (progress.Asks word) = Asks (option_map (number_by by) word)
-  outcome_of its value progress.Ready = Ready
-  outcome_of its value (progress.Pair word) = Shows (number_by by word)
-  outcome_of its value (progress.Done said) = Answered (answer_of by its value said)
-  outcome_of its value (progress.Refused fault) = Refused fault
-
-  -- how far the call is then,
-  abbrev pub far_then : Progress (Node K V) → HowFar
-  far_then (progress.Asks word) = far.Asks (option_map (number_by by) word)
-  far_then progress.Ready = far.Ready
-  far_then (progress.Pair word) = far.Ready
-  far_then _ = far.Goes
-
-  -- its caller, if it has not ended,
-  abbrev pub caller_then : NamedCaller V → Progress (Node K V) → NamedCaller V
-  caller_then d (progress.Unstored node) = record d { stands = far.Goes; value = kept d.kind node d.value }
-  caller_then d said = record d { stands = far_then said }
-
-  -- and all callers
-  abbrev pub callers_then : ℕ → NamedCaller V → Progress (Node K V) → List (NamedCaller V) → List (NamedCaller V)
-  callers_then place d said calls = if has_ended said then remove calls place else slice_set calls place (caller_then d said)
+use Rattle.run_grows.specs.Says.{outcome_of}
 
 -- for what a call on one key is refused, which is no lookup: for room, or, of `compute`, for removing what is not there
 abbrev pub IsFaultOn : {K V : Type 0} → OneKey K V → Fault → Type 0

@@ -30,7 +30,7 @@ use Rattle.play_events.proofs.Events.OfCalls.Words.{tells_of}
 use Rattle.run_kept.specs.Given.ScenesScene.{Scene}
 use Rattle.run_kept.specs.Given.ScenesStepping.{StepLeads}
 use Rattle.run_schedules.specs.Schedules.Transition.{past}
-use Rattle.play_stepping.proofs.SaysSo.OfCalls.Saying.{Tells, comes_so}
+use Rattle.play_stepping.proofs.Given.QuietSaying.{Tells, comes_so}
 
 -- a call on one key is under way as one
 on_key : {K V : Type 0} (same : K → K → Bool) (name : ℕ → List ℕ) (log : List (Entry K V)) (beginning : Moment K V) (map i : ℕ) (c : CallThere K V) (done : List Effect) (m : Moment K V) (known : Known) (s : Scene K V)

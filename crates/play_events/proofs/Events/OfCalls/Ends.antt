@@ -47,7 +47,8 @@ use Rattle.play_stepping.specs.Given.ExecutorDeclared.caller.NamedCaller.{NamedC
 use Rattle.play_stepping.specs.Given.ExecutorDeclared.kind.CallKind.{CallKind}
 use Rattle.play_stepping.specs.Given.SchedulerDeclared.played.Played.{Played}
 use Rattle.play_stepping.specs.Given.SchedulerDeclared.scheduler.Scheduler.{Scheduler}
-use Rattle.play_stepping.specs.EventSteps.Stepping.{ComesAs, IsStepped, outcome_of}
+use Rattle.play_stepping.specs.EventSteps.Stepping.{ComesAs, IsStepped}
+use Rattle.play_stepping.specs.Given.Says.{outcome_of}
 use Rattle.play_events.specs.Folded.Folded.{HandInOrder}
 use Rattle.play_events.proofs.Folded.Steps.{event_in_order}
 use Rattle.play_events.specs.Events.OfCalls.{HaveValues, RunsOn}

@@ -31,7 +31,8 @@ use Rattle.play_lists.proofs.Given.RowsLists.{both_some, found_alike}
 use Rattle.play_stepping.specs.Given.SchedulerPlayed.{entry_of}
 use Rattle.play_stepping.specs.Given.SchedulerDeclared.played.Played.{Played}
 use Rattle.play_stepping.specs.Given.SchedulerDeclared.scheduler.Scheduler.{Scheduler}
-use Rattle.play_stepping.specs.EventSteps.Stepping.{ComesInCase, IsInCase, IsStepped, outcome_of}
+use Rattle.play_stepping.specs.EventSteps.Stepping.{ComesInCase, IsInCase, IsStepped}
+use Rattle.play_stepping.specs.Given.Says.{outcome_of}
 use Rattle.play_stepping.proofs.Given.QuietAfterEffects.{calls_seen}
 use Rattle.play_events.proofs.Events.OfCalls.Found.{mask_is}
 use Rattle.play_events.proofs.Events.OfCalls.Steps.{HasCome, IsStep, as_told, did, follows, its_here, leads}

@@ -51,7 +51,8 @@ use Rattle.play_stepping.specs.Given.NamedTelling.{goes_on}
 use Rattle.play_stepping.specs.Given.ExecutorDeclared.caller.NamedCaller.{NamedCaller}
 use Rattle.play_stepping.specs.Given.SchedulerDeclared.scheduler.Scheduler.{Scheduler}
 use Rattle.play_stepping.proofs.Given.SchedulerRanOn.{there_stays}
-use Rattle.play_stepping.specs.EventSteps.Stepping.{GoneFor, IsStepOf, IsStepped, WalkedFor, caller_then, far_then, outcome_of}
+use Rattle.play_stepping.specs.EventSteps.Stepping.{GoneFor, IsStepOf, IsStepped, WalkedFor}
+use Rattle.play_stepping.specs.Given.Says.{caller_then, far_then, outcome_of}
 use Rattle.play_stepping.proofs.Given.QuietAfterEffects.{calls_seen}
 use Rattle.play_stepping.proofs.EventSteps.OneStep.{caller_as, going_not_ended, goes_next, value_then}
 use Rattle.run_kept.specs.Values.Values.{KeepsValue, kept_after}
@@ -61,7 +62,7 @@ use Rattle.play_events.specs.Events.OfCalls.{HaveValues, IsWorth, HaveShards}
 use Rattle.play_events.proofs.Events.OfCalls.Worth.{AreWorth, SaidIn, all_gone, all_once, all_set, effects_say, is_worth_then, said_same}
 use Rattle.run_kept.proofs.Given.RemainsSlots.{buckets_grow}
 use Rattle.play_stepping.specs.Given.NeedsNeeds.{AreReached}
-use Rattle.play_events.proofs.Works.Reached.{reached_still}
+use Rattle.run_legal.proofs.Works.Reached.{reached_still}
 use Rattle.play_events.specs.Folded.Folded.{HandInOrder}
 use Rattle.play_events.proofs.Folded.Steps.{more_in_order}
 use Rattle.play_events.proofs.Events.OfCalls.Scenes.{AreNamed, named_left, named_set}

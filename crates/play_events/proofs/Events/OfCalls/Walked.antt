@@ -62,13 +62,14 @@ use Rattle.play_stepping.specs.Given.SchedulerDeclared.played.Played.{Played}
 use Rattle.play_stepping.specs.Given.SchedulerDeclared.scheduler.Scheduler.{Scheduler}
 use Rattle.play_stepping.proofs.Given.SchedulerHere.{Here, here_at}
 use Rattle.play_stepping.proofs.Given.SchedulerStopped.{asked_ready, ready_parts, shows_by, shows_is}
-use Rattle.play_stepping.specs.EventSteps.Stepping.{HasWalked, outcome_of}
-use Rattle.play_stepping.proofs.EventSteps.SweepSteps.{walks_at}
+use Rattle.play_stepping.specs.EventSteps.Stepping.{HasWalked}
+use Rattle.play_stepping.specs.Given.Says.{outcome_of}
+use Rattle.play_stepping.proofs.Given.QuietSweeps.{walks_at}
 use Rattle.run_kept.specs.Values.Values.{KeepsValue}
 use Rattle.play_events.specs.Events.OfCalls.{HaveValues, IsWorth, Runs, RunsOn}
 use Rattle.play_stepping.specs.Given.NeedsNeeds.{AreReached}
 use Rattle.play_events.proofs.Events.OfCalls.Alone.{only_its_row}
-use Rattle.play_stepping.proofs.SaysSo.OfCalls.Saying.{number_is}
+use Rattle.play_stepping.proofs.Given.QuietSaying.{number_is}
 use Rattle.play_events.proofs.Events.OfCalls.Asked.{leads_next, next_at}
 use Rattle.play_events.proofs.Events.OfCalls.Ends as ends
 use Rattle.play_events.proofs.Events.OfCalls.Scenes.{AreNamed, its_named}

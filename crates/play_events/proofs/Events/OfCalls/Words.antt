@@ -20,7 +20,8 @@ use Rattle.run_legal.specs.CallSwept.{TellsOf}
 use Rattle.play_stepping.specs.Given.NamedSeen.{kind_of}
 use Rattle.play_stepping.specs.Given.NamedTelling.{goes_on}
 use Rattle.play_stepping.specs.Given.ExecutorDeclared.kind.CallKind.{CallKind}
-use Rattle.play_stepping.specs.EventSteps.Stepping.{ComesAs, outcome_of}
+use Rattle.play_stepping.specs.EventSteps.Stepping.{ComesAs}
+use Rattle.play_stepping.specs.Given.Says.{outcome_of}
 use Rattle.play_stepping.proofs.EventSteps.OneStep.{ends_as}
 
 -- what is no refusal as out of turn is none

@@ -49,7 +49,7 @@ use Rattle.play_stepping.specs.Given.SchedulerDeclared.played.Played.{Played}
 use Rattle.play_stepping.specs.Given.SchedulerDeclared.scheduler.Scheduler.{Scheduler}
 use Rattle.play_stepping.proofs.Given.SchedulerRights.{entry}
 use Rattle.play_stepping.proofs.Mapping.MapsMade.{refused_never}
-use Rattle.play_events.proofs.Works.Reached.{makings_note_more}
+use Rattle.run_legal.proofs.Works.Reached.{makings_note_more}
 use Rattle.play_stepping.proofs.Given.NeedsRefusals.{IsRefusedSo, MayBeRefused, refused_so}
 use Rattle.play_events.specs.Events.Asked.{Holds}
 use Rattle.play_events.specs.Events.OfCalls.{HaveShards, Runs, RunsOn}

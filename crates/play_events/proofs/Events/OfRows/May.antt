@@ -18,7 +18,7 @@ use Rattle.play_stepping.specs.Given.SchedulerPlayed.{StandsFor}
 use Rattle.play_stepping.specs.Given.SchedulerWorks.{IsAbout, IsItsRow}
 use Rattle.play_stepping.specs.Given.SchedulerDeclared.scheduler.Scheduler.{Scheduler}
 use Rattle.play_stepping.proofs.Given.SchedulerDropped.{free_lives}
-use Rattle.play_events.specs.Works.Rows.{may_row}
+use Rattle.run_legal.specs.Works.Rows.{may_row}
 use Rattle.play_events.proofs.Events.OfRows.Facts.{inside_by, one_on}
 use Rattle.play_stepping.proofs.Given.General.{both_true as and_both}
 

@@ -16,11 +16,11 @@ use Rattle.run_schedules.specs.Schedules.Things.{same_table}
 use Rattle.run_schedules.specs.Schedules.Views.{chain_of, first_of, is_linked, is_stage, tables_of}
 use Rattle.play_lists.specs.Given.FindsLife.{StoresOne}
 use Rattle.play_lists.specs.Given.FindsWithin.{AllIsInOrder, HasItsMap}
-use Rattle.play_events.proofs.Given.LegalGrowths.{growths_leave}
+use Rattle.run_legal.proofs.Growths.{growths_leave}
 use Rattle.play_lists.proofs.Given.FindsLife.{each_so}
 use Rattle.play_lists.proofs.Given.FindsLists.{all_so, any_so, each_among, each_is}
 use Rattle.play_lists.proofs.Given.FindsTables.{all_kept}
-use Rattle.play_events.proofs.Given.OthersLeads.{same_parts}
+use Rattle.run_legal.proofs.Given.OthersLeads.{same_parts}
 use Rattle.run_histories.proofs.Given.SpotsUnreclaimed.{same_itself}
 use Rattle.play_lists.proofs.Given.FindsRuns.{life_keeps_order}
 use Rattle.run_schedules.specs.Deeds.History.{EndFinds, is_first_of, left_tables}

@@ -2,7 +2,7 @@
 use Rattle.std.specs.Prelude.{◌≡◌, ◌≢◌, ◌==◌, ◌+◌, ℕ, Bool, true, false, List, [], Option, Some, None}
 use Rattle.std.specs.List.{AllByRecursion}
 use Rattle.std.proofs.Common.{refl, ap, sym, subst, ◌∙◌}
-use Rattle.play_events.proofs.Given.LateKindsKept.Laws.{told_sweeps_refuse_room}
+use Rattle.run_legal.proofs.Given.LateKindsKept.Laws.{told_sweeps_refuse_room}
 use Rattle.seize_acts.specs.Given.SeizeWorld.{Step}
 use Rattle.seize_acts.specs.Given.SeizeDeclared.advance.Advance.{Advance as Making}
 use Rattle.seize_acts.specs.Given.SeizeDeclared.advance.Advance.TheVariants as making
@@ -18,31 +18,31 @@ use Rattle.run_schedules.specs.Schedules.Entry.{IfCall, ends_call}
 use Rattle.run_schedules.specs.Schedules.Moment.{MapThere, Moment, UnderWay as CallThere}
 use Rattle.run_schedules.specs.Schedules.Terms.{Terms}
 use Rattle.run_schedules.specs.Schedules.Views.{call_of}
-use Rattle.play_events.specs.Given.CallersTogether.{OverAll, UnderWay}
+use Rattle.run_legal.specs.Given.CallersTogether.{OverAll, UnderWay}
 use Rattle.play_lists.specs.Given.EffectsEffects.{effects_of, known_after}
 use Rattle.play_lists.specs.Given.EffectsKnown.{Known}
 use Rattle.play_lists.specs.Given.EffectsDeclared.acting.Acting.TheVariants as acts
-use Rattle.play_events.specs.Given.FinishesMachines.{machine_of}
-use Rattle.play_events.specs.Given.FinishesMakings.{Beginning}
-use Rattle.play_events.specs.Given.FinishesMaps.{with_call}
-use Rattle.play_events.specs.Given.HandsAsked.{as_told}
-use Rattle.play_events.specs.Given.SettlesHand.{ShowsOwed}
-use Rattle.play_events.specs.Given.NamedMachines.{RefusedForRoom}
-use Rattle.play_events.specs.Given.NamedSeen.{kind_of}
+use Rattle.play_lists.specs.Given.FinishesMachines.{machine_of}
+use Rattle.play_lists.specs.Given.FinishesMakings.{Beginning}
+use Rattle.play_lists.specs.Given.FinishesMaps.{with_call}
+use Rattle.run_legal.specs.Given.HandsAsked.{as_told}
+use Rattle.run_legal.specs.Given.SettlesHand.{ShowsOwed}
+use Rattle.run_legal.specs.Given.NamedMachines.{RefusedForRoom}
+use Rattle.run_legal.specs.Given.NamedSeen.{kind_of}
 use Rattle.play_lists.specs.Given.OthersEndings.{ending_after}
 use Rattle.play_lists.specs.Given.OthersMakings.{making_after}
 use Rattle.play_lists.specs.Given.OthersRows.{scene_then}
 use Rattle.play_lists.specs.Given.ScenesHeld.{Held, IsAt}
 use Rattle.play_lists.specs.Given.ScenesMaking.{MakingLeads}
-use Rattle.play_events.specs.Given.ScenesReplying.{scene_with, unless_stopped}
-use Rattle.play_events.specs.Given.ScenesScene.{Scene, slot_of}
-use Rattle.play_events.specs.Given.ScenesStepping.{has_ended, scene_after}
+use Rattle.play_lists.specs.Given.ScenesReplying.{scene_with, unless_stopped}
+use Rattle.play_lists.specs.Given.ScenesScene.{Scene, slot_of}
+use Rattle.play_lists.specs.Given.ScenesStepping.{has_ended, scene_after}
 use Rattle.play_lists.proofs.Given.FindsEvents.{comes_same, told_same}
 use Rattle.play_lists.proofs.Given.FindsGrown.{found_any}
 use Rattle.play_lists.proofs.Given.FindsLists.{all_so}
 use Rattle.play_lists.proofs.Given.FindsOver.{calls_stay}
-use Rattle.play_events.proofs.Given.GrowsFinding.Others.{ended_calls}
-use Rattle.play_events.proofs.Given.NamedCalled.{begins_for_room}
+use Rattle.run_legal.proofs.Given.GrowsFinding.Others.{ended_calls}
+use Rattle.run_legal.proofs.Given.NamedCalled.{begins_for_room}
 use Rattle.play_lists.specs.Given.ActsActs.{begun}
 use Rattle.run_schedules.specs.Deeds.Deeds.{Entry, ReclaimsAll, Steps, acted_on, after, come, moment, named}
 use Rattle.play_lists.specs.Played.Play.{call_for, is_over, is_refusal, making_outcome, outcome_of, pairs_for, row_deed, settled_outcome}
@@ -53,7 +53,7 @@ use Rattle.play_linear.proofs.Linear.RowsPlayed.{is_of_row, rows_like}
 use Rattle.play_linear.proofs.Swept.Kept.{IsKept, coming}
 use Rattle.play_moves.specs.Moves.Order.{AreUnderWay, IsUnderWay, KeepsOrder, MapsComeNew}
 use Rattle.play_moves.proofs.Moves.Order.Own.{its_call, rows_own}
-use Rattle.play_events.proofs.EachMoves.Order.NotBusy.{ends_so, not_busy, room_then}
+use Rattle.play_moves.proofs.EachMoves.Order.NotBusy.{ends_so, not_busy, room_then}
 use Rattle.play_moves.proofs.Moves.Order.Stays.{begins_stay, comes_stay, ends_stay, fails_stay, goes_stay, makes_stay, replies_stay, rows_stay, steps_stay, stops_stay}
 use Rattle.play_moves.proofs.Moves.Order.RoomKept.{goes_on, one_call, ready_has_none, room_on, room_still, told_room}
 use Rattle.play_moves.proofs.Moves.Order.UnderWay.{begins_under, effects_under, ends_under, goes_under, none_named, stays_under, stepped_under, still_under}

@@ -15,7 +15,7 @@ use Rattle.play_lists.specs.Given.FindsTables.{TablesAreInOrder}
 use Rattle.play_lists.specs.Given.FindsWaiting.{PairsArePlaced}
 use Rattle.play_lists.specs.Given.FindsWithin.{AllIsInOrder, HasItsMap, many_of}
 use Rattle.play_lists.proofs.Given.FollowsCalling.{is_same_is, is_same_refl}
-use Rattle.play_events.proofs.Given.OthersLeads.{same_parts}
+use Rattle.run_legal.proofs.Given.OthersLeads.{same_parts}
 use Rattle.play_lists.proofs.Given.FindsEndings.{fewer_found, more_found, name_of, number_at, same_number}
 use Rattle.play_lists.proofs.Given.FindsEvents.{beginnings_keep_placed, beginnings_keep_tables}
 use Rattle.play_lists.proofs.Given.FindsLists.{all_both, all_so, any_kept, any_kept_among, any_so, each_among, each_is}

@@ -6,7 +6,7 @@ use Rattle.run_schedules.specs.Schedules.Views.{call_of}
 use Rattle.play_lists.proofs.Given.FindsGrown.{found_any}
 use Rattle.run_schedules.specs.Deeds.Deeds.{Deed, Entry, Leaves, Opens, ReclaimsAll, Registers, Shuts, Tends, moment, named}
 use Rattle.play_linear.proofs.Linear.RowsPlayed.{IsOfRow}
-use Rattle.play_events.specs.EachMoves.Own.{FindsItsCall, has_call}
+use Rattle.play_moves.specs.EachMoves.Own.{FindsItsCall, has_call}
 
 module _ {K V : Type 0} (log : List (Entry K V)) where
   pub its_call : (i : ℕ) (c : CallThere K V) → call_of (named i) (moment log) ≡ Some c → has_call i log ≡ true

@@ -1,8 +1,8 @@
 -- What calls on no key are refused for is room, whatever they are told; and of a call that goes on, or is ready.
 use Rattle.std.specs.Prelude.{◌≡◌, ℕ, Bool, true, false, List, [], Option, Some}
 use Rattle.std.proofs.Common.{refl, ap, sym, ◌∙◌, inl, inr}
-use Rattle.play_events.specs.Given.LateFaults.{RoomInSweeping}
-use Rattle.play_events.proofs.Given.LateKindsKept.Laws.{told_sweeps_refuse_room}
+use Rattle.run_legal.specs.Given.LateFaults.{RoomInSweeping}
+use Rattle.run_legal.proofs.Given.LateKindsKept.Laws.{told_sweeps_refuse_room}
 use Rattle.play_lists.specs.Given.TablesDeclared.node.Node.{Node}
 use Rattle.run_schedules.specs.Given.ReservesDeclared.sweep.Sweeping.{Sweeping}
 use Rattle.run_schedules.specs.Given.ReservesDeclared.sweep.Sweeping.TheVariants as sweeping
@@ -13,14 +13,14 @@ use Rattle.run_schedules.specs.Given.RawDeclared.machines.machine.Machine.{Machi
 use Rattle.run_schedules.specs.Given.RawDeclared.machines.machine.Machine.TheVariants as kinds
 use Rattle.run_schedules.specs.Given.RawDeclared.machines.progress.Progress.{Progress}
 use Rattle.run_schedules.specs.Given.RawDeclared.machines.progress.Progress.TheVariants as progress
-use Rattle.play_events.specs.Given.CallersTogether.{UnderWay}
+use Rattle.run_legal.specs.Given.CallersTogether.{UnderWay}
 use Rattle.play_lists.specs.Given.EffectsKnown.{Known}
-use Rattle.play_events.specs.Given.FinishesMachines.{GoesOnAs, machine_of}
-use Rattle.play_events.specs.Given.FinishesMaps.{with_call}
-use Rattle.play_events.specs.Given.NamedMachines.{RefusedForRoom}
-use Rattle.play_events.specs.Given.ScenesScene.{Scene}
-use Rattle.play_events.specs.Given.ScenesStepping.{has_ended}
-use Rattle.play_events.specs.Given.SettlesHand.{in_hand}
+use Rattle.play_lists.specs.Given.FinishesMachines.{GoesOnAs, machine_of}
+use Rattle.play_lists.specs.Given.FinishesMaps.{with_call}
+use Rattle.run_legal.specs.Given.NamedMachines.{RefusedForRoom}
+use Rattle.play_lists.specs.Given.ScenesScene.{Scene}
+use Rattle.play_lists.specs.Given.ScenesStepping.{has_ended}
+use Rattle.run_legal.specs.Given.SettlesHand.{in_hand}
 use Rattle.play_lists.proofs.Given.FollowsCalling.{is_same_refl}
 use Rattle.run_histories.proofs.Given.HandsAsking.{which}
 use Rattle.run_schedules.specs.Deeds.Deeds.{Entry, moment, named}

@@ -34,7 +34,7 @@ use Rattle.play_linear.proofs.Linear.RowsPlayed.{IsOfRow}
 use Rattle.play_lists.specs.MapsEnd.Ends.{AreStored}
 use Rattle.play_lists.proofs.MapsEnd.Places.{none_in}
 use Rattle.play_moves.specs.Moves.Order.{OrderStays}
-use Rattle.play_events.proofs.EachMoves.Order.Calls.{begins_in_order, stepped_in_order, stopped_in_order, told_in_order}
+use Rattle.play_moves.proofs.EachMoves.Order.Calls.{begins_in_order, stepped_in_order, stopped_in_order, told_in_order}
 use Rattle.play_moves.proofs.Moves.Order.Effects.{buckets_in_order, effects_in_order, ends_find, order_like}
 use Rattle.play_moves.proofs.Moves.Order.Maps.{comes_in_order, goes_in_order}
 

@@ -10,11 +10,11 @@ use Rattle.run_schedules.specs.Schedules.After.{comes_to, stepped, without_call}
 use Rattle.run_schedules.specs.Schedules.Effects.{call_by, calls_by, with_effect, with_effects}
 use Rattle.run_schedules.specs.Schedules.Entry.{ends_call}
 use Rattle.run_schedules.specs.Schedules.Moment.{Moment, UnderWay as CallThere}
-use Rattle.play_events.specs.Given.CallersTogether.{UnderWay}
-use Rattle.play_events.specs.Given.FinishesMaps.{with_call}
+use Rattle.run_legal.specs.Given.CallersTogether.{UnderWay}
+use Rattle.play_lists.specs.Given.FinishesMaps.{with_call}
 use Rattle.play_lists.specs.Given.FollowsCalling.{NoneNamed}
-use Rattle.play_events.specs.Given.ScenesScene.{Scene}
-use Rattle.play_events.proofs.Given.CallersTogether.At.{at_other, at_same}
+use Rattle.play_lists.specs.Given.ScenesScene.{Scene}
+use Rattle.run_legal.proofs.Given.CallersTogether.At.{at_other, at_same}
 use Rattle.play_lists.proofs.Given.FollowsCalling.{is_same_is, is_same_refl}
 use Rattle.play_lists.proofs.Given.FollowsCalls.{IsOfSame, changed, changed_same}
 use Rattle.play_lists.proofs.Given.FindsLists.{all_so, one_of_them}

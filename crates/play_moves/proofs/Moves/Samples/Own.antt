@@ -7,7 +7,7 @@ use Rattle.run_schedules.specs.declared.call.OneKey.TheVariants.{Get}
 use Rattle.run_schedules.specs.declared.outcome.Outcome.{Outcome}
 use Rattle.run_schedules.specs.declared.outcome.Outcome.TheVariants.{Answered, Goes}
 use Rattle.run_schedules.specs.Deeds.Deeds.{Begins, Deed, Entry, Steps}
-use Rattle.play_events.specs.EachMoves.Own.{IsOfItsCall}
+use Rattle.play_moves.specs.EachMoves.Own.{IsOfItsCall}
 
 abbrev entry : Deed ℕ ℕ → Outcome ℕ → Entry ℕ ℕ
 entry deed outcome = record { deed = deed; outcome = outcome; effects = []; refused = false }

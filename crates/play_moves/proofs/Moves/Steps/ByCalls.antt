@@ -15,38 +15,38 @@ use Rattle.run_schedules.specs.Schedules.Entry.{ends_call}
 use Rattle.run_schedules.specs.Schedules.Moment.{Moment, UnderWay as CallThere}
 use Rattle.run_schedules.specs.Schedules.Transition.{Past}
 use Rattle.run_schedules.specs.Schedules.Views.{call_of}
-use Rattle.play_events.specs.Given.CallersOverAll.{CallOverAll}
-use Rattle.play_events.specs.Given.CallersTogether.{OverAll, UnderWay}
+use Rattle.run_legal.specs.Given.CallersOverAll.{CallOverAll}
+use Rattle.run_legal.specs.Given.CallersTogether.{OverAll, UnderWay}
 use Rattle.play_lists.specs.Given.EffectsEffects.{effects_of, known_after}
 use Rattle.play_lists.specs.Given.EffectsKnown.{Known}
 use Rattle.play_lists.specs.Given.EffectsDeclared.acting.Acting.TheVariants as acts
-use Rattle.play_events.specs.Given.FinishesMachines.{machine_of}
-use Rattle.play_events.specs.Given.FinishesMaps.{Standing, with_call as with_call_of}
+use Rattle.play_lists.specs.Given.FinishesMachines.{machine_of}
+use Rattle.play_lists.specs.Given.FinishesMaps.{Standing, with_call as with_call_of}
 use Rattle.play_lists.specs.Given.FollowsCalling.{NoneNamed, come_to, told}
 use Rattle.play_lists.specs.Given.FollowsCalls.{IsCalled}
-use Rattle.play_events.specs.Given.HandsAsked.{as_told}
+use Rattle.run_legal.specs.Given.HandsAsked.{as_told}
 use Rattle.play_lists.specs.Given.OthersWalks.{given_up}
-use Rattle.play_events.specs.Given.SettlesHand.{ShowsOwed, in_hand}
-use Rattle.play_events.specs.Given.PurposesPurposes.{ShowsPurposes}
-use Rattle.play_events.specs.Given.GrowsFinding.{ShowsFinding}
-use Rattle.play_events.specs.Given.GrowsNexts.{ShowsNexts}
-use Rattle.play_events.specs.Given.GrowsTries.{ShowsTries}
+use Rattle.run_legal.specs.Given.SettlesHand.{ShowsOwed, in_hand}
+use Rattle.run_legal.specs.Given.PurposesPurposes.{ShowsPurposes}
+use Rattle.run_legal.specs.Given.GrowsFinding.{ShowsFinding}
+use Rattle.run_legal.specs.Given.GrowsNexts.{ShowsNexts}
+use Rattle.run_legal.specs.Given.GrowsTries.{ShowsTries}
 use Rattle.play_lists.specs.Given.ScenesBeginning.{Begins as BeginsSo}
 use Rattle.play_lists.specs.Given.ScenesHeld.{Held, IsAt}
-use Rattle.play_events.specs.Given.ScenesReplying.{AskLeads, scene_with, unless_stopped}
-use Rattle.play_events.specs.Given.ScenesScene.{Scene}
-use Rattle.play_events.specs.Given.ScenesStepping.{StepLeads, scene_after}
+use Rattle.play_lists.specs.Given.ScenesReplying.{AskLeads, scene_with, unless_stopped}
+use Rattle.play_lists.specs.Given.ScenesScene.{Scene}
+use Rattle.play_lists.specs.Given.ScenesStepping.{StepLeads, scene_after}
 use Rattle.play_lists.proofs.Given.KeptStays.{calls_come_to_kept}
-use Rattle.play_events.proofs.Given.SettlesHand.Asked.{asked_stays, told_stays}
+use Rattle.run_legal.proofs.Given.SettlesHand.Asked.{asked_stays, told_stays}
 use Rattle.play_lists.proofs.Given.FindsGrows.Between.{calls_begin_growing, calls_take_growing, walks_go_on_growing}
 use Rattle.play_lists.proofs.Given.FindsWaits.Between.{calls_begin_waits}
-use Rattle.play_events.proofs.Given.GrowsFinding.Alike.{finding_fewer, stood_as}
-use Rattle.play_events.proofs.Given.GrowsFinding.Between.{asked_same, fewer_calls, none_at_first, puts_begun, puts_on, replied_same, waits_on}
-use Rattle.play_events.proofs.Given.GrowsFinding.Calls.{calls_keep_finding}
-use Rattle.play_events.proofs.Given.GrowsFinding.Making.Between.{calls_begin_further, calls_take_further, walks_go_on_further}
-use Rattle.play_events.proofs.Given.GrowsFinding.Nexts.{calls_begin_nexts, calls_come_to_nexts, calls_take_nexts, nexts_go_on, others_at_first, walks_go_on_nexts, walks_stop_nexts}
-use Rattle.play_events.proofs.Given.GrowsTries.Shows.{calls_begin_tries, calls_come_to_tries, calls_take_tries, tries_at_first, walks_go_on_tries, walks_stop_tries}
-use Rattle.play_events.proofs.Given.GrowsTries.Steps.{tries_go_on}
+use Rattle.run_legal.proofs.Given.GrowsFinding.Alike.{finding_fewer, stood_as}
+use Rattle.run_legal.proofs.Given.GrowsFinding.Between.{asked_same, fewer_calls, none_at_first, puts_begun, puts_on, replied_same, waits_on}
+use Rattle.run_legal.proofs.Given.GrowsFinding.Calls.{calls_keep_finding}
+use Rattle.run_legal.proofs.Given.GrowsFinding.Making.Between.{calls_begin_further, calls_take_further, walks_go_on_further}
+use Rattle.run_legal.proofs.Given.GrowsFinding.Nexts.{calls_begin_nexts, calls_come_to_nexts, calls_take_nexts, nexts_go_on, others_at_first, walks_go_on_nexts, walks_stop_nexts}
+use Rattle.run_legal.proofs.Given.GrowsTries.Shows.{calls_begin_tries, calls_come_to_tries, calls_take_tries, tries_at_first, walks_go_on_tries, walks_stop_tries}
+use Rattle.run_legal.proofs.Given.GrowsTries.Steps.{tries_go_on}
 use Rattle.run_schedules.specs.Deeds.Deeds.{named}
 use Rattle.play_linear.specs.Linear.Shown.{ShowsAnswers}
 use Rattle.play_moves.specs.Moves.Steps.{ShowsSteps}

@@ -11,32 +11,32 @@ use Rattle.run_schedules.specs.Schedules.Views.{map_at}
 use Rattle.play_lists.specs.Given.EffectsEffects.{effects_of, known_after}
 use Rattle.play_lists.specs.Given.EffectsKnown.{Known}
 use Rattle.play_lists.specs.Given.EffectsDeclared.acting.Acting.TheVariants as acts
-use Rattle.play_events.specs.Given.FinishesMakings.{Beginning}
-use Rattle.play_events.specs.Given.FinishesMaps.{Standing}
+use Rattle.play_lists.specs.Given.FinishesMakings.{Beginning}
+use Rattle.play_lists.specs.Given.FinishesMaps.{Standing}
 use Rattle.play_lists.specs.Given.FindsLinking.{IsMadeFor}
-use Rattle.play_events.specs.Given.GrowsFinding.{ShowsFinding}
+use Rattle.run_legal.specs.Given.GrowsFinding.{ShowsFinding}
 use Rattle.play_lists.specs.Given.OthersMakings.{WasNew, making_after}
 use Rattle.play_lists.specs.Given.ScenesHeld.{Held, IsAt}
 use Rattle.play_lists.specs.Given.ScenesMaking.{MakingLeads, scene_making}
-use Rattle.play_events.specs.Given.ScenesScene.{Scene}
-use Rattle.play_events.specs.Given.LegalMapEvents.{HasNotMade}
+use Rattle.play_lists.specs.Given.ScenesScene.{Scene}
+use Rattle.run_legal.specs.MapEvents.{HasNotMade}
 use Rattle.run_histories.proofs.Given.MomentsMakingSteps.{makings_go_beside}
 use Rattle.play_lists.proofs.Given.FindsCapacities.{capacities_stay, effects_keep_capacities}
 use Rattle.play_lists.proofs.Given.FindsGrows.Steps.{tables_have_been}
-use Rattle.play_events.proofs.Given.GrowsFinding.Alike.{stood_as}
-use Rattle.play_events.proofs.Given.GrowsFinding.Aside.{makings_aside, makings_leave_spots}
-use Rattle.play_events.proofs.Given.GrowsFinding.Beside.{finding_beside}
-use Rattle.play_events.proofs.Given.GrowsFinding.Between.{finding_where, found_beside}
-use Rattle.play_events.proofs.Given.GrowsFinding.Making.Lengths.{effects_keep_lengths}
-use Rattle.play_events.proofs.Given.GrowsFinding.Nexts.{nexts_where}
-use Rattle.play_events.proofs.Given.GrowsFinding.NextsOthers.{makings_keep_nexts}
-use Rattle.play_events.proofs.Given.GrowsFinding.Others.{makings_keep_finding}
-use Rattle.play_events.proofs.Given.GrowsTries.Others.{makings_keep_tries}
-use Rattle.play_events.proofs.Given.GrowsTries.Shows.{tries_where}
-use Rattle.play_events.proofs.Given.LegalMaps.{unmade_maps}
-use Rattle.play_events.proofs.Given.LegalSourced.{making_sources, so_aside, sources_so}
-use Rattle.play_events.specs.Given.SourcesSources.{ShowsSources}
-use Rattle.play_events.specs.Given.SourcesStays.{NoneBorn}
+use Rattle.run_legal.proofs.Given.GrowsFinding.Alike.{stood_as}
+use Rattle.run_legal.proofs.Given.GrowsFinding.Aside.{makings_aside, makings_leave_spots}
+use Rattle.run_legal.proofs.Given.GrowsFinding.Beside.{finding_beside}
+use Rattle.run_legal.proofs.Given.GrowsFinding.Between.{finding_where, found_beside}
+use Rattle.run_legal.proofs.Given.GrowsFinding.Making.Lengths.{effects_keep_lengths}
+use Rattle.run_legal.proofs.Given.GrowsFinding.Nexts.{nexts_where}
+use Rattle.run_legal.proofs.Given.GrowsFinding.NextsOthers.{makings_keep_nexts}
+use Rattle.run_legal.proofs.Given.GrowsFinding.Others.{makings_keep_finding}
+use Rattle.run_legal.proofs.Given.GrowsTries.Others.{makings_keep_tries}
+use Rattle.run_legal.proofs.Given.GrowsTries.Shows.{tries_where}
+use Rattle.run_legal.proofs.Maps.{unmade_maps}
+use Rattle.run_legal.proofs.Sourced.{making_sources, so_aside, sources_so}
+use Rattle.run_legal.specs.Given.SourcesSources.{ShowsSources}
+use Rattle.run_legal.specs.Given.SourcesStays.{NoneBorn}
 use Rattle.run_schedules.specs.Deeds.Deeds.{come, named}
 use Rattle.play_linear.specs.Linear.Shown.{ShowsAnswers}
 use Rattle.play_moves.specs.Moves.Steps.{ShowsSteps}

@@ -11,35 +11,35 @@ use Rattle.run_schedules.specs.Schedules.Effects.{with_effects}
 use Rattle.run_schedules.specs.Schedules.Moment.{Moment, Remains}
 use Rattle.run_schedules.specs.Schedules.Transition.{Past}
 use Rattle.run_schedules.specs.Schedules.Views.{map_at}
-use Rattle.play_events.specs.Given.CallersTogether.{UnderWay}
+use Rattle.run_legal.specs.Given.CallersTogether.{UnderWay}
 use Rattle.play_lists.specs.Given.EffectsEffects.{effects_of, known_after}
 use Rattle.play_lists.specs.Given.EffectsKnown.{Known}
 use Rattle.play_lists.specs.Given.EffectsDeclared.acting.Acting.TheVariants as acts
 use Rattle.play_lists.specs.Given.FinishesEndings.{Finishing}
-use Rattle.play_events.specs.Given.FinishesMaps.{Standing}
+use Rattle.play_lists.specs.Given.FinishesMaps.{Standing}
 use Rattle.play_lists.specs.Given.FindsCapacities.{StoodSo}
 use Rattle.play_lists.specs.Given.OthersEndings.{ending_after, without_map}
 use Rattle.play_lists.specs.Given.OthersRows.{scene_then}
 use Rattle.play_lists.specs.Given.ScenesEnding.{EndingLeads, ending_begun}
 use Rattle.play_lists.specs.Given.ScenesHeld.{Held, IsAt}
-use Rattle.play_events.specs.Given.ScenesOnSlots.{RowBegins, RowLeads}
+use Rattle.play_lists.specs.Given.ScenesOnSlots.{RowBegins, RowLeads}
 use Rattle.play_lists.specs.Given.ScenesReclaiming.{IsReclaiming, ReclaimingLeads}
-use Rattle.play_events.specs.Given.ScenesRows.{request_of}
-use Rattle.play_events.specs.Given.ScenesScene.{IsOnSlot, Scene, slot_of}
-use Rattle.play_events.specs.Given.ScenesDeclared.row.RowTold.{RowTold}
-use Rattle.play_events.specs.Given.ScenesDeclared.row.SlotCall.{SlotCall}
-use Rattle.play_events.specs.Given.ScenesDeclared.row.SlotRow.{SlotRow}
+use Rattle.play_lists.specs.Given.ScenesRows.{request_of}
+use Rattle.play_lists.specs.Given.ScenesScene.{IsOnSlot, Scene, slot_of}
+use Rattle.play_lists.specs.Given.ScenesDeclared.row.RowTold.{RowTold}
+use Rattle.play_lists.specs.Given.ScenesDeclared.row.SlotCall.{SlotCall}
+use Rattle.play_lists.specs.Given.ScenesDeclared.row.SlotRow.{SlotRow}
 use Rattle.run_histories.proofs.Given.SpotsEffects.{AllAside}
-use Rattle.play_events.proofs.Given.GrowsFinding.Alike.{finding_fewer}
-use Rattle.play_events.proofs.Given.GrowsFinding.Aside.{endings_aside, rows_aside}
-use Rattle.play_events.proofs.Given.GrowsFinding.Between.{finding_where, found_kept}
-use Rattle.play_events.proofs.Given.GrowsFinding.Nexts.{nexts_where}
-use Rattle.play_events.proofs.Given.GrowsFinding.NextsOthers.{endings_keep_nexts, rows_begin_nexts, rows_keep_nexts}
-use Rattle.play_events.proofs.Given.GrowsFinding.Others.{ended_maps, endings_keep_finding, finding_of_none, rows_begin_finding, rows_keep_finding}
-use Rattle.play_events.proofs.Given.GrowsTries.Others.{endings_keep_tries, rows_begin_tries, rows_keep_tries}
-use Rattle.play_events.proofs.Given.GrowsTries.Shows.{tries_where}
-use Rattle.play_events.proofs.Given.LegalOfAll.Tells.{gone_by, it_reclaims}
-use Rattle.play_events.proofs.Given.LegalSourced.{ends_leave, reclaimed_aside, same_maps_aside, so_aside, sources_same, sources_so}
+use Rattle.run_legal.proofs.Given.GrowsFinding.Alike.{finding_fewer}
+use Rattle.run_legal.proofs.Given.GrowsFinding.Aside.{endings_aside, rows_aside}
+use Rattle.run_legal.proofs.Given.GrowsFinding.Between.{finding_where, found_kept}
+use Rattle.run_legal.proofs.Given.GrowsFinding.Nexts.{nexts_where}
+use Rattle.run_legal.proofs.Given.GrowsFinding.NextsOthers.{endings_keep_nexts, rows_begin_nexts, rows_keep_nexts}
+use Rattle.run_legal.proofs.Given.GrowsFinding.Others.{ended_maps, endings_keep_finding, finding_of_none, rows_begin_finding, rows_keep_finding}
+use Rattle.run_legal.proofs.Given.GrowsTries.Others.{endings_keep_tries, rows_begin_tries, rows_keep_tries}
+use Rattle.run_legal.proofs.Given.GrowsTries.Shows.{tries_where}
+use Rattle.run_legal.proofs.OfAll.Tells.{gone_by, it_reclaims}
+use Rattle.run_legal.proofs.Sourced.{ends_leave, reclaimed_aside, same_maps_aside, so_aside, sources_same, sources_so}
 use Rattle.play_lists.specs.Given.ActsDoings.{scene_chosen}
 use Rattle.run_schedules.specs.Deeds.Deeds.{named}
 use Rattle.play_linear.specs.Linear.Shown.{ShowsAnswers}

@@ -20,38 +20,38 @@ use Rattle.run_schedules.specs.Schedules.Lives.{Finds}
 use Rattle.run_schedules.specs.Schedules.Moment.{Moment, UnderWay as CallThere}
 use Rattle.run_schedules.specs.Schedules.Terms.{Terms, shards_of}
 use Rattle.run_schedules.specs.Schedules.Views.{call_of}
-use Rattle.play_events.specs.Given.CallersTogether.{Counting, ForRoom, OnKey, OverAll, UnderWay, UnlessCounts}
+use Rattle.run_legal.specs.Given.CallersTogether.{Counting, ForRoom, OnKey, OverAll, UnderWay, UnlessCounts}
 use Rattle.play_lists.specs.Given.EffectsEffects.{effects_of}
 use Rattle.play_lists.specs.Given.EffectsKnown.{Known}
 use Rattle.play_lists.specs.Given.EffectsDeclared.acting.Acting.TheVariants as acts
-use Rattle.play_events.specs.Given.FinishesMachines.{machine_of}
+use Rattle.play_lists.specs.Given.FinishesMachines.{machine_of}
 use Rattle.play_lists.specs.Given.FollowsCalls.{IsCalled}
-use Rattle.play_events.specs.Given.OwesLooking.{FindAtWork}
-use Rattle.play_events.specs.Given.PurposesPurposes.{ShowsPurposes}
+use Rattle.run_legal.specs.Given.OwesLooking.{FindAtWork}
+use Rattle.run_legal.specs.Given.PurposesPurposes.{ShowsPurposes}
 use Rattle.play_lists.specs.Given.FindsLinking.{FoundFull}
 use Rattle.play_lists.specs.Given.FindsLife.{StoresOne}
 use Rattle.play_lists.specs.Given.FindsParts.{FindAll}
 use Rattle.play_lists.specs.Given.FindsWithin.{AllIsInOrder, many_of}
-use Rattle.play_events.specs.Given.GrowsCopiers.{making_of_copier}
-use Rattle.play_events.specs.Given.GrowsNexts.{MayFollow}
+use Rattle.run_legal.specs.Given.GrowsCopiers.{making_of_copier}
+use Rattle.run_legal.specs.Given.GrowsNexts.{MayFollow}
 use Rattle.play_lists.specs.Given.ScenesHeld.{Held, IsAt}
-use Rattle.play_events.specs.Given.ScenesScene.{Scene, slot_of}
-use Rattle.play_events.specs.Given.ScenesStepping.{StepLeads}
-use Rattle.play_events.proofs.Given.LegalCallFinds.{steps_find_all}
+use Rattle.play_lists.specs.Given.ScenesScene.{Scene, slot_of}
+use Rattle.play_lists.specs.Given.ScenesStepping.{StepLeads}
+use Rattle.run_legal.proofs.CallFinds.{steps_find_all}
 use Rattle.play_lists.proofs.Given.FollowsCalling.{is_same_is}
-use Rattle.play_events.proofs.Given.OwesLooking.Calls.{calls_keep_looking}
+use Rattle.run_legal.proofs.Given.OwesLooking.Calls.{calls_keep_looking}
 use Rattle.play_lists.proofs.Given.FindsGrown.{found_of}
 use Rattle.play_lists.proofs.Given.FindsSteps.{steps_store_one}
-use Rattle.play_events.proofs.Given.GrowsFinding.Links.{such_of_making}
-use Rattle.play_events.proofs.Given.GrowsFinding.Rest.{steps_find_rest}
-use Rattle.play_events.proofs.Given.GrowsTries.Log.{found_full_so}
+use Rattle.run_legal.proofs.Given.GrowsFinding.Links.{such_of_making}
+use Rattle.run_legal.proofs.Given.GrowsFinding.Rest.{steps_find_rest}
+use Rattle.run_legal.proofs.Given.GrowsTries.Log.{found_full_so}
 use Rattle.play_lists.specs.Agrees.Guards.{HasItsGuard, guard_on}
 use Rattle.run_schedules.specs.Deeds.Deeds.{Entry, Steps, map_of_call, moment, named}
 use Rattle.run_schedules.specs.Deeds.History.{past}
 use Rattle.play_linear.specs.Linear.Shown.{ShowsAnswers}
-use Rattle.play_events.specs.EachMoves.Finds.{FindsIts}
+use Rattle.play_moves.specs.EachMoves.Finds.{FindsIts}
 use Rattle.play_moves.specs.Moves.Steps.{EachStoresOne, ShowsSteps, StepsMay}
-use Rattle.play_events.proofs.EachMoves.Steps.TablesLast.{tables_last}
+use Rattle.play_moves.proofs.EachMoves.Steps.TablesLast.{tables_last}
 use Rattle.run_schedules.proofs.Given.General.{same_some}
 
 -- a counting only looks

@@ -15,27 +15,27 @@ use Rattle.run_schedules.specs.Schedules.Growing.{Has}
 use Rattle.run_schedules.specs.Schedules.Moment.{MapThere, Moment, UnderWay as CallThere}
 use Rattle.run_schedules.specs.Schedules.Terms.{Terms}
 use Rattle.run_schedules.specs.Schedules.Views.{capacity_or, map_at}
-use Rattle.play_events.specs.Given.CallersTogether.{OverAll}
+use Rattle.run_legal.specs.Given.CallersTogether.{OverAll}
 use Rattle.play_lists.specs.Given.EffectsEffects.{effects_of, known_after}
 use Rattle.play_lists.specs.Given.EffectsKnown.{Known}
 use Rattle.play_lists.specs.Given.EffectsDeclared.acting.Acting.TheVariants as acts
-use Rattle.play_events.specs.Given.FinishesMakings.{Beginning}
-use Rattle.play_events.specs.Given.FinishesMaps.{with_call as with_call_of}
+use Rattle.play_lists.specs.Given.FinishesMakings.{Beginning}
+use Rattle.play_lists.specs.Given.FinishesMaps.{with_call as with_call_of}
 use Rattle.play_lists.specs.Given.FindsLinking.{IsMadeFor}
 use Rattle.play_lists.specs.Given.FindsWithin.{AllIsInOrder, many_of}
 use Rattle.play_lists.specs.Given.FollowsCalling.{come_to, told}
-use Rattle.play_events.specs.Given.NamedSeen.{kind_of}
+use Rattle.run_legal.specs.Given.NamedSeen.{kind_of}
 use Rattle.play_lists.specs.Given.OthersEndings.{ending_after, without_map}
 use Rattle.play_lists.specs.Given.OthersMakings.{WasNew, making_after}
 use Rattle.play_lists.specs.Given.OthersRows.{scene_then}
 use Rattle.play_lists.specs.Given.OthersWalks.{given_up}
-use Rattle.play_events.specs.Given.ScenesReplying.{scene_with, unless_stopped}
-use Rattle.play_events.specs.Given.ScenesScene.{Scene, slot_of}
-use Rattle.play_events.specs.Given.ScenesStepping.{scene_after}
-use Rattle.play_events.specs.Given.LegalMapEvents.{HasNotMade}
-use Rattle.play_events.proofs.Given.LegalSourced.{sources_so}
-use Rattle.play_events.specs.Given.SourcesStays.{NoneBorn}
-use Rattle.play_events.proofs.Given.SourcesSteps.{calls_keep_sources}
+use Rattle.play_lists.specs.Given.ScenesReplying.{scene_with, unless_stopped}
+use Rattle.play_lists.specs.Given.ScenesScene.{Scene, slot_of}
+use Rattle.play_lists.specs.Given.ScenesStepping.{scene_after}
+use Rattle.run_legal.specs.MapEvents.{HasNotMade}
+use Rattle.run_legal.proofs.Sourced.{sources_so}
+use Rattle.run_legal.specs.Given.SourcesStays.{NoneBorn}
+use Rattle.run_legal.proofs.Given.SourcesSteps.{calls_keep_sources}
 use Rattle.play_lists.specs.Given.ActsActs.{begun}
 use Rattle.run_schedules.specs.Deeds.Deeds.{Begins, Deed, Ends, Entry, Leaves, Makes, MapFails, MapGoes, Opens, ReclaimsAll, Registers, Replies, Shuts, Steps, Stops, Tends, acted_on, after, come, map_of_call, moment, named, worked}
 use Rattle.run_schedules.specs.Deeds.History.{past}

@@ -4,17 +4,17 @@ use Rattle.std.proofs.Common.{ap, sym, subst}
 use Rattle.run_schedules.specs.Schedules.Moment.{Moment, UnderWay as CallThere}
 use Rattle.run_schedules.specs.Schedules.Transition.{Past, further}
 use Rattle.run_schedules.specs.Schedules.Views.{call_of}
-use Rattle.play_events.specs.Given.CallersTogether.{UnderWay}
+use Rattle.run_legal.specs.Given.CallersTogether.{UnderWay}
 use Rattle.play_lists.specs.Given.EffectsKnown.{Known}
 use Rattle.play_lists.specs.Given.FollowsShows.{Shows}
-use Rattle.play_events.specs.Given.GrowsFinding.{ShowsFinding}
-use Rattle.play_events.specs.Given.GrowsNexts.{ShowsNexts}
-use Rattle.play_events.specs.Given.GrowsTries.{ShowsTries}
-use Rattle.play_events.specs.Given.ScenesScene.{Scene}
-use Rattle.play_events.proofs.Given.GrowsFinding.Nexts.{nexts_grow}
-use Rattle.play_events.proofs.Given.GrowsTries.Shows.{tries_grow}
-use Rattle.play_events.proofs.Given.LegalSourced.{sources_so}
-use Rattle.play_events.specs.Given.SourcesSources.{ShowsSources}
+use Rattle.run_legal.specs.Given.GrowsFinding.{ShowsFinding}
+use Rattle.run_legal.specs.Given.GrowsNexts.{ShowsNexts}
+use Rattle.run_legal.specs.Given.GrowsTries.{ShowsTries}
+use Rattle.play_lists.specs.Given.ScenesScene.{Scene}
+use Rattle.run_legal.proofs.Given.GrowsFinding.Nexts.{nexts_grow}
+use Rattle.run_legal.proofs.Given.GrowsTries.Shows.{tries_grow}
+use Rattle.run_legal.proofs.Sourced.{sources_so}
+use Rattle.run_legal.specs.Given.SourcesSources.{ShowsSources}
 use Rattle.run_schedules.specs.Deeds.Deeds.{named}
 use Rattle.play_linear.proofs.Linear.Like.{IsLike}
 use Rattle.play_moves.specs.Moves.Steps.{ShowsSteps}

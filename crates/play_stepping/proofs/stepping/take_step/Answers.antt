@@ -3,7 +3,7 @@ use Rattle.std.proofs.Common.{◌≡◌, sym, ap, subst}
 use Rattle.run_executor.specs.Given.EffectsKnown.{known}
 use Rattle.play_scheduler.specs.Given.LoggedCalling.{CallGoesOn, CallSteps}
 use Rattle.play_scheduler.proofs.KeptGiven.{given_as}
-use Rattle.play_stepping.specs.EventSteps.Stepping.{callers_then, outcome_of}
+use Rattle.run_grows.specs.Says.{callers_then, outcome_of}
 use Rattle.play_stepping.proofs.EventSteps.ByName.{caller_here}
 use Rattle.play_stepping.proofs.stepping.take_step.Goals as goal
 use Rattle.play_scheduler.specs.Given.ScenesScene.{HasCall}

@@ -1,2 +1,0 @@
--- What steps of calls say is told as the calls mean.
-pub mod OfCalls
