@@ -17,16 +17,16 @@ NAME, BELOW = "late_passes", "threads_calls"
 HEAD = """//! Reads what a pass has found while it or its session takes a step.
 #![tactic(auto)]
 
-use threads_calls::{Pass, Session};
+use threads_calls::{MapPassSeat, SessionBase};
 use std::hash::{BuildHasherDefault, DefaultHasher};
 use std::io;
 use std::sync::Wait;
 
 type Hashing = BuildHasherDefault<DefaultHasher>;
 
-type Its<'m> = Session<'m, u64, u64, Hashing>;
+type Its<'m> = SessionBase<'m, u64, u64, Hashing>;
 
-type Own = Pass<u64, u64, Hashing>;
+type Own = MapPassSeat<u64, u64, Hashing>;
 """
 # who takes which step meanwhile, and whether what was found may be read after it
 STEPS = [
